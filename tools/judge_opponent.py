@@ -27,10 +27,11 @@ import tempfile
 sys.path.insert(0, str(pathlib.Path(__file__).resolve().parent / "lib"))
 
 import progress  # noqa: E402
-from heap_image import FREE, NULL, ORDINARY, drawn, from_bytes  # noqa: E402
+from heap_image import FREE, NULL, ORDINARY, from_bytes  # noqa: E402
 from opponent import NoRoom, Opponent  # noqa: E402
 from plant_errors import ERRORS, MORE_ERRORS, Planter  # noqa: E402
 from programs import add_program, program  # noqa: E402
+from random_heaps import drawn  # noqa: E402
 
 KINDS = ("free", "ordinary", "humongous", "continuation")
 ENOUGH = 20  # so many cases plant each kind of error, whatever the seed
@@ -222,10 +223,10 @@ class Judge:
         return done.returncode, done.stdout, done.stderr
 
     def case(self, name, rng):
-        """One heap and one set. False where there is no set, or no room."""
+        """One heap and one set. False if there is no set, or no room."""
         before = drawn(rng)
         ordinary = [r for r in range(before.regions) if before.kinds[r] == ORDINARY and not before.pinned[r]]
-        if not ordinary or FREE not in before.kinds:
+        if not ordinary:
             return False
         chosen = rng.sample(ordinary, rng.randint(1, min(4, len(ordinary))))
         if rng.random() < 0.3:

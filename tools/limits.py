@@ -4,7 +4,12 @@
 Asks both programs of images in which a number is at its limit, or one more than what 16 bits hold: roots, dirty cards,
 cards of a set, objects and words of a region, regions, and candidates. What they have to print is written here by hand
 or by the rules of docs/COMMANDS.md and docs/HEAP_TEXT.md. `explain` of a pause with 2^18 dirty cards has a line for each,
-and takes at most 20 times the processor time of the pause. The last line is 'N passed, M failed'.
+and takes at most 20 times the processor time of the pause.
+
+One heap has much of everything at once: 5,000 survivors in a chain, 300 cards that lead into the set, a humongous object of
+ten regions that is freed, one that the last survivor keeps, 1,100 candidates, an object of 1,500 slots, a set of 70,000 cards. The lines of `explain`, the
+paths of `why`, the summary, the image after, and what `same` reports of an error planted in it, are those that this script
+computes from the heap. The last line is 'N passed, M failed'.
 """
 import argparse
 import pathlib
@@ -16,10 +21,13 @@ import tempfile
 sys.path.insert(0, str(pathlib.Path(__file__).resolve().parent / "lib"))
 
 import progress  # noqa: E402
-from heap_image import NULL, ORDINARY, Image  # noqa: E402
+from explained import Choice, Pause, explained  # noqa: E402
+from heap_image import CONTINUATION, FIRST, FREE, NULL, ORDINARY, Image  # noqa: E402
+from judge_opponent import judged  # noqa: E402
 from print_make import lines_of  # noqa: E402
 from programs import add_program  # noqa: E402
 from refusing import Judge  # noqa: E402
+from why_paths import Heap  # noqa: E402
 
 MANY = 1 << 16
 
@@ -97,6 +105,99 @@ def many_entering():
     return image
 
 
+class Large:
+    """One heap with much of everything, by the numbers of its regions. Cards have 4 words, and regions 256 of them."""
+    WIDTH = 1024
+    CHAIN, SURVIVORS = range(15), 5000  # 341 objects of three words in a region: each references the next one
+    ENTERED = 15  # 300 objects of two words: a slot on a card of its own references each
+    SET = [*CHAIN, ENTERED]
+    ENTERING = range(16, 18)  # the 300 slots, in objects of four words
+    FREED = range(18, 28)  # the humongous object that nothing references
+    MANY_SLOTS, SLOTS, STALE = range(28, 30), 1500, 1400  # a root references it
+    KEPT = range(30, 31)  # the last object of the chain alone references it
+    CANDIDATES = range(31, 1131)
+    REMEMBERING, CARDS = 31, 70_000  # a candidate whose set has as many cards
+    REGIONS = 1160
+    WHY = 300  # so many slots lead from a root to an object of the chain
+
+    def __init__(self):
+        image = self.image = Image(self.WIDTH, 4, self.REGIONS)
+        self.chain = [region * self.WIDTH + at for region in self.CHAIN for at in range(0, 3 * 341, 3)][:self.SURVIVORS]
+        self.roots = [self.chain[0] + 1, NULL, self.MANY_SLOTS[0] * self.WIDTH + 1]
+        self.lay_chain()
+        self.lay_entered()
+        self.lay_humongous(self.FREED, 10 * self.WIDTH - 3, 1)
+        self.lay_humongous(self.MANY_SLOTS, self.SLOTS + 20, self.SLOTS)
+        self.lay_humongous(self.KEPT, self.WIDTH, 0)
+        # All are null but some near powers of two, which reference the first object of the chain.
+        slots = list(image.slots(self.MANY_SLOTS[0] * self.WIDTH))
+        for number in (0, 63, 64, 255, 256, 1023, 1024, self.STALE, self.SLOTS - 1):
+            image.words[slots[number]] = self.chain[0] + 1
+        self.lay_candidates()
+        image.roots = self.roots
+        image.make_exact()
+        self.remember()
+        # Of the cards that lead into the set two are dirty and not remembered.
+        image.log = [image.sets[self.ENTERED].pop(7), image.sets[self.ENTERED].pop(250), self.REMEMBERING * 256]
+        image.current = self.ENTERED
+
+    def object(self, at, size, *slots, data=0):
+        self.image.words[at:at + size] = [size << 32 | len(slots), *slots, *[data] * (size - 1 - len(slots))]
+
+    def use(self, region, top):
+        self.image.kinds[region], self.image.tops[region] = ORDINARY, top
+
+    def lay_chain(self):
+        for number, (at, after) in enumerate(zip(self.chain, [*self.chain[1:], self.KEPT[0] * self.WIDTH])):
+            self.object(at, 3, after + 1, data=number)
+            self.use(at // self.WIDTH, at % self.WIDTH + 3)
+
+    def lay_entered(self):
+        for number in range(300):
+            self.object(self.ENTERED * self.WIDTH + 2 * number, 2, data=1 << 40 | number)
+            self.object(self.ENTERING[0] * self.WIDTH + 4 * number, 4, self.ENTERED * self.WIDTH + 2 * number + 1)
+        self.use(self.ENTERED, 600)
+        self.use(self.ENTERING[0], self.WIDTH)
+        self.use(self.ENTERING[1], 1200 - self.WIDTH)
+
+    def lay_humongous(self, run, size, slots):
+        self.object(run[0] * self.WIDTH, size, *[NULL] * slots)
+        for region in run:
+            self.image.kinds[region] = CONTINUATION if region > run[0] else FIRST
+            self.image.tops[region] = min(self.WIDTH, size - (region - run[0]) * self.WIDTH)
+
+    def lay_candidates(self):
+        """Each has a dead object, and each tenth one a live one before it. They cost more and more for what they give."""
+        for number, region in enumerate(self.CANDIDATES):
+            start, live = region * self.WIDTH, 3 if number % 10 == 9 else 0
+            if live:
+                self.object(start, live, data=number)
+                self.roots.append(start + 1)
+            self.object(start + live, 20 + number % 7)
+            self.use(region, live + 20 + number % 7)
+
+    def remember(self):
+        """Stale cards: of each candidate some more than of the one before it, and of one very many."""
+        for number, region in enumerate(self.CANDIDATES):
+            first = 256 * self.CANDIDATES[number - 1]
+            self.image.sets[region] = list(range(first, first + 1 + number // 5))
+        self.image.sets[self.REMEMBERING] = [card for card in range(self.CARDS + 256) if card // 256 != self.REMEMBERING]
+
+
+def summary(image):
+    """The lines of `print --summary`."""
+    kinds = [image.kinds.count(kind) for kind in (FREE, ORDINARY, FIRST, CONTINUATION)]
+    used, live = sum(image.tops), sum(map(image.size, image.reached()))
+    return [f"heap {image.region_words} {image.card_words} {image.regions}",
+            "regions free {} ordinary {} humongous {} continuation {} pinned {}".format(*kinds, sum(image.pinned)),
+            f"used {used} words", f"live {live} words", f"garbage {used - live} words",
+            f"cards remembered {sum(map(len, image.sets))} dirty {len(image.log)}", f"roots {len(image.roots)}"]
+
+
+def text_of(lines):
+    return "".join(f"{line}\n" for line in lines).encode()
+
+
 def choice(rows, total):
     """The lines of `choose`: regions with their cost and garbage, and whether they are taken."""
     lines = [f"region {region} cost {cost} garbage {garbage} {word}" for region, cost, garbage, word in rows]
@@ -168,6 +269,86 @@ class Limits(Judge):
         self.judge("explain of dirty cards", (lines, errors, status) == (adds, b"", 0))
         self.judge(f"explain of dirty cards took {seconds:.2f} s, the pause {pause:.2f} s", seconds < 20 * pause)
 
+    def large(self, folder):
+        """The heap with much of everything."""
+        heap = Large()
+        image, data = heap.image, heap.image.to_bytes()
+        path = folder / "before"
+        path.write_bytes(data)
+        self.counted(heap)
+        self.answers("large heap", self.g1heap, ["print", "--summary", "-"], data, text_of(summary(image)))
+        self.answers("large heap", self.g1pause, ["check"], data, b"covered\n")
+        self.explained_large(image, data, None, heap.SET)
+        candidates = Choice(image, 0).candidates
+        for taken in (0, 900, 1099, 1100):
+            budget = candidates[taken - 1][2] if taken else len(image.log)
+            self.explained_large(image, data, Choice(image, budget), [])
+        paths = Heap(image)
+        late = heap.MANY_SLOTS[0] * heap.WIDTH
+        for at in (heap.chain[heap.WHY], heap.chain[-1], heap.KEPT[0] * heap.WIDTH, late, heap.ENTERED * heap.WIDTH, heap.FREED[0] * heap.WIDTH,
+                   heap.roots[-1] - 1, heap.chain[1] + 1, (heap.FREED[-1] + 1) * heap.WIDTH - 1):
+            status, out, errors = paths.answer(at)
+            told = self.run(self.g1heap, ["why", "-", str(at)], data)
+            self.judge(f"large heap: why {at}", told == (out.encode(), errors.encode(), status))
+        self.compared(heap, path)
+
+    def counted(self, heap):
+        """It is as large as this script says. Three regions more have garbage: nothing live references what 300 slots do."""
+        image, pause = heap.image, Pause(heap.image, heap.SET)
+        freed = [len(run) for at, run in pause.runs.items() if pause.keepers[at] is None]
+        found = (len(pause.found), freed, len(pause.cards) >= 300, len(Choice(image, 0).candidates),
+                 len(image.slots(heap.MANY_SLOTS[0] * heap.WIDTH)), len(image.sets[heap.REMEMBERING]))
+        self.judge(f"large heap: {found}", found == (5300, [10], True, 1100 + 3, 1500, heap.CARDS))
+
+    def explained_large(self, image, data, bought, chosen):
+        """The lines of a pause, and its image after."""
+        words = ["--set", ",".join(map(str, chosen))] if chosen else ["--budget", str(bought.budget)]
+        name = f"large heap, {len(bought.set if bought else chosen)} regions"
+        self.answers(name, self.g1heap, ["explain", "-", *words], data, text_of(explained(image, bought, chosen)))
+        pause = Pause(image, bought.set if bought else chosen)
+        places = [f"{at} {to} {image.size(at)}" for at, to in pause.place.items()]
+        self.answers(name, self.g1heap, ["explain", "--map", "-", *words], data, text_of(places))
+        words = [str(region) for region in chosen] or words
+        self.answers(name, self.g1pause, ["pause", *words], data, pause.after().to_bytes())
+
+    def compared(self, heap, path):
+        """What `same` reports of the image after, and of an error planted in it."""
+        before, pause = heap.image, Pause(heap.image, heap.SET)
+        after = pause.after()
+        regions = ["--set", *map(str, heap.SET)]
+        whole = judged(before, after).encode()
+        self.answers("large heap", self.g1heap, ["same", str(path), "-", "--covered", *regions], after.to_bytes(),
+                     whole + b"kept\ncovered\n")
+        slots = before.slots(heap.MANY_SLOTS[0] * heap.WIDTH)
+        for number in (0, 255, 256, 1023, 1024, heap.STALE, heap.SLOTS - 1):
+            stale = after.copy()
+            stale.words[slots[number]] = before.words[slots[number]]
+            line = judged(before, stale).encode()
+            self.judge(f"large heap: slot {number} is not stale: {line}", line.startswith(b"differ stale at root 2 slot %d:" % number))
+            self.reports(f"stale slot {number}", path, stale, line)
+        deep = after.copy()
+        deep.words[pause.place[heap.chain[heap.WHY]] + 2] += 1
+        line = judged(before, deep).encode()
+        self.judge("large heap: a path of 300 slots", line.count(b" slot ") == heap.WHY)
+        self.reports("a difference behind 300 slots", path, deep, line)
+        self.named(heap, path, after)
+
+    def reports(self, name, path, after, line, *words):
+        told = self.run(self.g1heap, ["same", *words, str(path), "-"], after.to_bytes())
+        self.judge(f"large heap: {name}: {told}, and not {line}", told == (line, b"", 1))
+
+    def named(self, heap, path, after):
+        """An object far behind the start of the heap has a type."""
+        number, at = len(after.roots) - 1, heap.image.roots[-1] - 1
+        changed = after.copy()
+        changed.words[at + 2] = 77
+        names = path.parent / "names"
+        names.write_text(f"type Late slots data count last\nobject {at} Late\nroot {number} last.root\n")
+        was = heap.image.words[at + 2]
+        line = f"differ data at last.root: object {at} (Late) before, object {at} after; data word 1, last, is {was} (0x{was:x}) " \
+               "before, 77 (0x4d) after\n"
+        self.reports("an object with a name", path, changed, line.encode(), "--names", str(names))
+
     def beyond(self):
         """A number more than there may be."""
         lines = b"heap 16 4 4\n" + b"root -\n" * (MANY + 1)
@@ -189,6 +370,7 @@ def main():
     with tempfile.TemporaryDirectory() as room:
         for made, rows in ROWS:
             limits.image(made.__name__, made(), rows, pathlib.Path(room))
+        limits.large(pathlib.Path(room))
     limits.explained()
     limits.beyond()
     return limits.end()

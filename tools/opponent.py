@@ -1,5 +1,6 @@
 #!/usr/bin/env python3
 """opponent.py IMAGE OUT --set R .. [--seed S] [--threads T] [--buffer WORDS] [--fill]
+opponent.py --loop [--seed S] [--threads T] [--buffer WORDS] [--fill]
 
 Evacuates the regions of a set as a collector of another make would, and writes the image after. T threads (3)
 take the survivors in a random order. Each copies into a buffer of its own of at most so many words (12), in a
@@ -7,7 +8,8 @@ random free region of its own; what it leaves of a buffer is filled with a dead 
 --fill a thread also copies behind the top of an ordinary region that is kept.
 Roots and slots are updated, the set's regions are free, remembered sets are exact, and the log is empty.
 
-So the image after is not the one that g1pause gives, and yet shows the same graph.
+So the image after is not the one that g1pause gives, and yet shows the same graph. If the free regions do not suffice, the
+status is 75. With --loop it reads lines `IMAGE OUT R,R` and replies `ok` or `room` to each, as tools/challenge.py asks.
 """
 import argparse
 import pathlib
@@ -19,6 +21,8 @@ sys.path.insert(0, str(pathlib.Path(__file__).resolve().parent / "lib"))
 
 from heap_image import FREE, NULL, ORDINARY, from_bytes  # noqa: E402
 from programs import regions  # noqa: E402
+
+NO_ROOM = 75  # the status if the free regions do not suffice
 
 
 def refused(image, region):
@@ -98,18 +102,24 @@ class Opponent:
                     yield from image.slots(address)
 
     def evacuate(self):
-        image, words = self.image, self.image.words
+        words = self.image.words
         outside = [slot for slot in self.slots_outside() if self.leads_in(words[slot])]
-        waiting = [words[slot] - 1 for slot in outside] + [w - 1 for w in image.roots if self.leads_in(w)]
+        self.copy_all([words[slot] - 1 for slot in outside] + [w - 1 for w in self.image.roots if self.leads_in(w)])
+        for worker in self.workers:
+            worker.retire()
+        self.update(outside)
+        self.free_set()
+        self.remember()
+        return self.image
+
+    def copy_all(self, waiting):
+        """Copies these objects and all of the set that they lead to, in a random order."""
+        image, words = self.image, self.image.words
         while waiting:
             address = waiting.pop(self.rng.randrange(len(waiting)))
             if address not in self.copies:
                 self.copies[address] = self.copy(address)
                 waiting += [words[slot] - 1 for slot in image.slots(address) if self.leads_in(words[slot])]
-        for worker in self.workers:
-            worker.retire()
-        self.update(outside)
-        return image
 
     def copy(self, address):
         size = self.image.size(address)
@@ -121,43 +131,75 @@ class Opponent:
         return self.copies[word - 1] + 1 if self.leads_in(word) else word
 
     def update(self, outside):
-        image, width = self.image, self.image.region_words
+        image = self.image
         image.roots = [self.forward(word) for word in image.roots]
         for slot in outside + [slot for to in self.copies.values() for slot in image.slots(to)]:
             image.words[slot] = self.forward(image.words[slot])
+
+    def free_set(self):
+        image, width = self.image, self.image.region_words
         for region in self.chosen:
             image.kinds[region], image.tops[region] = FREE, 0
             image.words[region * width:(region + 1) * width] = [0] * width
-        image.log, image.current = [], None
-        image.make_exact()
+
+    def remember(self):
+        """The sets after: all cards that a reference into a region lies on, and no others."""
+        self.image.log, self.image.current = [], None
+        self.image.make_exact()
+
+
+def image_of(file):
+    """The image that a file has."""
+    try:
+        return from_bytes(pathlib.Path(file).read_bytes())
+    except OSError as error:
+        sys.exit(f"{file}: {error.strerror}")
+    except (IndexError, struct.error):
+        sys.exit(f"{file} is no image")
+
+
+def answer(image, out, chosen, options):
+    """Writes the heap after. False if the free regions do not suffice."""
+    before = image_of(image)
+    for region in chosen:
+        if refused(before, region):
+            sys.exit(f"no pause collects region {region} of {image}")
+    rng = random.Random(options.seed)
+    opponent = Opponent(before, chosen, rng, options.threads, options.buffer, options.fill)
+    try:
+        after = opponent.evacuate()
+    except NoRoom:
+        return False
+    pathlib.Path(out).write_bytes(after.to_bytes())
+    return True
+
+
+def loop(options):
+    """Replies to each line until the input ends."""
+    for line in sys.stdin:
+        image, out, chosen = line.split()
+        print("ok" if answer(image, out, regions(chosen), options) else "room", flush=True)
 
 
 def main():
     parser = argparse.ArgumentParser(description=__doc__, formatter_class=argparse.RawDescriptionHelpFormatter)
-    parser.add_argument("image")
-    parser.add_argument("out")
-    parser.add_argument("--set", type=regions, nargs="+", required=True, metavar="R")
+    parser.add_argument("image", nargs="?")
+    parser.add_argument("out", nargs="?")
+    parser.add_argument("--set", type=regions, nargs="+", default=[], metavar="R")
     parser.add_argument("--seed", type=int, default=1, metavar="S")
     parser.add_argument("--threads", type=int, default=3, metavar="T")
     parser.add_argument("--buffer", type=int, default=12, metavar="WORDS")
     parser.add_argument("--fill", action="store_true")
+    parser.add_argument("--loop", action="store_true")
     options = parser.parse_args()
     options.set = [region for some in options.set for region in some]
-    try:
-        image = from_bytes(pathlib.Path(options.image).read_bytes())
-    except OSError as error:
-        parser.error(f"{options.image}: {error.strerror}")
-    except (IndexError, struct.error):
-        parser.error(f"{options.image} is no image")
-    for region in options.set:
-        if refused(image, region):
-            sys.exit(f"no pause collects region {region} of {options.image}")
-    opponent = Opponent(image, options.set, random.Random(options.seed), options.threads, options.buffer, options.fill)
-    try:
-        after = opponent.evacuate()
-    except NoRoom:
-        sys.exit("the free regions do not suffice")
-    pathlib.Path(options.out).write_bytes(after.to_bytes())
+    if options.loop:
+        return loop(options)
+    if not options.out or not options.set:
+        parser.error("IMAGE, OUT and --set are required")
+    if not answer(options.image, options.out, options.set, options):
+        print("the free regions do not suffice", file=sys.stderr)
+        sys.exit(NO_ROOM)
 
 
 if __name__ == "__main__":

@@ -1,5 +1,5 @@
 #!/usr/bin/env python3
-"""planted.py --all | CRATE ..
+"""planted.py [--jobs N] --all | CRATE ..
 
 Tries the wrong bodies crates/CRATE/planted/*.edit, of all crates or of those that are named: the prover has to refuse
 each function in which one is planted. It takes the libraries that `rt ci` left in crates/*/out, or builds those that
@@ -21,6 +21,12 @@ prover reads no code of the libraries below. A method of a trait, a function tha
 more than its function are tried in place. If a function calls one that is tried in place and was refused, its row is
 tried again without the other. Each crate with rows has one that proves, so that a check which refuses everything is
 seen.
+
+Of several crates as many are checked at once as there are processors, and as memory holds; with --jobs N as many as N,
+like RT_JOBS=N. A check takes one process and up to some GB: give --jobs 1 if others work on the machine.
+
+No row is ever run: the prover alone reads it. A program in which something was planted is run as an unprivileged user, since
+it can write over any file that its user may write (CONTRIBUTING says how).
 
 With --unchanged each row is tried without its change, and has to be proved: so a refusal is of the row and not of the
 other name.
@@ -511,8 +517,8 @@ def try_all(names, is_unchanged):
     return [row for rows in rt.in_lanes(work).values() for row in rows]
 
 
-def tried_by_rt(name):
-    """Has `rt must-fail` try a crate's rows in the place of its must-fail edits, and returns what it says of each."""
+def tried_by_rt(name, lanes):
+    """Has `rt must-fail` try a crate's rows in the place of its must-fail edits, as many at once, and returns what it says of each."""
     folder, planted = ROOT / "crates" / name / "must-fail", ROOT / "crates" / name / "planted"
     rows = {file.name: file.read_text() for file in sorted(planted.glob("*.edit"))}
     with tempfile.TemporaryDirectory(prefix="planted-aside-") as aside:
@@ -523,7 +529,8 @@ def tried_by_rt(name):
             for file, text in rows.items():
                 if not re.search(r"^expect: proves$", text, re.M):
                     folder.joinpath(file).write_text(re.sub(r"^turns: .*\n", "", text))
-            said = subprocess.run(["rt", "must-fail", name], cwd=ROOT, stdout=subprocess.PIPE, stderr=subprocess.STDOUT, text=True).stdout
+            said = subprocess.run(["rt", "must-fail", name], cwd=ROOT, stdout=subprocess.PIPE, stderr=subprocess.STDOUT, text=True,
+                                  env={**os.environ, **lanes}).stdout
         finally:
             shutil.rmtree(folder)
             if pathlib.Path(aside, "must-fail").is_dir():
@@ -540,12 +547,13 @@ def row_by_rt(name, file, said):
     return row
 
 
-def try_all_by_rt(names):
-    """Tries the rows of these crates, or of all, one by one, a crate a processor."""
+def try_all_by_rt(names, jobs):
+    """Tries the rows of these crates, or of all, one by one: a crate a processor, or as many crates at once as are asked for."""
     crates = sorted(it.parent.name for it in ROOT.glob("crates/*/planted"))
     require_rows(names, crates)
-    with ThreadPoolExecutor(os.cpu_count() or 1) as pool:
-        tried = list(pool.map(tried_by_rt, [it for it in crates if not names or it in names]))
+    lanes = {"RT_JOBS": "1"} if jobs else {}
+    with ThreadPoolExecutor(jobs or os.cpu_count() or 1) as pool:
+        tried = list(pool.map(lambda name: tried_by_rt(name, lanes), [it for it in crates if not names or it in names]))
     rows = [row for rows in tried for row in rows]
     print("\n".join(f"planted {row.label}: {row.said()}" for row in rows), flush=True)
     return rows
@@ -558,12 +566,22 @@ def is_known_kit():
     return version.startswith(tuple(f"{it} " for it in KITS))
 
 
-def try_with_this_kit(names, is_unchanged):
+def try_with_this_kit(names, is_unchanged, jobs):
+    """Tries the rows of these crates, or of all: of as many crates at once, if a number is given."""
     if is_known_kit():
+        if jobs:
+            os.environ["RT_JOBS"] = str(jobs)  # that is where rt looks
         return try_all(names, is_unchanged)
     if is_unchanged:
         raise Stop(f"--unchanged is for {' and '.join(KITS)}, and rt is of another kit")
-    return try_all_by_rt(names)
+    return try_all_by_rt(names, jobs)
+
+
+def count(text):
+    """A number from 1 on, as the type of an argument."""
+    if not (text.isascii() and text.isdigit() and int(text)):
+        raise argparse.ArgumentTypeError(f"'{text}' is no number from 1 on")
+    return int(text)
 
 
 def main():
@@ -571,12 +589,14 @@ def main():
     parser.add_argument("crates", metavar="CRATE", nargs="*", help="a crate with rows")
     parser.add_argument("--all", action="store_true", help="all crates with rows")
     parser.add_argument("--unchanged", action="store_true", help="try the rows that have a function of their own without their changes")
+    parser.add_argument("--jobs", type=count, metavar="N", help="how many crates are checked at once (default: as many as there are "
+                        "processors and memory for, or RT_JOBS)")
     options = parser.parse_args()
     if options.all == bool(options.crates):
         parser.error("either --all or crates")
     try:
         progress.show("trying the wrong bodies", lambda: None)
-        rows = try_with_this_kit(options.crates, options.unchanged)
+        rows = try_with_this_kit(options.crates, options.unchanged, options.jobs)
     except (Stop, OSError, AttributeError) as error:
         print(f"planted.py: {error}", file=sys.stderr)
         return 2

@@ -24,9 +24,10 @@ import tempfile
 sys.path.insert(0, str(pathlib.Path(__file__).resolve().parent / "lib"))
 
 import progress  # noqa: E402
-from heap_image import CONTINUATION, FIRST, FREE, NULL, ORDINARY, drawn, from_bytes  # noqa: E402
+from heap_image import CONTINUATION, FIRST, FREE, NULL, ORDINARY, from_bytes  # noqa: E402
 from image_text import in_version_two  # noqa: E402
 from programs import add_program, program  # noqa: E402
+from random_heaps import drawn  # noqa: E402
 
 EXAMPLES = pathlib.Path(__file__).resolve().parent.parent / "examples"
 

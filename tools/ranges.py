@@ -2,8 +2,8 @@
 """ranges.py BINARY [--count 2000] [--seed N]
 
 Makes random images of many regions, half of them with faults in random regions, and compares `check`, `live`, `choose`,
-`pause` and `show` with 2, 3, 4, 7 and 64 workers with what one worker answers: standard output, standard error and
-status. A fault has to be the one that an independent reading of the text (image_text.py) finds.
+`pause` and `show` with 2, 3, 4, 7 and 64 workers that draw 1, 64 and 65,536 items at once with what one worker answers:
+standard output, standard error and status. A fault has to be the one that an independent reading of the text (image_text.py) finds.
 
 Only large images are cut into ranges of regions, one a thread. So each fourth image has the words for two to eight
 threads, and humongous objects over many regions, which ranges begin within. What no image showed counts as failed. The
@@ -11,6 +11,7 @@ last line is 'N passed, M failed'.
 """
 import argparse
 import collections
+import itertools
 import pathlib
 import random
 import sys
@@ -25,6 +26,7 @@ from programs import add_program  # noqa: E402
 from refusing import Judge, run  # noqa: E402
 
 WORKERS = ("2", "3", "4", "7", "64")
+CHUNKS = ("1", "64", "65536")
 THREAD_WORDS = 131_072  # a thread starts for this many words
 FAULTS = {"6": "shape", "7": "reference", "8": "card", "9": "uncovered"}
 
@@ -133,9 +135,9 @@ class Ranges(Judge):
         if fault is not None and not fault.startswith("9:"):  # found by reading, so by each command
             good = not one[0] and one[2] != 0 and one[1] == f"g1pause: fault {fault}\n".encode()
             self.judge(f"{name}, {' '.join(words)} finds {fault}, and not {one[1]}", good)
-        for workers in WORKERS:
-            many = run([self.binary, words[0], "--workers", workers, *words[1:]], data)
-            self.judge(f"{name}, {' '.join(words)}, {workers} workers", one == many)
+        for workers, chunk in itertools.product(WORKERS, CHUNKS):
+            many = run([self.binary, words[0], "--workers", workers, "--chunk", chunk, *words[1:]], data)
+            self.judge(f"{name}, {' '.join(words)}, {workers} workers, chunk {chunk}", one == many)
 
     def image(self, rng, number):
         image = draw(rng, number)

@@ -25,6 +25,7 @@ from programs import add_program  # noqa: E402
 import progress  # noqa: E402
 import traced  # noqa: E402
 import unproved  # noqa: E402
+from unprivileged import let_in, unprivileged  # noqa: E402
 
 PROGRAMS = ["lru_cache", "binary_trees", "json_lists", "scheme"]
 TOP = pathlib.Path(__file__).resolve().parent.parent
@@ -61,10 +62,10 @@ def first_wrong(heap, told):
     return None
 
 
-def fault(g1pause, heap):
+def fault(g1pause, heap, **user):
     """What is wrong with the replies of `G1PAUSE run` to a heap's trace, or None."""
     try:
-        done = subprocess.run([g1pause, "run"], input=heap.text(), capture_output=True, timeout=SECONDS)
+        done = subprocess.run([g1pause, "run"], input=heap.text(), capture_output=True, timeout=SECONDS, **user)
     except subprocess.TimeoutExpired:
         return f"no answer within {SECONDS} seconds"
     if done.returncode < 0:
@@ -91,7 +92,7 @@ def first_noticed(broken, name, seeds):
         heap, is_right = made(name, seed)
         if not is_right:
             raise SystemExit(f"{name} {seed}: the program's own result is wrong")
-        wrong = fault(broken, heap)
+        wrong = fault(broken, heap, **unprivileged())
         if wrong:
             return f"trace {seed}: {wrong}"
     return None
@@ -100,6 +101,7 @@ def first_noticed(broken, name, seeds):
 def power(names, seeds):
     """Whether enough programs notice a broken barrier."""
     with tempfile.TemporaryDirectory() as room:
+        let_in(pathlib.Path(room))
         broken = os.path.join(room, "g1pause")
         print("building g1pause with a broken write barrier, without any proof", flush=True)
         unproved.build_changed(TOP, BROKEN, "g1pause", broken)
@@ -142,4 +144,5 @@ def main():
     sys.exit(not all(answers))
 
 
-main()
+if __name__ == "__main__":
+    main()

@@ -2,7 +2,8 @@
 """Tests of tools/hprof2image.py --from and of tools/hprof_path.py without a Java virtual machine: test_hprof.py [-v]
 
 Heap dumps are made here by hand, with identifiers of 4 and of 8 bytes. The image and the names expected of them were
-laid out by hand, too.
+laid out by hand, too. Each image that a test makes is read and judged by tools/lib/image_text.py. The judges of
+examples/hotspot are tried on what stand-ins for a JVM and for g1heap say.
 """
 import argparse
 import contextlib
@@ -25,9 +26,12 @@ TOOLS = pathlib.Path(__file__).resolve().parent
 HOTSPOT = TOOLS.parent / "examples" / "hotspot"
 sys.path[:0] = [str(TOOLS), str(TOOLS / "lib"), str(HOTSPOT)]
 
+import across  # noqa: E402
 import hprof  # noqa: E402
 import hprof2image  # noqa: E402
 import hprof_graph  # noqa: E402
+import image_text  # noqa: E402
+import judge  # noqa: E402
 import jvm  # noqa: E402
 import plain_judge  # noqa: E402
 import plants  # noqa: E402
@@ -80,10 +84,10 @@ class Maker:
                  self.instance(WEAKLY, WEAK, self.ids(FAR, NOWHERE, 0, 0)), self.node(FAR, 0, 9, 0, 0)]
         return self.dump(classes, [*parts, more], version)
 
-    def dump(self, classes, objects, version=b"2"):
-        """The file of these parts."""
+    def dump(self, classes, objects, version=b"2", more=()):
+        """The file of these parts. `more` has the names of further classes."""
         names = {OBJECT: "java/lang/Object", NODE: "pack/Node", MAIN: "pack/Main", REF: "java/lang/ref/Reference",
-                 WEAK: "java/lang/ref/WeakReference", CLASS: "java/lang/Class", NODES: "[Lpack/Node;"}
+                 WEAK: "java/lang/ref/WeakReference", CLASS: "java/lang/Class", NODES: "[Lpack/Node;", **dict(more)}
         loads = [struct.pack(">I", 1) + self.ids(kind) + bytes(4) + self.ids(self.text(name))
                  for kind, name in names.items()]
         records = [(0x01, self.ids(number) + text.encode()) for text, number in self.texts.items()]
@@ -130,16 +134,24 @@ object 16 java.lang.ref.WeakReference @0x400
 """
 
 
-def image_of(words, sets):
+def image_of(words, sets, root=3):
     tops = [len(part) for part in words] + [0] * (4 - len(words))
     parts = [b"G1IMAGE2", struct.pack("<6I", 16, 4, 4, 1, 0, 4)]
-    parts += [struct.pack("<3I", top > 0, top, 0) for top in tops] + [struct.pack("<Q", 3)]
+    parts += [struct.pack("<3I", top > 0, top, 0) for top in tops] + [struct.pack("<Q", root)]
     parts += [struct.pack(f"<{1 + len(cards)}I", len(cards), *cards) for cards in sets]
     return b"".join(parts + [struct.pack("<Q", word) for part in words for word in part])
 
 
+def judged(image):
+    """The bytes of an image, which is one by an independent reading, and covered."""
+    fault = image_text.fault_of(image, True)
+    if fault is not None:
+        raise AssertionError(f"the image has fault {fault}")
+    return image
+
+
 def converted(data, start="pack.Main.root", **changed):
-    """The image and the names of what hangs from a static field."""
+    """The image, which has no fault, and the names of what hangs from a static field."""
     options = argparse.Namespace(start=[start], without=[], weak=False, dangling_null=False, blank=False,
                                  sizes=[16, 4, 4])
     vars(options).update(changed)
@@ -147,7 +159,7 @@ def converted(data, start="pack.Main.root", **changed):
     image, names = io.BytesIO(), io.StringIO()
     writer.image.write(image)
     hprof2image.write_names(names, graph, writer.starts)
-    return image.getvalue(), names.getvalue()
+    return judged(image.getvalue()), names.getvalue()
 
 
 class Graphs(unittest.TestCase):
@@ -213,6 +225,62 @@ class Graphs(unittest.TestCase):
             word, = struct.unpack("<Q", struct.pack(">i", name) + bytes(4))
             self.assertEqual(image.count(struct.pack("<3Q", header(3, 0), label("class@30"), word)), 1)
 
+    def nodes(self, *nodes, more=b"", fields=(), root=0x100):
+        """A dump whose field `root` leads to the first of these nodes: each has a name and what its two slots reference."""
+        make = Maker()
+        node = [("next", REFERENCE), ("value", INT), ("other", REFERENCE), ("flag", BYTE)]
+        statics = [("root", REFERENCE, make.ids(root))]
+        parts = [make.node(name, following, 7, other, 1) for name, following, other in nodes]
+        return make.dump([make.kind(OBJECT, 0), make.kind(NODE, fields=node), make.kind(MAIN, statics=statics),
+                          make.kind(CLASS, fields=fields), make.kind(NODES)], [*parts, more])
+
+    def test_a_set_has_each_card_of_the_slots_that_lead_in(self):
+        """By hand: nodes of five words at 0, 5, 10 and 16. The slots at 2, 7 and 12, on the cards 0, 1 and 3, reference the
+        last one. That references the first and the second, by slots on card 4."""
+        image, _ = converted(self.nodes((0x100, 0x200, 0x400), (0x200, 0x300, 0x400), (0x300, 0, 0x400), (0x400, 0x100, 0x200)))
+        head, data = [header(5, 2)], [label("pack.Node"), 0x01_07000000]
+        words = [[*head, 6, 17, *data, *head, 11, 17, *data, *head, 0, 17, *data], [*head, 1, 6, *data]]
+        self.assertEqual(image, image_of(words, [[4], [0, 1, 3], [], []], root=1))
+
+    def test_an_object_of_three_quarters_of_a_region_is_not_humongous(self):
+        """By hand: arrays of 10 and of 11 elements have 12 and 13 words. Arrays of one length lie together, in the order of the
+        dump: the longer one takes region 1, behind the node and the other one in region 0."""
+        make, long, longer = Maker(), 0x800, 0x900
+        more = make.objects(long, NODES, *[0x100] * 10) + make.objects(longer, NODES, *[long] * 11)
+        image, names = converted(self.nodes((0x100, longer, 0), more=more))
+        starts = {line.split(" ")[3]: int(line.split(" ")[1]) for line in names.splitlines() if line.startswith("object ")}
+        self.assertEqual(starts, {"@0x100": 0, "@0x800": 16, "@0x900": 32})
+        _w, _k, _n, regions, *_ = image_text.read(image)
+        self.assertEqual(regions, [(1, 5, 0), (1, 12, 0), (2, 13, 0), (0, 0, 0)])
+
+    def test_a_mirror_of_a_primitive_type_has_no_fields(self):
+        """The node at 0 references it, and nothing references the node that its field does."""
+        more = Maker().instance(0x900, CLASS, Maker().ids(0x200) + bytes(4))
+        fields = [("loader", REFERENCE), ("hash", INT)]
+        image, names = converted(self.nodes((0x100, 0x900, 0), (0x200, 0, 0), more=more, fields=fields))
+        words = [[header(5, 2), 6, 0, label("pack.Node"), 0x01_07000000, header(2, 0), label("primitive.class")]]
+        self.assertEqual(image, image_of(words, [[], [], [], []], root=1))
+        self.assertIn("type primitive.class slots data class\n", names)
+        self.assertNotIn("@0x200", names)
+
+    def test_two_types_of_one_name_have_lines_of_their_own(self):
+        make = Maker()
+        classes = [make.kind(OBJECT, 0), make.kind(MAIN, statics=[("root", REFERENCE, make.ids(ARRAY))]), make.kind(NODES),
+                   make.kind(0x30, fields=[("first", INT)]), make.kind(0x31, fields=[("second", REFERENCE)])]
+        parts = [make.objects(ARRAY, NODES, 0x900, 0x901), make.instance(0x900, 0x30, bytes(4)),
+                 make.instance(0x901, 0x31, make.ids(ARRAY))]
+        _, names = converted(make.dump(classes, parts, more={0x30: "pack/Pair", 0x31: "pack/Pair"}))
+        found = [line for line in names.splitlines() if "pack.Pair" in line]
+        number = label("pack.Pair")
+        self.assertEqual(found, ["type pack.Pair slots data class first", f"label {number} pack.Pair", "object 4 pack.Pair @0x900",
+                                 "type pack.Pair#2 slots second data class", f"label {number} pack.Pair#2",
+                                 "object 7 pack.Pair#2 @0x901"])
+
+    def test_a_width_at_which_exactly_half_stays_free_is_chosen(self):
+        """Of objects of 2,049 words a region of 4,096 holds one: 2,048 of 4,096 regions."""
+        self.assertEqual(hprof2image.chosen([(2049, 2048)]), (4096, 64, 4096))
+        self.assertEqual(hprof2image.chosen([(2049, 2049)]), (8192, 64, 1366))
+
     def test_what_is_chosen_leaves_half_of_the_regions_free(self):
         self.assertEqual(hprof2image.chosen([(5, 1)]), (4096, 64, 2))
         self.assertEqual(hprof2image.chosen([(8, 1 << 17)]), (4096, 64, 512))
@@ -271,6 +339,16 @@ class PlainJudge(unittest.TestCase):
         self.assertEqual(self.answer(Maker().heap(array=array)),
                          ("differ at pack.Main.root.next[3]: no object at 0x0000000000000600 after", 1))
 
+    def test_one_object_is_not_two(self):
+        """Two equal nodes before are one after, and the other way round."""
+        make = Maker()
+        more = make.node(0x800, 0, 3, 0, 0) + make.node(0x900, 0, 3, 0, 0)
+        two, one = (make.heap(array=make.objects(ARRAY, NODES, 0x800, name), more=more) for name in (0x900, 0x800))
+        for before, after in ((two, one), (one, two)):
+            self.good.write_bytes(before)
+            self.assertEqual(self.answer(after), ("differ at pack.Main.root.next[1]: another object than on an earlier path", 1))
+            self.assertEqual(self.answer(before)[1], 0)
+
     def test_no_cut_dump_has_a_verdict(self):
         for version in (b"1", b"2"):
             data = Maker().heap(version)
@@ -293,6 +371,57 @@ class PlainJudge(unittest.TestCase):
         self.assertEqual(self.answer(Maker().heap(), "pack.Main.rot"), ("plain_judge: 0 static fields pack.Main.rot", 3))
         missing = plain_judge.answer(self.good, "no-such-dump", "pack.Main.root", plain_judge.WEAK)
         self.assertEqual(missing, ("plain_judge: no-such-dump: No such file or directory", 3))
+
+
+class TwoJudges(unittest.TestCase):
+    """What judge.py and across.py make of two judges, of which stand-ins say what they found."""
+
+    SAME, MOVED = "same objects 5 words 22", "same objects 5 words 22, 3 of them at another address"
+    RAN = "before | Young 3 | Old 1\nafter | Young 5 | Old 1\n"
+
+    def asked(self, call, line, plain):
+        """What a call makes of a line of g1heap and one of the plain judge."""
+        with tempfile.TemporaryDirectory() as room:
+            folder = pathlib.Path(room)
+
+            def convert(dump, *_):
+                files = [folder / f"{dump.name}.{end}" for end in ("img", "names")]
+                for file in (dump, *files):
+                    file.write_text("")
+                return files
+
+            with unittest.mock.patch.multiple(jvm, convert=convert, verdict=lambda *_: line, plain_verdict=lambda *_: plain):
+                return call(folder)
+
+    def judged(self, line, plain, said=RAN):
+        java = argparse.Namespace(run=lambda *_: said)
+        return self.asked(lambda folder: judge.judged("g1heap", java, [], "full", 9, folder), line, plain)
+
+    def compared(self, line, plain):
+        first = pathlib.Path("first.hprof"), []
+        return self.asked(lambda folder: across.compared("g1heap", first, folder / "other.hprof", []), line, plain)
+
+    def test_both_say_the_same_of_a_run_in_which_the_collector_ran(self):
+        self.assertEqual(self.judged(self.SAME, self.MOVED), (f"{self.SAME}, moved 3, ran Young 2", True))
+        self.assertEqual(self.compared(self.SAME, self.MOVED), (self.SAME, True))
+
+    def test_a_collector_that_has_not_run_fails(self):
+        said = "before | Young 3 | Old 1\nafter | Young 3 | Old 1\n"
+        self.assertEqual(self.judged(self.SAME, self.MOVED, said), ("the collector has not run", False))
+        self.assertEqual(self.judged(self.SAME, self.MOVED, ""), ("the collector has not run", False))
+
+    def test_another_identity_hash_fails(self):
+        self.assertEqual(self.judged(self.SAME, self.MOVED, f"{self.RAN}another identity hash\n"),
+                         ("an object has another identity hash", False))
+
+    def test_what_the_judges_say_otherwise_fails(self):
+        other, differ = self.MOVED.replace("22", "23"), "differ at Judge.root: null after"
+        for line, plain in ((self.SAME, other), (self.SAME, self.MOVED.replace("5", "6")), (self.SAME, differ),
+                            (differ, self.MOVED), (differ, differ), (self.SAME, "plain_judge: no such file"),
+                            ("same objects 5 words 2", self.MOVED)):
+            expected = f"{line}\n    plain judge: {plain}", False
+            self.assertEqual(self.judged(line, plain), expected)
+            self.assertEqual(self.compared(line, plain), expected)
 
 
 class Plants(unittest.TestCase):
@@ -350,7 +479,7 @@ class Commands(unittest.TestCase):
         status, image, _ = self.call("hprof2image.py", "--from", "pack.Main.root", "--names", f"{name}.names",
                                      f"{name}.hprof", 16, 4, 4)
         self.assertEqual(status, 0)
-        (self.folder / f"{name}.img").write_bytes(image)
+        (self.folder / f"{name}.img").write_bytes(judged(image))
 
     def test_a_difference_is_said_in_the_programs_names(self):
         self.made("before", Maker().heap())
@@ -450,7 +579,7 @@ class Commands(unittest.TestCase):
     def test_a_dump_alone_is_enough(self):
         (self.folder / "dump").write_bytes(Maker().heap())
         status, image, errors = self.call("hprof2image.py", "--progress", "--names", "names", "dump")
-        self.assertEqual((status, struct.unpack_from("<3I", image, 8)), (0, (4096, 64, 2)))
+        self.assertEqual((status, struct.unpack_from("<3I", judged(image), 8)), (0, (4096, 64, 2)))
         self.assertIn("13 objects", errors)
         names = (self.folder / "names").read_text()
         self.assertIn("type pack.Main.class slots super loader signers domain root data class static[]\n", names)

@@ -43,10 +43,11 @@ import check_pages  # noqa: E402
 import image_text  # noqa: E402
 import losses  # noqa: E402
 import progress  # noqa: E402
-from heap_image import FIRST, CONTINUATION, FREE, NULL, ORDINARY, Image, drawn, from_bytes  # noqa: E402
+from heap_image import FIRST, CONTINUATION, FREE, NULL, ORDINARY, Image, from_bytes  # noqa: E402
 from opponent import NoRoom, Opponent, refused  # noqa: E402
 from plant_errors import ERRORS as COLLECTOR_ERRORS, MORE_ERRORS, Planter  # noqa: E402
 from programs import OUT, program  # noqa: E402
+from random_heaps import drawn  # noqa: E402
 
 TOP = pathlib.Path(__file__).resolve().parent.parent
 KINDS = {"split": 4, "joined": 5, "size": 6, "slots": 7, "data": 8}

@@ -16,8 +16,10 @@ import shutil
 import subprocess
 import sys
 import tempfile
+import time
 import unittest
-import unittest.mock
+from concurrent.futures import ThreadPoolExecutor
+from unittest import mock
 
 TOP = pathlib.Path(__file__).resolve().parent.parent
 sys.dont_write_bytecode = True
@@ -110,7 +112,10 @@ class StandIn:
         return "expected the end" in line
 
     def in_lanes(self, tasks):
-        return {key: call({}, 1) for key, (_, _, _, call) in tasks.items()}
+        """As many at once as RT_JOBS says, or all."""
+        with ThreadPoolExecutor(int(os.environ.get("RT_JOBS", len(tasks)))) as pool:
+            calls = {key: pool.submit(call, {}, 1) for key, (_, _, _, call) in tasks.items()}
+        return {key: call.result() for key, call in calls.items()}
 
     def read_edit(self, edit, folder):
         old, new = re.search(r"^old: (.*)\nnew: (.*)$", pathlib.Path(edit).read_text(), re.M).groups()
@@ -339,11 +344,79 @@ class Planted(unittest.TestCase):
         rt = self.folder / "rt"
         rt.write_text(f"#!/bin/sh\ncd crates/$2/must-fail\nset -- *\n{OTHER_RT}")
         rt.chmod(0o755)
-        with unittest.mock.patch.dict(os.environ, PATH=f"{self.folder}:{os.environ['PATH']}"):
+        with mock.patch.dict(os.environ, PATH=f"{self.folder}:{os.environ['PATH']}"):
             rows, last, status = self.tried(is_known=False)
         self.assertEqual((rows.keys(), last, status), ({"turned", "unturned"}, "1 refused, 1 failed", 1))
         self.assertEqual(rows["turned"], "refused: refused, as it must be")
         self.assertEqual(own.read_text(), "its own")
+
+
+class Crates(unittest.TestCase):
+    """How many of three crates are tried at the same time."""
+
+    def setUp(self):
+        self.room = tempfile.TemporaryDirectory()
+        self.folder = pathlib.Path(self.room.name)
+        for name in ("one", "three", "two"):
+            planted_folder = self.folder / "crates" / name / "planted"
+            planted_folder.mkdir(parents=True)
+            planted_folder.joinpath("a.edit").write_text("turns: f: it\nfile: src/lib.rt\nold: 1\nnew: 2\n")
+        self.inside, self.most, self.asked = 0, 0, []
+
+    def tearDown(self):
+        self.room.cleanup()
+
+    def tried(self, name, rows):
+        """Is inside for a while."""
+        self.inside += 1
+        self.most = max(self.most, self.inside)
+        time.sleep(0.3)
+        self.inside -= 1
+        self.asked.append((name, os.environ.get("RT_JOBS")))
+        return rows
+
+    def crate(self, name):
+        crate = StandIn(self.folder)
+        crate.name, crate.folder = name, str(self.folder / "crates" / name)
+        return crate
+
+    def run_planted(self, *words, is_known):
+        """What it says to these words, and how many crates were tried at the same time."""
+        self.most, self.asked = 0, []
+        rt = StandIn(self.folder)
+        rt.crates_below = lambda _root: [self.crate(name) for name in ("one", "three", "two")]
+        row = planted.Row("it", "f", verdict=planted.REFUSED)
+        known = mock.patch.multiple(planted, ROOT=self.folder, load_rt=lambda: rt, is_known_kit=lambda: is_known,
+                                    try_crate=lambda _rt, crate, _is: self.tried(crate.name, [row]),
+                                    tried_by_rt=lambda name, lanes: self.tried(name, [row]) if lanes in ({}, {"RT_JOBS": "1"}) else [])
+        here, said, errors = os.getcwd(), io.StringIO(), io.StringIO()
+        with known, mock.patch.dict(os.environ), mock.patch.object(sys, "argv", ["planted.py", *words]):
+            os.environ.pop("RT_JOBS", None)
+            with contextlib.redirect_stdout(said), contextlib.redirect_stderr(errors):
+                try:
+                    status = planted.main()
+                except SystemExit as ended:
+                    status = ended.code
+        os.chdir(here)
+        return status, (said.getvalue().splitlines() or [""])[-1], errors.getvalue()
+
+    def test_as_many_crates_are_checked_at_once_as_are_asked_for(self):
+        for is_known in (True, False):
+            for jobs in (1, 2, 3):
+                said = self.run_planted("--jobs", str(jobs), "--all", is_known=is_known)
+                self.assertEqual(said, (0, "3 refused, 0 failed", ""))
+                self.assertEqual((is_known, jobs, self.most), (is_known, jobs, jobs))
+                self.assertEqual(sorted(name for name, _ in self.asked), ["one", "three", "two"])
+
+    def test_without_a_number_the_kit_decides(self):
+        self.assertEqual(self.run_planted("--all", is_known=True)[0], 0)
+        self.assertEqual((self.most, {jobs for _, jobs in self.asked}), (3, {None}))
+
+    def test_only_a_number_from_1_on_is_taken(self):
+        for word in ("0", "-1", "x", "1.5", ""):
+            status, _, errors = self.run_planted(f"--jobs={word}", "--all", is_known=True)
+            self.assertEqual((status, self.asked), (2, []), word)
+            self.assertIn(f"'{word}' is no number from 1 on", errors)
 
 
 class Minutes(unittest.TestCase):

@@ -3,10 +3,11 @@
 
 Tests the scripts beside it: each has to fail a program that is broken in one way. BINARY is the built g1pause, DRIVER
 the built g1_rows, for the scripts that take it. The broken programs run the real one, and change what it says; they
-are written in C, since they run while memory is refused, and take none. It needs a C compiler. The last line is
-'N passed, M failed'.
+are written in C, since they run while memory is refused, and take none. It needs a C compiler. The super-user runs
+the scripts and their programs as nobody. The last line is 'N passed, M failed'.
 """
 import argparse
+import os
 import pathlib
 import subprocess
 import sys
@@ -17,6 +18,7 @@ sys.path.insert(0, str(pathlib.Path(__file__).resolve().parent / "lib"))
 import progress  # noqa: E402
 from programs import add_driver, add_program  # noqa: E402
 from refusing import BEGIN, END, Judge, compiled  # noqa: E402
+from unprivileged import Unreadable, let_in, python, require_readable, unprivileged  # noqa: E402
 
 TOOLS = pathlib.Path(__file__).resolve().parent
 # `real` runs the program with its outputs caught; `say` answers in its place.
@@ -107,9 +109,11 @@ IDLE = (f'void *volatile sign = malloc({BEGIN}); free(sign); sign = malloc({END}
 FIRST = {script: ["--first"] for script in ("refuse_memory.py", "second_pause.py", "refuse_calls.py", "count_threads.py")}
 
 
-def passes(script, *words):
-    """Whether a script is content."""
-    done = subprocess.run([sys.executable, TOOLS / script, *words, *FIRST.get(script, [])], stdout=subprocess.DEVNULL, stderr=subprocess.DEVNULL, timeout=1800)
+def passes(folder, script, *words):
+    """Whether a script is content, which keeps its files in a folder of who runs it."""
+    environment = dict(os.environ, TMPDIR=str(folder / "nobody"))
+    done = subprocess.run([python(), TOOLS / script, *words, *FIRST.get(script, [])], stdout=subprocess.DEVNULL,
+                          stderr=subprocess.DEVNULL, timeout=1800, env=environment, **unprivileged())
     return done.returncode == 0
 
 
@@ -122,22 +126,22 @@ def try_programs(judge, folder, binary):
     few = {"malicious_images.py": ["300"]}
     whole = broken(folder, "whole", binary, ";")
     for script in ("refuse_memory.py", "second_pause.py", "malicious_images.py"):
-        judge.judge(f"{script} passes the program behind a pipe", passes(script, whole, *few.get(script, [])))
+        judge.judge(f"{script} passes the program behind a pipe", passes(folder, script, whole, *few.get(script, [])))
     for name, (body, scripts) in BROKEN.items():
         program = broken(folder, name, binary, body)
         for script in scripts:
-            judge.judge(f"{script} fails {name}", not passes(script, program, *few.get(script, [])))
+            judge.judge(f"{script} fails {name}", not passes(folder, script, program, *few.get(script, [])))
 
 
 def try_drivers(judge, folder, driver):
     whole = broken(folder, "whole_driver", driver, ";")
-    judge.judge("refuse_calls.py passes the driver behind a pipe", passes("refuse_calls.py", whole))
+    judge.judge("refuse_calls.py passes the driver behind a pipe", passes(folder, "refuse_calls.py", whole))
     for name, body in DRIVERS.items():
         program = broken(folder, f"driver_{name}", driver, body)
-        judge.judge(f"refuse_calls.py fails {name}", not passes("refuse_calls.py", program))
-    judge.judge("count_threads.py passes the driver", passes("count_threads.py", driver))
+        judge.judge(f"refuse_calls.py fails {name}", not passes(folder, "refuse_calls.py", program))
+    judge.judge("count_threads.py passes the driver", passes(folder, "count_threads.py", driver))
     idle = broken(folder, "driver_idle", driver, IDLE)
-    judge.judge("count_threads.py fails a driver that starts no thread", not passes("count_threads.py", idle))
+    judge.judge("count_threads.py fails a driver that starts no thread", not passes(folder, "count_threads.py", idle))
 
 
 def main():
@@ -145,9 +149,15 @@ def main():
     add_program(parser, "binary", "g1pause")
     add_driver(parser, nargs="?")
     options = parser.parse_args()
+    try:
+        python()
+        require_readable(__file__, options.binary, *filter(None, [options.driver]))
+    except Unreadable as error:
+        parser.error(str(error))
     judge = Judge()
     progress.show("tried", lambda: judge.passed)
     with tempfile.TemporaryDirectory() as room:
+        let_in(pathlib.Path(room))
         try_programs(judge, pathlib.Path(room), options.binary)
         if options.driver:
             try_drivers(judge, pathlib.Path(room), options.driver)

@@ -1,9 +1,8 @@
 #!/usr/bin/env python3
 """Tests of the tools that need no program of ours: test_tools.py [-v]
 
-Heap dumps are made here by hand, with identifiers of 4 and of 8 bytes, and the images expected of them were laid out by
-hand. Pages with a wrong output, a command that fails, a file left behind or a picture that changed have to fail.
-A picture is made of what a stand-in for g1pause says. The examples have to be those that examples/make.py makes.
+Pages with a wrong output, a command that fails, a file left behind or a picture that changed have to fail. The examples
+have to be those that examples/make.py makes.
 Tables of definitions and of the map that leave something out, or name what is not there, have to fail, and so does a definition
 that no clause cites; those of the repository have to pass.
 A release of lines of shell and a checkout are installed, each over the other, and uninstalled: nothing of them may stay.
@@ -22,7 +21,6 @@ import re
 import shlex
 import shutil
 import stat
-import struct
 import subprocess
 import sys
 import tempfile
@@ -38,171 +36,14 @@ import build_judge  # noqa: E402
 import check_pages  # noqa: E402
 import check_tables  # noqa: E402
 import completion  # noqa: E402
-import hprof2image  # noqa: E402
 import judge_opponent  # noqa: E402
 import manual  # noqa: E402
 import progress  # noqa: E402
+import real_traces  # noqa: E402
 import release  # noqa: E402
 import stamp  # noqa: E402
-
-OBJECT, A, ARRAY = 0x10, 0x20, 0x30  # classes
-INT, BYTE, LONG, REFERENCE = 10, 8, 11, 2
-ROOTS = {0xFF: 0, 1: None, 2: 8, 3: 8, 4: 4, 5: 0, 6: 4, 7: 0, 8: 8}
-
-
-class Maker:
-    """Makes a dump with identifiers of this many bytes."""
-
-    def __init__(self, id_bytes):
-        self.id_bytes = id_bytes
-
-    def ids(self, *names):
-        return b"".join(name.to_bytes(self.id_bytes, "big") for name in names)
-
-    def kind(self, name, above, statics=b"", count=0, fields=()):
-        body = self.ids(name) + bytes(4) + self.ids(above, 0, 0, 0, 0, 0) + bytes(4) + struct.pack(">H", 0)
-        body += struct.pack(">H", count) + statics + struct.pack(">H", len(fields))
-        return b"\x20" + body + b"".join(self.ids(1) + bytes([kind]) for kind in fields)
-
-    def instance(self, name, kind, reference, number):
-        fields = self.ids(reference) + struct.pack(">i", number)
-        return b"\x21" + self.ids(name) + bytes(4) + self.ids(kind) + struct.pack(">I", len(fields)) + fields
-
-    def objects(self, name, kind, *elements):
-        return b"\x22" + self.ids(name) + struct.pack(">II", 0, len(elements)) + self.ids(kind, *elements)
-
-    def primitives(self, name, kind, count, data):
-        return b"\x23" + self.ids(name) + struct.pack(">IIB", 0, count, kind) + data
-
-    def root(self, tag, name):
-        tail = self.id_bytes if ROOTS[tag] is None else ROOTS[tag]
-        return bytes([tag]) + self.ids(name) + bytes(tail)
-
-    def dump(self, *segments):
-        records = [(0x01, self.ids(1) + b"a name"), *((0x1C, segment) for segment in segments), (0x2C, b"")]
-        body = b"".join(struct.pack(">BII", tag, 0, len(data)) + data for tag, data in records)
-        return b"JAVA PROFILE 1.0.2\0" + struct.pack(">IQ", self.id_bytes, 0) + body
-
-    def heap(self):
-        """Three classes, two instances, three arrays; the last array is humongous where a region has 16 words."""
-        statics = self.ids(1) + bytes([REFERENCE]) + self.ids(0x100) + self.ids(1) + bytes([INT]) + struct.pack(">i", 5)
-        classes = [self.kind(OBJECT, 0), self.kind(A, OBJECT, statics, 2, [REFERENCE, INT]), self.kind(ARRAY, OBJECT)]
-        longs = b"".join(struct.pack(">q", i) for i in range(12))
-        objects = [self.instance(0x100, A, 0x200, 7), self.objects(0x200, ARRAY, 0x100, 0, 0x999),
-                   self.primitives(0x300, BYTE, 3, b"\1\2\3"), self.primitives(0x400, LONG, 12, longs),
-                   self.instance(0x500, A, 0x400, -1)]
-        roots = [self.root(tag, A if tag == 5 else 0x100) for tag in ROOTS]
-        return self.dump(b"".join(classes + objects[:2]), b"".join(objects[2:] + roots))
-
-
-def header(size, slots):
-    return size << 32 | slots
-
-
-# The image of Maker.heap with W 16, K 4, N 6, by hand.
-WORDS = [
-    [header(6, 4), 0, 0, 0, 0, OBJECT, header(8, 5), 1, 0, 0, 0, 23, A, 0x05000000],
-    [header(6, 4), 1, 0, 0, 0, ARRAY, header(4, 1), 27, A, 0x07000000, header(5, 3), 23, 0, 0, ARRAY],
-    [header(3, 0), BYTE << 32 | 3, 0x030201, header(4, 1), 49, A, 0xFFFFFFFF],
-    [header(14, 0), LONG << 32 | 12, *(i << 56 for i in range(12))],
-]
-TABLE = [(1, 14), (1, 15), (1, 7), (2, 14), (0, 0), (0, 0)]
-ROOT_WORDS = [7 if tag == 5 else 23 for tag in ROOTS] + [1, 17]
-SETS = [[4], [2], [], [9], [], []]
-
-
-def by_hand():
-    parts = [b"G1IMAGE2", struct.pack("<6I", 16, 4, 6, len(ROOT_WORDS), 0, 6)]
-    parts += [struct.pack("<3I", *row, 0) for row in TABLE] + [struct.pack("<Q", word) for word in ROOT_WORDS]
-    parts += [struct.pack(f"<{1 + len(cards)}I", len(cards), *cards) for cards in SETS]
-    parts += [struct.pack("<Q", word) for words in WORDS for word in words]
-    return b"".join(parts)
-
-
-def converted(data, region_words=16, card_words=4, regions=6, blank=False):
-    """The image of a dump, and what is reported."""
-    dump = hprof2image.Dump(io.BytesIO(data))
-    index = hprof2image.Index(dump)
-    conversion = hprof2image.Conversion(dump, index, region_words, card_words, regions, blank)
-    errors, image = io.StringIO(), io.BytesIO()
-    agree = hprof2image.told(conversion, index, errors)
-    conversion.image.write(image)
-    return image.getvalue(), errors.getvalue(), agree
-
-
-class Dumps(unittest.TestCase):
-    def test_the_image_is_the_one_laid_out_by_hand(self):
-        for id_bytes in (4, 8):
-            image, told, agree = converted(Maker(id_bytes).heap())
-            self.assertEqual(image, by_hand())
-            self.assertTrue(agree)
-            self.assertIn("8 objects, 6 references, 192 bytes of data with the sum", told)
-            self.assertIn("1 references to what is not in the dump", told)
-
-    def test_a_blank_image_has_labels_and_no_data(self):
-        words = [word for part in WORDS for word in part]
-        data = {0x05000000, 0x07000000, 0x030201, 0xFFFFFFFF, *(i << 56 for i in range(12))}
-        blank = b"".join(struct.pack("<Q", 0 if word in data else word) for word in words)
-        self.assertEqual(converted(Maker(8).heap(), blank=True)[0], by_hand()[:-len(blank)] + blank)
-
-    def test_every_cut_is_refused(self):
-        for id_bytes in (4, 8):
-            data = Maker(id_bytes).heap()
-            for length in range(len(data)):
-                with self.assertRaises(hprof2image.Refusal) as caught:
-                    converted(data[:length])
-                self.assertEqual(caught.exception.status, 3, length)
-
-    def test_a_changed_byte_gives_an_image_or_one_line(self):
-        data = Maker(8).heap()
-        for at in range(len(data)):
-            for flip in (0x01, 0x80, 0xFF):
-                with contextlib.suppress(hprof2image.Refusal):
-                    _image, _told, agree = converted(data[:at] + bytes([data[at] ^ flip]) + data[at + 1:])
-                    self.assertTrue(agree, at)
-
-    def test_other_files_are_told_by_what_they_are(self):
-        data = Maker(8).heap()
-        for other, text in ((data.replace(b"1.0.2", b"1.0.3"), "version 'JAVA PROFILE 1.0.3'"),
-                            (b"\x1f\x8b" + data, "gunzip"), (b"not a dump at all, but long enough", "not a heap dump"),
-                            (b"", "not a heap dump"), (data[:19] + struct.pack(">I", 6) + data[23:], "of 6 bytes")):
-            with self.assertRaisesRegex(hprof2image.Refusal, text):
-                converted(other)
-
-    def test_what_would_fit_is_told(self):
-        with self.assertRaisesRegex(hprof2image.Refusal, "N from 4 to 4096 holds them") as caught:
-            converted(Maker(8).heap(), regions=3)
-        self.assertEqual(caught.exception.status, 5)
-        self.assertEqual(converted(Maker(8).heap(), regions=4)[0][16:20], struct.pack("<I", 4))
-
-    def test_no_heap_at_all_is_told(self):
-        self.assertIn("W 4096 with N from 4096 to 4096", str(hprof2image.too_many([(8192, 2048)], 16, 9, 512 * 2048)))
-        self.assertIn("no heap holds them", str(hprof2image.too_many([(1 << 20, 17)], 4096, 9, 17 * 256)))
-
-    def test_a_dump_in_one_record_needs_no_end(self):
-        make = Maker(8)
-        whole = make.dump(make.kind(OBJECT, 0)).replace(b"\x1c" + bytes(7), b"\x0c" + bytes(7))
-        self.assertEqual(converted(whole)[0], converted(whole[:-9])[0])
-
-    def test_an_image_that_lost_something_is_told(self):
-        dump = hprof2image.Dump(io.BytesIO(Maker(8).heap()))
-        index = hprof2image.Index(dump)
-        for at in (8 * 1, 8 * 5, 8 * 7, 8 * 13 + 3, 8 * 48):  # two slots, a label, a byte of data, a header
-            conversion = hprof2image.Conversion(dump, index, 16, 4, 6)
-            self.assertTrue(hprof2image.told(conversion, index, io.StringIO()))
-            conversion.image.words[at] ^= 1
-            if hprof2image.told(conversion, index, io.StringIO()):
-                self.fail(f"a change of byte {at} is not reported")
-
-    def test_too_many_roots_are_held_by_arrays(self):
-        make = Maker(8)
-        roots = make.root(0xFF, OBJECT) * 65600
-        image, told, agree = converted(make.dump(make.kind(OBJECT, 0) + roots), regions=8)
-        count, = struct.unpack_from("<I", image, 20)
-        self.assertEqual(count, 65536)
-        self.assertIn("65600 roots", told)
-        self.assertTrue(agree)
-        self.assertEqual(image.count(struct.pack("<Q", 1)), 65600)
+import test_scripts  # noqa: E402
+import unprivileged  # noqa: E402
 
 
 class Pages(unittest.TestCase):
@@ -272,12 +113,28 @@ TREE = {
                            "| `g1_b/specs/Cited.antt`, `Used.antt` | g |\n"
                            "\n## The laws\n\n| Function | It says |\n|---|---|\n| `g1_a::laws::first`, `second` | d |\n",
     "docs/MAP.md": "## The crates, lowest first\n\n| Crate | Room for |\n|---|---|\n| `g1_a`, `g1_b` | e |\n\n## Where to change what\n\n"
-                   "| Change | Begin with | Then |\n|---|---|---|\n| f | `g1_a/src/{laws,lib}.rt` | `main.rt` of g1_b |\n",
+                   "| Change | Begin with | Then |\n|---|---|---|\n| f | `g1_a/src/{laws,lib}.rt` | `main.rt` of g1_b |\n"
+                   "\n## What a change touches\n\n| Change | Patterns | Files |\n|---|---|---|\n"
+                   "| h | sources: `\\bf\\w+t\\b`; definitions: `IsLow\\|IsHigh` | `g1_a/src/laws.rt`, `g1_b/specs/{Cited,Used}.antt` |\n",
     "crates/g1_a/specs/Lib.antt": "pub mod Low\n",
     "crates/g1_a/specs/Low.antt": "use Rattle.std.specs.Prelude.{List}\n",
     "crates/g1_a/specs/Top.antt": "use Rattle.g1_a.specs.Low.{low}\nuse Rattle.g1_a.specs.declared.fault.Fault.{Fault}\n",
     "crates/g1_a/src/laws.rt": "pub fn first()\n{}\npub fn second()\n{}\n",
-    "crates/g1_a/src/lib.rt": "",
+    "crates/g1_a/src/lib.rt": "#[test]\nfn it_is_so(rt: HostRuntime) {}\n\nfn others() {}\n",
+    "docs/PROMISED.md": "| Promised | Kind | File | Name |\n|---|---|---|---|\n"
+                        "| h | row | `crates/g1_rows/data/a.rows` | `It is so.` `count 2 => 4` `.. six ..` |\n"
+                        "| i | test | `crates/g1_a/src/lib.rt` | `it_is_so` |\n| j | test | `tools/test_a.py` | `test_it` |\n"
+                        "| k | script | `tools/a.py` | `LIST` |\n| l | wrong body | `crates/g1_a/must-fail/` | `does_nothing` |\n"
+                        "| m | wrong body | `docs/PROVED.md` | `always_none` |\n| n | run | `crates/g1_a/stdout` | `a line` |\n",
+    "crates/g1_a/stdout": "one line\na line\n",
+    "docs/PROVED.md": "| Body | What it does |\n|---|---|\n| `always_none` | returns none |\n",
+    "crates/g1_a/must-fail/does_nothing.edit": "file: src/lib.rt\n",
+    "crates/g1_rows/args": "rows\na.rows\n",
+    "crates/g1_rows/stdout": "ok: Another one.\nok: It is so.\n2 ok, 0 failed\n",
+    "crates/g1_rows/data/a.rows": "# Rows.\n\n# Another one.\nadd\n----\n0\n\n# It is so.\nadd\n----\ncount 1 => 2\ncount 2 => 4\n"
+                                  "| two six four\n",
+    "tools/test_a.py": "class All:\n    def test_it(self):\n        pass\n",
+    "tools/a.py": "LIST = [1]\n",
     "crates/g1_b/specs/One.antt": "",
     "crates/g1_b/specs/Two.antt": "use Rattle.g1_a.specs.Top\n",
     "crates/g1_b/specs/Used.antt": "-- the next one\nabbrev pub next : ℕ → ℕ\nnext n = suc n\n\nmodule _ (k : Kind next) where\n"
@@ -362,6 +219,42 @@ class Tables(unittest.TestCase):
                 "crates/g1_b/src/main.rt": TREE["crates/g1_b/src/main.rt"].replace("AreSmall result", "AreSmall low")}):
             self.assertEqual(self.uncited(*lone), [])
 
+    def lost(self, name, old="", new="", gone=None):
+        """The one promise that is broken then, and why."""
+        (line,) = self.wrong(name, old, new, gone)
+        self.assertEqual(line[:10], "PROMISED: ")
+        return line[10:]
+
+    def test_what_is_promised_by_name_is_there(self):
+        rows, test = "crates/g1_rows/data/a.rows", "crates/g1_a/src/lib.rt"
+        self.assertEqual(self.lost(rows, "# It is so.", "# It is not so."), f"h: {rows} has no row 'It is so.'")
+        for old, new in (("count 2 => 4\n", ""), ("count 2 => 4", "count 2 => 44"), ("count 2 => 4", "0 count 2 => 4")):
+            self.assertEqual(self.lost(rows, old, new), f"h: the row 'It is so.' of {rows} has no line 'count 2 => 4'", new)
+        self.assertEqual(self.lost(rows, "two six four", "two"), f"h: the row 'It is so.' of {rows} has no line '.. six ..'")
+        self.assertEqual(self.lost("crates/g1_rows/stdout", "ok: It is so.\n", ""), "h: the driver does not write that 'It is so.' is so")
+        self.assertEqual(self.lost("crates/g1_rows/args", "a.rows", "b.rows"), f"h: the driver does not try {rows}")
+        for old, new in (("it_is_so", "it_is"), ("it_is_so", "it_is_so_too"), ("#[test]\n", "")):
+            self.assertEqual(self.lost(test, old, new), f"i: {test} has no it_is_so", new)
+        self.assertEqual(self.lost("tools/test_a.py", "test_it", "try_it"), "j: tools/test_a.py has no test_it")
+        self.assertEqual(self.lost("tools/a.py", "LIST =", "LISTS ="), "k: tools/a.py has no LIST")
+        edit = "crates/g1_a/must-fail/does_nothing.edit"
+        self.assertEqual(self.lost(None, gone=edit), f"l: there is no {edit}")
+        self.assertEqual(self.lost("docs/PROVED.md", "`always_none`", "`never_none`"), "m: docs/PROVED.md has no always_none")
+        self.assertEqual(self.lost("crates/g1_a/stdout", "a line", "a line more"), "n: crates/g1_a/stdout has no a line")
+        self.assertEqual(self.lost(None, gone="tools/a.py"), "k: there is no tools/a.py")
+
+    def test_each_promise_has_a_kind_and_a_name(self):
+        page = "docs/PROMISED.md"
+        self.assertEqual(self.lost(page, "| k | script |", "| k | scripts |"), "k: tools/a.py has nothing of the kind 'scripts'")
+        self.assertEqual(self.lost(page, "| `LIST` |", "| LIST |"), "k: it has no name")
+
+    def test_each_promise_of_the_repository_is_looked_at(self):
+        text = (TOP / "docs/PROMISED.md").read_text()
+        kinds = [line.split(" | ")[1] for line in text.splitlines() if line.startswith("| ") and line.count(" | ") == 3]
+        found = {kind: kinds.count(kind) for kind in ("row", "test", "script", "run", "wrong body")}
+        self.assertEqual(check_tables.check_promised(text, TOP)[0], sum(found.values()))
+        self.assertGreaterEqual(found["wrong body"], 50)
+
     def test_each_crate_is_in_one_row(self):
         page = "docs/MAP.md"
         self.assertEqual(self.wrong(page, ", `g1_b`", ""), ["MAP: g1_b is in no row"])
@@ -373,105 +266,23 @@ class Tables(unittest.TestCase):
         for old, new in (("{laws,lib}", "{laws,libs}"), ("`main.rt`", "`mains.rt`"), ("`main.rt` of g1_b", "`main.rt` of g1_a")):
             self.assertEqual(len(self.wrong(page, old, new)), 1, new)
 
+    def test_a_row_with_patterns_has_the_files_that_they_find(self):
+        page = "docs/MAP.md"
+        self.assertEqual(self.wrong(page, "{Cited,Used}", "{Used}"), ["MAP: h: g1_b/specs/Cited.antt is left out"])
+        self.assertEqual(self.wrong("crates/g1_b/src/main.rt", "", "// first\n"), ["MAP: h: g1_b/src/main.rt is left out"])
+        self.assertEqual(self.wrong(page, "`g1_a/src/laws.rt`, `g1_b", "`g1_a/src/{laws,lib}.rt`, `g1_b"),
+                         ["MAP: h: g1_a/src/lib.rt has none of the patterns"])
+        self.assertEqual(self.wrong(page, "IsLow\\|IsHigh`", "IsLow\\|IsHigh`, `IsNone`"), ["MAP: h: no file of definitions has IsNone"])
 
-SAYS = """#!{python}
-import sys
-print({{"show": "heap 16 4 4 roots 1 dirty 0 current none\\n"
-  "region 0 humongous top 16 objects 1 cards 1\\nregion 1 continuation top 4 objects 0 cards 0\\n"
-  "region 2 ordinary top 8 objects 2 cards 4 pinned\\nregion 3 free top 0 objects 0 cards 0",
-  "live": "region 0 live 160\\nregion 1 live 0\\nregion 2 live 16\\nregion 3 live 0",
-  "choose": "region 2 cost 1 garbage 48 taken\\ntotal 1"}}[sys.argv[1]])
-"""
-
-
-# The second heap that is shown: the humongous object is gone, and region 3 has what survived.
-AFTER = """#!{python}
-import sys
-new = open(0, "rb").read(1) != b""
-print({{"show": "heap 16 4 4 roots 1 dirty 0 current none\\nregion 0 " + ("free top 0 objects 0 cards 0" if new else
-  "humongous top 16 objects 1 cards 0") + "\\nregion 1 " + ("free top 0 objects 0 cards 0" if new else
-  "continuation top 4 objects 0 cards 0") + "\\nregion 2 ordinary top 8 objects 2 cards 0\\nregion 3 " + (
-  "ordinary top 2 objects 1 cards 0" if new else "free top 0 objects 0 cards 0"),
-  "live": "region 0 live 0\\nregion 1 live 0\\nregion 2 live 16\\nregion 3 live 0"}}[sys.argv[1]])
-"""
-
-LARGE = """#!{python}
-print("heap 16 4 65 roots 0 dirty 0 current none")
-"""
-
-STEPS = """#!{python}
-import sys
-print("heap 16 4 1 roots 0 dirty 0 current none")
-print({{"print": "region 0 free top 0 objects 0 cards 0", "explain": "set -"}}[sys.argv[1]])
-"""
-
-
-class Pictures(unittest.TestCase):
-    def run_picture(self, *options, says=SAYS, check=False):
+    def test_the_files_that_patterns_find_are_printed_as_a_row_has_them(self):
         with tempfile.TemporaryDirectory() as room:
-            program = pathlib.Path(room) / "says"
-            program.write_text(says.format(python=sys.executable))
-            program.chmod(0o755)
-            (pathlib.Path(room) / "after").write_bytes(b"x")
-            options = [option.format(program=program, room=room) for option in options]
-            words = [sys.executable, str(TOP / "tools/picture.py"), "--program", str(program), "/dev/null", *options]
-            return subprocess.run(words, capture_output=True, text=True, check=check)
-
-    def picture(self, *options):
-        return self.run_picture(*options, check=True).stdout
-
-    def test_the_numbers_are_those_of_the_program(self):
-        text = self.picture()
-        self.assertIn("live 22 words, garbage 6, free 36", text)  # 20 of the humongous object and 2 of region 2
-        self.assertEqual(text.count('class="pin"'), 2)  # in the cell and in the legend
-        self.assertNotIn('class="set"', text)
-
-    def test_the_collection_set_is_framed(self):
-        self.assertEqual(self.picture("--budget", "5").count('class="set"'), 2)
-        self.assertEqual(self.picture("--set", "0,2").count('class="set"'), 3)
-
-    def test_the_pointer_reads_a_regions_numbers(self):
-        text = self.picture("--budget", "5")
-        self.assertIn("<title>region 2 ordinary, top 8, live 25%, 4 cards, pinned, cost 1, taken</title>", text)
-        self.assertIn("<title>region 3 free</title>", text)
-        self.assertIn("<title>region 1 continuation, top 4, live 100%, 0 cards</title>", text)
-
-    def test_frames_of_neighbours_do_not_touch(self):
-        frames = re.findall(r'class="set" x="([0-9.]+)" y="[0-9.]+" width="([0-9.]+)"[^>]*stroke-width="([0-9.]+)"', self.picture("--set", "0,1"))
-        (left, width, line), (right, *_) = [tuple(map(float, frame)) for frame in frames[:2]]
-        self.assertLess(left + width + line, right)
-
-    def test_a_bar_is_beside_the_words_and_not_on_them(self):
-        text = self.picture()
-        x, width = map(float, re.search(r'<path class="ordinary" d="M([0-9.]+) [0-9.]+h([0-9.]+)v', text).groups())
-        bars = re.search(r'<path class="cards" d="([^"]+)"', text).group(1)
-        self.assertIn(True, [x + width < float(bar) < x + 72 for bar in re.findall(r"M([0-9.]+) ", bars)])
-
-    def test_what_a_pause_freed_and_filled_is_framed(self):
-        text = self.run_picture("{room}/after", says=AFTER, check=True).stdout
-        self.assertEqual(text.count('class="freed"'), 3)  # both regions of the humongous object, and the legend
-        self.assertEqual(text.count('class="filled"'), 2)
-
-    def test_a_region_of_the_set_that_is_not_there_is_refused(self):
-        done = self.run_picture("--set", "2,4")
-        self.assertEqual((done.returncode, done.stdout), (2, ""))
-        self.assertEqual(done.stderr, "picture: /dev/null: region 4 is not there: the heap has 4\n")
-
-    def test_a_large_heap_has_no_steps(self):
-        done = self.run_picture("--steps", "--g1heap", "{program}", says=LARGE)
-        self.assertEqual(done.returncode, 2)
-        self.assertIn("65 regions of 16 words: the stepping page shows heaps of at most 64 regions of 64 words", done.stderr)
-
-    def test_the_steps_are_the_lines_of_explain(self):
-        text = self.run_picture("--steps", "--g1heap", "{program}", says=STEPS).stdout
-        self.assertIn('"explain":["heap 16 4 1 roots 0 dirty 0 current none","set -"]', text)
-        self.assertNotIn("@", re.sub(r"@media", "", text))
-
-    def test_a_page_holds_everything(self):
-        text = self.picture("/dev/null", "--html", "--set", "2")
-        self.assertIn("<th>before</th><th>after</th>", text)
-        self.assertIn("<tr><td>garbage words</td><td>6</td><td>6</td></tr>", text)
-        self.assertNotIn("http", text.replace("http://www.w3.org/2000/svg", ""))
+            for path, text in TREE.items():
+                target = pathlib.Path(room) / path
+                target.parent.mkdir(parents=True, exist_ok=True)
+                target.write_text(text)
+            with contextlib.redirect_stdout(io.StringIO()) as out:
+                check_tables.print_touched(TREE["docs/MAP.md"], pathlib.Path(room))
+        self.assertEqual(out.getvalue(), TREE["docs/MAP.md"].splitlines(keepends=True)[-1])
 
 
 class Examples(unittest.TestCase):
@@ -506,7 +317,7 @@ class Ocaml(unittest.TestCase):
 [ "$1" != -version ] || { echo 4.14.1; exit; }
 cat >judge <<'END'
 #!/bin/sh
-for name in before minor major compact changed; do echo object 1 >$name.txt; done
+for name in before minor major compact changed; do echo object at_$name >$name.txt; done
 END
 chmod +x judge
 """
@@ -549,6 +360,80 @@ chmod +x judge
             programs = {"ocamlopt": self.COMPILER, "g1heap": f"[ $3 != changed.txt ] || exit {found}"}
             done = self.run_judge(programs, os.environ["PATH"])
             self.assertEqual((done.returncode, done.stderr), (status, ""), found)
+
+    def test_collections_that_move_nothing_judge_nothing(self):
+        programs = {"ocamlopt": self.COMPILER.replace("at_$name", "at_one_place"), "g1heap": "[ $3 != changed.txt ]"}
+        done = self.run_judge(programs, os.environ["PATH"])
+        self.assertEqual((done.returncode, done.stdout.splitlines()[3]), (1, "judged nothing: no collection moved an object"))
+
+    def test_a_collection_is_compared_with_the_heap_before_it(self):
+        moved = self.COMPILER.replace("echo object at_$name", "{ echo object $name | sed 's/minor/before/; s/compact/major/'; }")
+        done = self.run_judge({"ocamlopt": moved, "g1heap": "[ $3 != changed.txt ] || exit 1; echo $2"}, os.environ["PATH"])
+        self.assertEqual(done.stdout.splitlines()[:3], ["minor: 0 objects moved: before.txt", "major: 1 objects moved: minor.txt",
+                                                        "compact: 0 objects moved: major.txt"])
+
+
+class Runtimes(unittest.TestCase):
+    """examples/runtimes/judge.py, with a ruby and a g1heap of a few lines."""
+
+    RUBY = """#!{python}
+import sys
+room = sys.argv[2]
+for step, names in {steps}:
+    open(f"{{room}}/{{step}}.txt", "w").write("graph\\n" + "".join(f"object {{name}} 1/0\\n" for name in names))
+for line in {lines}:
+    print(line)
+"""
+    HEAP = """#!{python}
+import sys
+verdict = {verdicts}.get(sys.argv[3].removesuffix(".txt"), "same objects 2 words 2")
+print(verdict)
+sys.exit(not verdict.startswith("same"))
+"""
+    STEPS = [("before", "ab"), ("minor", "ac"), ("wrong", "ac"), ("again", "ac")]
+    LINES = ["before", "collection minor", "planted wrong split c", "again"]
+    FOUND = "differ split at root 0: object c before, object a after"
+
+    def judged(self, steps=STEPS, lines=LINES, verdicts=None):
+        """The status and what is printed."""
+        with tempfile.TemporaryDirectory() as room:
+            texts = {"ruby": self.RUBY.format(python=sys.executable, steps=steps, lines=lines),
+                     "g1heap": self.HEAP.format(python=sys.executable, verdicts={"wrong": self.FOUND} if verdicts is None else verdicts)}
+            for name, text in texts.items():
+                (pathlib.Path(room) / name).write_text(text)
+                (pathlib.Path(room) / name).chmod(0o755)
+            done = subprocess.run([TOP / "examples/runtimes/judge.py", "ruby"], capture_output=True, text=True, check=False, timeout=60,
+                                  env={**os.environ, "PATH": f"{room}:{os.environ['PATH']}"})
+        return done.returncode, done.stdout.splitlines()
+
+    def test_a_good_collector_passes(self):
+        self.assertEqual(self.judged(), (0, ["ruby minor: same objects 2 words 2, 1 moved", f"ruby planted wrong: {self.FOUND}",
+                                             "ruby again: same objects 2 words 2, 0 moved", "ruby 1 collections, 1 moves", "4 passed, 0 failed"]))
+
+    def test_a_collection_that_changes_the_heap_fails(self):
+        status, lines = self.judged(verdicts={"minor": "differ null at root 0: null before, object a after", "wrong": self.FOUND})
+        self.assertEqual((status, lines[0], lines[-1]),
+                         (1, "ruby minor: differ null at root 0: null before, object a after, 1 moved  FAILED", "3 passed, 1 failed"))
+
+    def test_an_error_that_is_not_found_or_is_found_elsewhere_fails(self):
+        for verdict in ("same objects 2 words 2", self.FOUND.replace("object c", "object b"), self.FOUND.replace("split", "data")):
+            status, lines = self.judged(verdicts={"wrong": verdict})
+            self.assertEqual((status, lines[1], lines[-1]), (1, f"ruby planted wrong: {verdict}  FAILED", "3 passed, 1 failed"))
+
+    def test_collections_without_a_move_judge_nothing(self):
+        status, lines = self.judged(steps=[(step, "ab") for step, _ in self.STEPS])
+        self.assertEqual((status, lines[-2:]), (1, ["ruby 1 collections, 0 moves: judged nothing  FAILED", "3 passed, 1 failed"]))
+
+    def test_a_program_that_ends_early_fails(self):
+        self.assertEqual(self.judged(lines=self.LINES[:-1]), (1, ["ruby: its program did not come to its end  FAILED", "0 passed, 1 failed"]))
+        status, lines = self.judged(lines=["a", "b"], steps=3)
+        self.assertEqual((status, lines[-1]), (1, "0 passed, 1 failed"))
+        self.assertTrue(lines[0].startswith("ruby: ruby: status 1: "), lines)
+
+    def test_wrong_words_are_usage(self):
+        for words in (["perl"], ["--depth", "2"], ["--depth", "many"]):
+            done = subprocess.run([TOP / "examples/runtimes/judge.py", *words], capture_output=True, text=True, check=False, timeout=60)
+            self.assertEqual((done.returncode, done.stdout), (2, ""), words)
 
 
 class Opponents(unittest.TestCase):
@@ -781,6 +666,52 @@ class Installing(unittest.TestCase):
         self.assertEqual(self.installed(), {"bin/other"})
 
 
+class Planted(unittest.TestCase):
+    """No program in which an error is planted is run as the super-user."""
+
+    ASKS = "import os, sys, tempfile; tempfile.mkstemp(); sys.exit(7 if os.geteuid() == 0 else {})"
+
+    def run_in(self, call):
+        """What a call gives in a folder that the programs' user is let into."""
+        with tempfile.TemporaryDirectory() as room:
+            folder = pathlib.Path(room)
+            unprivileged.let_in(folder)
+            return call(folder)
+
+    def test_the_super_user_runs_them_as_nobody_and_others_as_they_are(self):
+        for user, expected in ((0, {"user": 65534, "group": 65534, "extra_groups": ()}), (1000, {})):
+            with unittest.mock.patch("os.geteuid", return_value=user):
+                self.assertEqual(unprivileged.unprivileged(), expected)
+
+    def test_they_write_in_their_own_folder_alone(self):
+        def written(folder):
+            ours = folder / "ours"
+            ours.write_text("as it was")
+            said = [unprivileged.can("sh", "-c", f"echo > '{folder}/{name}'") for name in ("nobody/new", "ours", "new")]
+            return said, ours.read_text()
+        may = os.geteuid() != 0
+        self.assertEqual(self.run_in(written), ([True, may, may], "\n" if may else "as it was"))
+
+    def test_what_that_user_cannot_read_is_reported(self):
+        with tempfile.TemporaryDirectory() as room, self.assertRaisesRegex(unprivileged.Unreadable, "^nobody cannot read .*gone"):
+            unprivileged.require_readable(pathlib.Path(room) / "gone")
+
+    def test_scripts_are_tried_on_broken_programs_so(self):
+        def passes(folder, status):
+            script = folder / "script.py"
+            script.write_text(self.ASKS.format(status))
+            return test_scripts.passes(folder, str(script), "program")
+        self.assertEqual([self.run_in(lambda folder: passes(folder, status)) for status in (0, 1)], [True, False])
+
+    def test_a_broken_barrier_is_tried_so(self):
+        def noticed(folder):
+            program = folder / "g1pause"
+            program.write_text(f"#!/bin/sh\nexec '{unprivileged.python()}' -c '{self.ASKS.format(8)}'\n")
+            program.chmod(0o755)
+            return real_traces.first_noticed(str(program), "lru_cache", [1])
+        self.assertEqual(self.run_in(noticed), "trace 1: status 8 ")
+
+
 class SignsOfLife(unittest.TestCase):
     """What a script of two cases and of four requests each says while it works, a line each tenth of a second."""
 
@@ -867,7 +798,7 @@ class Scripts(unittest.TestCase):
 
     def test_each_says_what_it_wants(self):
         for path in self.scripts:
-            if path.name in ("build_judge.py", "test_bench.py", "test_hprof.py", "test_planted.py", "test_tools.py"):  # they want nothing
+            if path.name in ("build_judge.py", "test_bench.py", "test_hprof.py", "test_images.py", "test_planted.py", "test_tools.py"):  # they want nothing
                 continue
             with self.subTest(path.name):
                 status, out, errors = self.run_script(path)

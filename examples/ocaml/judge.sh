@@ -7,8 +7,8 @@ judge.sh [DEPTH]
 
 Judges OCaml's minor collection, major collection and compaction on the heap of judge.ml, with trees of DEPTH levels
 (3 to 18, by default 16). It needs ocamlopt (4.13 or later 4.x) and g1heap on the path.
-Statuses: 0 done; 1 a collection changed what the program can see, or the change that the program itself makes at the
-end is not found; 2 usage, no such ocamlopt or no g1heap.
+Statuses: 0 done; 1 a collection changed what the program can see, none moved an object, or the change that the program
+itself makes at the end is not found; 2 usage, no such ocamlopt or no g1heap.
 END
     exit 0
 fi
@@ -39,17 +39,27 @@ ocamlopt -ccopt -O2 -o judge walk_stubs.c judge.ml
 # The walk writes the objects in the same order each time, so line N of both files is the same object. Its name is its
 # address.
 moved() {
-    paste -d ' ' before.names "$1.names" | awk '$1 != $2' | wc -l
+    paste -d ' ' "$1.names" "$2.names" | awk '$1 != $2' | wc -l
 }
 for name in before minor major compact changed; do
     awk '$1 == "object" { print $2 }' "$name.txt" > "$name.names"
 done
 
+# Each heap is compared with the one before it: so a collection's moves are its own.
 status=0
+last=before
+moves=0
 for name in minor major compact; do
-    verdict=$(g1heap same before.txt "$name.txt") || status=1
-    echo "$name: $(moved "$name") objects moved: $verdict"
+    verdict=$(g1heap same "$last.txt" "$name.txt") || status=1
+    count=$(moved "$last" "$name")
+    moves=$((moves + count))
+    echo "$name: $count objects moved: $verdict"
+    last=$name
 done
+if [ $moves -eq 0 ]; then
+    echo "judged nothing: no collection moved an object"
+    status=1
+fi
 found=0
 verdict=$(g1heap same before.txt changed.txt) || found=$?
 echo "changed: $verdict"

@@ -2,18 +2,14 @@
 
 Cards move from the sets into the log, some stay in both, and stale ones are added. Of some images a card is lost.
 """
-from heap_image import FIRST, FREE, ORDINARY, drawn
-
-
-def used_cards(image):
-    per = image.region_words // image.card_words
-    return [c for r in range(image.regions) if image.kinds[r] != FREE for c in range(r * per, (r + 1) * per)]
+from heap_image import FIRST, ORDINARY
+from random_heaps import cards_in_use, drawn
 
 
 def draw_cover(rng, image):
     """Covers each reference by a remembered card or by a dirty one."""
     image.make_exact()
-    cards, log = used_cards(image), set()
+    cards, log = cards_in_use(image), set()
     per = image.region_words // image.card_words
     for region in range(image.regions):
         if image.kinds[region] in (ORDINARY, FIRST):

@@ -1,4 +1,4 @@
-"""Heap images for the scripts of this folder: read, written, drawn at random, and walked.
+"""Heap images for the scripts of this folder: read, written and walked. Those at random are in random_heaps.py.
 
 It stands apart from the program that the scripts try. docs/IMAGE.md has the format.
 """
@@ -116,80 +116,3 @@ def from_bytes(data):
         start = region * region_words
         image.words[start:start + top] = take(top, "Q")
     return image
-
-
-def drawn(rng, covered=False):
-    """A small image: objects of all shapes, dead ones, humongous ones, free regions, stale cards."""
-    width = rng.choice((16, 16, 32, 64))
-    image = Image(width, rng.choice([k for k in (4, 8, 16) if k <= width]), rng.randint(2, 24))
-    region = 0
-    while region < image.regions:
-        chance = rng.random()
-        if chance < 0.4:
-            region += 1
-        elif chance < 0.5:
-            region += place_humongous(rng, image, region)
-        else:
-            place_ordinary(rng, image, region)
-            region += 1
-    image.pinned = [kind == ORDINARY and rng.random() < 0.2 for kind in image.kinds]
-    link(rng, image)
-    image.make_exact()
-    if not covered:
-        disturb(rng, image)
-    return image
-
-
-def draw_object(rng, image, address, size):
-    refs = rng.randint(0, min(size - 1, 6))
-    image.words[address] = size << 32 | refs
-    for place in image.content(address):
-        image.words[place] = rng.choice((0, 1, rng.randint(2, 9), rng.getrandbits(64)))
-
-
-def place_humongous(rng, image, region):
-    width = image.region_words
-    size = rng.randint(3 * width // 4 + 1, 3 * width)
-    run = -(-size // width)
-    if region + run > image.regions:
-        return 1
-    for i in range(run):
-        image.kinds[region + i] = CONTINUATION if i else FIRST
-        image.tops[region + i] = min(width, size - i * width)
-    draw_object(rng, image, region * width, size)
-    return run
-
-
-def place_ordinary(rng, image, region):
-    width, start, top = image.region_words, region * image.region_words, 0
-    while top == 0 or rng.random() < 0.85:
-        size = rng.randint(1, min(3 * width // 4, rng.choice((4, 8, 48))))
-        if top + size > width:
-            break
-        draw_object(rng, image, start + top, size)
-        top += size
-    image.kinds[region], image.tops[region] = ORDINARY, top
-
-
-def link(rng, image):
-    objects = list(image.objects())
-    for address in objects:
-        for slot in image.slots(address):
-            image.words[slot] = NULL if rng.random() < 0.3 else rng.choice(objects) + 1
-    image.roots = [rng.choice(objects) + 1 if objects and rng.random() < 0.8 else NULL
-                   for _ in range(rng.randint(0, 5))]
-
-
-def disturb(rng, image):
-    """Takes cards away and adds stale ones, draws a log and a current region."""
-    used = [r for r in range(image.regions) if image.kinds[r] != FREE]
-    cards = [c for r in used for c in range(r * image.region_words // image.card_words,
-                                            (r + 1) * image.region_words // image.card_words)]
-    image.log = rng.sample(cards, rng.randint(0, min(4, len(cards))))
-    for region in used:
-        if image.kinds[region] in (ORDINARY, FIRST):
-            others = [c for c in cards if c * image.card_words // image.region_words != region]
-            kept = {c for c in image.sets[region] if rng.random() < 0.8}
-            image.sets[region] = sorted(kept | set(rng.sample(others, rng.randint(0, min(2, len(others))))))
-    ordinary = [r for r in used if image.kinds[r] == ORDINARY]
-    image.current = rng.choice(ordinary) if ordinary and rng.random() < 0.5 else None

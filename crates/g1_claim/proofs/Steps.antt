@@ -11,8 +11,9 @@ use Rattle.atomic_table.proofs.Lists.{at_set, at_snoc, set_again, set_here, set_
 use Rattle.g1_claim.specs.declared.rule.Hand.{Hand}
 use Rattle.g1_claim.specs.declared.rule.Sight.{Sight}
 use Rattle.g1_claim.specs.Claims.{empty, offer, sight, least_rank, least_value, one_if, times_offered, times_won, IsWordOf, IsWonOnce, IsSettled, AreWon}
-use Rattle.g1_claim.specs.Rule.{hand, first_hand, hands_total, offers_at, wins_of, least_offered, AreBacked, IsWord, IsIdle, Claiming, Claimed, Sat, after_offer, after_sight, left_hand}
-use Rattle.g1_claim.specs.Rule.{right_hand, both_hands, spent_hand, Found, lowered, saw, looked, Won, Beaten, IsKnown}
+use Rattle.g1_claim.specs.Rule.{hand, first_hand, hands_total, offers_at, wins_of, least_offered, IsWord, after_offer, after_sight, left_hand, right_hand, both_hands, spent_hand}
+use Rattle.g1_claim.specs.Rule.{Leads, begin, place_offer, see, split, join, Claimed, Sat, Found, LeastBy, lowered, saw, looked, Won, Beaten, IsKnown}
+use Rattle.g1_claim.proofs.Kept.{AreBacked, IsIdle, Claiming}
 use Rattle.g1_claim.proofs.Totals.{least_rank_top, least_rank-append, least_value_top, least_value-append, times_offered-append, times_won-append, hands_total-set, hands_total-snoc}
 use Rattle.g1_claim.proofs.Totals.{total_le, lowest-set, lowest-set_top, lowest-snoc, lowest_le, lowest_top, shares_of, total_alone, lowest_alone, none_below_all, backed_on, backed-append}
 
@@ -337,6 +338,24 @@ module _ (v : Hand) (words : List ℕ) (vs : List Hand) (kept : Claiming words v
   pub known : IsKnown v
   known = (at_most_all, once_each, settled, seen)
 
+-- that holds after any interleaving, and there are as many words as places
+pub leads_keeps : (n : ℕ) (words : List ℕ) (hands : List Hand) → Leads n words hands → (length words ≡ n) × Claiming words hands
+leads_keeps n words hands begin = (length-replicate n empty, begins (replicate n empty) n refl)
+leads_keeps n _ _ (place_offer words hands k p r v before at some_share inside small) =
+    let kept = leads_keeps n words hands before in
+    let there = subst (λ m. p < m) (sym kept.0) inside in
+    (length-set words p (min (get_or words p 0) r) ∙ kept.0, offer_keeps words hands k v p r kept.1 at there small some_share)
+leads_keeps n _ _ (see words hands k p v before at some_share inside) =
+    let kept = leads_keeps n words hands before in
+    let there = subst (λ m. p < m) (sym kept.0) inside in
+    (kept.0, sight_keeps words hands k v p kept.1 at there some_share)
+leads_keeps n _ _ (split words hands k v before at two) =
+    let kept = leads_keeps n words hands before in
+    (kept.0, after_split words hands k v kept.1 at two)
+leads_keeps n _ _ (join words hands k other v u before at some_share apart there _) =
+    let kept = leads_keeps n words hands before in
+    (kept.0, after_join words hands k v other u kept.1 at apart (set_else hands k other (both_hands v u) apart ∙ there) some_share)
+
 -- the calls of the table
 
 within : (l : List Hand) (i : ℕ) (y : Hand) → get_elem? l i ≡ some y → i < length l
@@ -348,15 +367,17 @@ pub offers : (n slots id : ℕ) (me : Sat) (i r : ℕ) → 0 < me.0.shares → i
     → Allows (Claimed n) slots id me i (λ x. min x r) (lowered (step slots i r 0 none) me)
 offers n slots id me i r share place small s ruled _ at _ = let inside : i < length s.words = subst (λ (k : ℕ). i < k) (sym ruled.0) place in
     let w : Hand = after_offer me.0 i r (ltb r (get_or s.words i 0)) in
-    let after = offer_keeps s.words s.views id me.0 i r ruled.1 at inside small share in (
+    let after = place_offer s.words s.views id i r me.0 ruled.1 at share place small in
+    let kept = leads_keeps n (set s.words i (min (get_or s.words i 0) r)) (set s.views id w) after in
+    let here = subst (λ (k : ℕ). Leads k s.words s.views) (sym ruled.0) ruled.1 in (
       w,
       keeps,
       tt,
       (length-set s.words i (min (get_or s.words i 0) r) ∙ ruled.0, after),
       (
         refl,
-        (s.words, s.views, (ruled.1, (id, at)), inside, refl),
-        known w (set s.words i (min (get_or s.words i 0) r)) (set s.views id w) after id
+        (s.words, s.views, (here, (id, at)), inside, refl),
+        known w (set s.words i (min (get_or s.words i 0) r)) (set s.views id w) kept.1 id
             (set_here s.views id w (within s.views id me.0 at)),
       ),
     )
@@ -364,19 +385,21 @@ offers n slots id me i r share place small s ruled _ at _ = let inside : i < len
 pub looks : (n slots id : ℕ) (me : Sat) (i : ℕ) → 0 < me.0.shares → i < n → Allows (Claimed n) slots id me i (λ x. x) (saw (step slots i 0 0 none) me)
 looks n slots id me i share place s ruled _ at _ = let inside : i < length s.words = subst (λ (k : ℕ). i < k) (sym ruled.0) place in
     let x : ℕ = get_or s.words i 0 in let w : Hand = after_sight me.0 i x in let now : List Hand = set s.views id w in
-    let after = sight_keeps s.words s.views id me.0 i ruled.1 at inside share in (
+    let after = see s.words s.views id i me.0 ruled.1 at share place in
+    let kept = leads_keeps n s.words now after in
+    let here = subst (λ (k : ℕ). Leads k s.words s.views) (sym ruled.0) ruled.1 in (
       w,
       keeps,
       tt,
-      (length-set s.words i x ∙ ruled.0, subst (λ (ws : List ℕ). Claiming ws now) (sym (set_same s.words i inside)) after),
-      (refl, (s.words, s.views, (ruled.1, (id, at)), inside, refl), known w s.words now after id (set_here s.views id w (within s.views id me.0 at))),
+      (length-set s.words i x ∙ ruled.0, subst (λ (ws : List ℕ). Leads n ws now) (sym (set_same s.words i inside)) after),
+      (refl, (s.words, s.views, (here, (id, at)), inside, refl), known w s.words now kept.1 id (set_here s.views id w (within s.views id me.0 at))),
     )
 
 pub splits : (n id : ℕ) (v : Hand) → 1 < v.shares → Splits (Claimed n) id v (left_hand v) (right_hand v)
-splits n id v two s ruled at = (ruled.0, after_split s.words s.views id v ruled.1 at two)
+splits n id v two s ruled at = (ruled.0, split s.words s.views id v ruled.1 at two)
 
-pub joins : (n id : ℕ) (v : Hand) (other : ℕ) (u : Hand) → 0 < v.shares → Joins (Claimed n) id v other u (both_hands v u) spent_hand
-joins n id v other u share s ruled at two at' = (ruled.0, after_join s.words s.views id v other u ruled.1 at two at' share)
+pub joins : (n id : ℕ) (v : Hand) (other : ℕ) (u : Hand) → 0 < v.shares → 0 < u.shares → Joins (Claimed n) id v other u (both_hands v u) spent_hand
+joins n id v other u share more s ruled at two at' = (ruled.0, join s.words s.views id other v u ruled.1 at share two (sym (set_else s.views id other (both_hands v u) two) ∙ at') more)
 
 pub stands : (n slots id : ℕ) (me : Sat) → 0 < n → Allows (Claimed n) slots id me 0 (λ x. x) (looked (step slots 0 0 0 none) me)
 stands n slots id me some_word s ruled _ at _ = let inside : 0 < length s.words = subst (λ (k : ℕ). 0 < k) (sym ruled.0) some_word in
@@ -384,9 +407,13 @@ stands n slots id me some_word s ruled _ at _ = let inside : 0 < length s.words 
       me.0,
       keeps,
       tt,
-      subst (λ (z : List ℕ × List Hand). (length z.0 ≡ n) × Claiming z.0 z.1) (λ i. (sym same i, sym alike i)) ruled,
-      (refl, known me.0 s.words s.views ruled.1 id at),
+      subst (λ (z : List ℕ × List Hand). (length z.0 ≡ n) × Leads n z.0 z.1) (λ i. (sym same i, sym alike i)) ruled,
+      (refl, known me.0 s.words s.views (leads_keeps n s.words s.views ruled.1).1 id at),
     )
+
+-- a new table keeps its rule
+pub opens : (words : List ℕ) (n : ℕ) → words ≡ replicate n empty → (length words ≡ n) × Leads n words (first_hand ∷ [])
+opens words n is = (ap length is ∙ length-replicate n empty, subst (λ (ws : List ℕ). Leads n ws (first_hand ∷ [])) (sym is) begin)
 
 -- what is known of a new seat, and of the two that a split makes
 pub first_known : IsKnown first_hand
@@ -401,17 +428,20 @@ right_known v = (omega arith, (λ p r. omega arith), (λ all. absurd (omega arit
 -- what callers learn of a step
 
 pub found_floor : (v : Hand) (p n : ℕ) → Found v p n → n ≤ least_value p v.known
-found_floor v p n f = let h = f.2.0.floors f.2.1.0 v f.2.1.1 p f.3 in let e = f.4 in omega arith
+found_floor v p n f = let h = (leads_keeps (length f.0) f.0 f.1 f.2.0).1.floors f.2.1.0 v f.2.1.1 p f.3 in let e = f.4 in omega arith
 
 pub found_word : (v : Hand) (p n : ℕ) → Found v p n → v.shares ≡ 64 → IsWordOf p n v.offers
-found_word v p n f whole = subst (λ (k : ℕ). IsWordOf p k v.offers) f.4 (word_of v f.0 f.1 f.2.0 f.2.1.0 f.2.1.1 whole p f.3)
+found_word v p n f whole = subst (λ (k : ℕ). IsWordOf p k v.offers) f.4 (word_of v f.0 f.1 (leads_keeps (length f.0) f.0 f.1 f.2.0).1 f.2.1.0 f.2.1.1 whole p f.3)
 
 pub found_won : (v : Hand) (p n : ℕ) → Found v p n → (n ≡ empty) ⊎ Won v p n
-found_won v p n f = let w : IsWord p n f.1 = subst (λ (k : ℕ). IsWord p k f.1) f.4 (f.2.0.words_least p f.3) in
+found_won v p n f = let w : IsWord p n f.1 = subst (λ (k : ℕ). IsWord p k f.1) f.4 ((leads_keeps (length f.0) f.0 f.1 f.2.0).1.words_least p f.3) in
     ⊎_elim (λ (e : (n ≡ empty) × (offers_at p f.1 ≡ 0)). inl e.0) (λ (e : wins_of p n f.1 ≡ 1). inr (f.0, f.1, f.2, e)) w.1
 
 pub found_beaten : (v : Hand) (p n r : ℕ) → Found v p n → n ≤ r → r < 2 ^ 32 → Beaten v p r
 found_beaten v p n r f le small = (n, le, ⊎_elim (λ (e : n ≡ empty). absurd (omega arith)) (λ (w : Won v p n). w) (found_won v p n f))
+
+pub found_least : (v : Hand) (p n : ℕ) → Found v p n → LeastBy v p n
+found_least v p n f = (f.0, f.1, f.2, f.3, sym f.4 ∙ ((leads_keeps (length f.0) f.0 f.1 f.2.0).1.words_least p f.3).0)
 
 pub read_word : (l : List ℕ) (i n : ℕ) → get_elem? l i ≡ some n → get_or l i 0 ≡ n
 read_word [] i n e = absurd (some-ne-none n (sym e))

@@ -8,7 +8,8 @@ use Rattle.g1_claim.specs.declared.rule.Offer.{Offer}
 use Rattle.g1_claim.specs.declared.rule.Sight.{Sight}
 use Rattle.g1_claim.specs.declared.rule.Hand.{Hand}
 use Rattle.g1_claim.specs.Claims.{empty, least_rank, least_value, one_if, times_offered, times_won}
-use Rattle.g1_claim.specs.Rule.{hands_total, lowest, wins_of, least_offered, AreBacked}
+use Rattle.g1_claim.specs.Rule.{hands_total, lowest, wins_of, least_offered}
+use Rattle.g1_claim.proofs.Kept.{AreBacked}
 
 -- the lists of one seat
 

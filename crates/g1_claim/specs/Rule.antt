@@ -1,12 +1,12 @@
 -- The rule of the claim words, and what each step on one tells.
-use Rattle.std.specs.Prelude.{◌≡◌, ℕ, ◌+◌, ◌-◌, ◌<◌, ◌≤◌, Bool, ltb, min, List, [], ◌∷◌, ◌++◌, length, slice_index, ◌⊎◌}
+use Rattle.std.specs.Prelude.{◌≡◌, ◌≢◌, ℕ, ◌+◌, ◌-◌, ◌<◌, ◌≤◌, ◌^◌, Bool, ltb, min, List, [], ◌∷◌, ◌++◌, set, replicate, length, slice_index, ◌⊎◌}
 use mathlib.Core.Option.{some}
 use lib.ListN.{get_elem?}
 use Rattle.atomic_table.specs.Table.{State, Me, Step}
 use Rattle.g1_claim.specs.declared.rule.Offer.{Offer}
 use Rattle.g1_claim.specs.declared.rule.Sight.{Sight}
 use Rattle.g1_claim.specs.declared.rule.Hand.{Hand}
-use Rattle.g1_claim.specs.Claims.{all_shares, empty, offer, sight, least_rank, least_value, times_offered, times_won, IsWonOnce, IsSettled, AreWon}
+use Rattle.g1_claim.specs.Claims.{all_shares, empty, offer, sight, least_rank, times_offered, times_won, IsWonOnce, IsSettled, AreWon}
 
 -- a hand with these parts
 abbrev pub hand : ℕ → List Offer → List Sight → List Sight → Hand
@@ -42,39 +42,6 @@ least_offered p vs = lowest (λ v. least_rank p v.offers) vs
 abbrev pub IsWord : ℕ → ℕ → List Hand → Type 0
 IsWord p w vs = (w ≡ least_offered p vs) × (((w ≡ empty) × (offers_at p vs ≡ 0)) ⊎ (wins_of p w vs ≡ 1))
 
--- each sight is empty or a rank with which some hand's offer there answered true
-abbrev pub AreBacked : List Sight → List Hand → Type 0
-AreBacked [] vs = Unit {0}
-AreBacked (s ∷ ss) vs = ((s.value ≡ empty) ⊎ (wins_of s.place s.value vs ≡ 1)) × AreBacked ss vs
-
--- a hand that has no share has offered and seen nothing
-abbrev pub IsIdle : Hand → Type 0
-IsIdle v = (v.offers ≡ []) × (v.sights ≡ [])
-
--- between any two steps, over the hands of all seats that ever were, dropped ones too: together they have all shares;
--- each word is the least rank offered at its place, or empty, and nobody offered at other places; at no place two offers of
--- one rank answered true; no word is above what a hand knows of it; a hand without shares has offered and seen nothing;
--- what a hand saw is empty or an offer that answered true
-pub record Claiming (words : List ℕ) (views : List Hand) : Type 0 where
-  pub shares : hands_total (λ v. v.shares) views ≡ all_shares
-  pub idle : (k : ℕ) (v : Hand) → get_elem? views k ≡ some v → v.shares ≡ 0 → IsIdle v
-  pub words_least : (p : ℕ) → p < length words → IsWord p (slice_index words p) views
-  pub outside : (p : ℕ) → length words ≤ p → offers_at p views ≡ 0
-  pub once : (p r : ℕ) → wins_of p r views ≤ 1
-  pub floors : (k : ℕ) (v : Hand) → get_elem? views k ≡ some v → (p : ℕ) → p < length words → slice_index words p ≤ least_value p v.known
-  pub backed : (k : ℕ) (v : Hand) → get_elem? views k ≡ some v → AreBacked v.sights views
-
-abbrev pub Shelf : Type 0
-Shelf = State (Unit {0}) Hand
-
--- a seat: its hand, and no slots
-abbrev pub Sat : Type 0
-Sat = Me (Unit {0}) Hand
-
--- the rule of a table of so many words
-abbrev pub Claimed : ℕ → Shelf → Type 0
-Claimed n s = (length s.words ≡ n) × Claiming s.words s.views
-
 -- the hand after an offer
 abbrev pub after_offer : Hand → ℕ → ℕ → Bool → Hand
 after_offer v p r b = hand v.shares (v.offers ++ offer p r b ∷ []) v.sights (v.known ++ sight p r ∷ [])
@@ -99,13 +66,45 @@ both_hands v w = hand (v.shares + w.shares) (v.offers ++ w.offers) (v.sights ++ 
 abbrev pub spent_hand : Hand
 spent_hand = hand 0 [] [] []
 
--- words and hands between two steps, this hand among them
+-- Some interleaving leads to these words of a table of n places, and to these hands of all seats that ever were. At first each word is
+-- empty, and one seat has all shares. Each step is made by a seat k that isn't gone, whose hand is v: it offers the rank r at the place p, which
+-- lowers the word to r if it was above; it sees the word at p; it hands a share to a new seat; or it takes what another seat that isn't gone has,
+-- which is gone then.
+pub data Leads (n : ℕ) : List ℕ → List Hand → Type 0 where
+  begin : Leads n (replicate n empty) (first_hand ∷ [])
+  place_offer : (words : List ℕ) (hands : List Hand) (k p r : ℕ) (v : Hand) → Leads n words hands → get_elem? hands k ≡ some v → 0 < v.shares → p < n → r < 2 ^ 32 →
+      Leads n (set words p (min (slice_index words p) r)) (set hands k (after_offer v p r (ltb r (slice_index words p))))
+  see : (words : List ℕ) (hands : List Hand) (k p : ℕ) (v : Hand) → Leads n words hands → get_elem? hands k ≡ some v → 0 < v.shares → p < n →
+      Leads n words (set hands k (after_sight v p (slice_index words p)))
+  split : (words : List ℕ) (hands : List Hand) (k : ℕ) (v : Hand) → Leads n words hands → get_elem? hands k ≡ some v → 1 < v.shares →
+      Leads n words (set hands k (left_hand v) ++ right_hand v ∷ [])
+  join : (words : List ℕ) (hands : List Hand) (k other : ℕ) (v u : Hand) → Leads n words hands → get_elem? hands k ≡ some v → 0 < v.shares →
+      other ≢ k → get_elem? hands other ≡ some u → 0 < u.shares →
+      Leads n words (set (set hands k (both_hands v u)) other spent_hand)
+
+-- the table's words, and the hands of all seats that ever were, dropped ones too
+abbrev pub Shelf : Type 0
+Shelf = State (Unit {0}) Hand
+
+-- a seat: its hand, and no slots
+abbrev pub Sat : Type 0
+Sat = Me (Unit {0}) Hand
+
+-- the rule of a table of so many words: some interleaving of its seats' steps leads to its words and to their hands
+abbrev pub Claimed : ℕ → Shelf → Type 0
+Claimed n s = (length s.words ≡ n) × Leads n s.words s.views
+
+-- words and hands that some interleaving leads to, this hand among them
 abbrev pub Moment : Hand → List ℕ → List Hand → Type 0
-Moment v words views = Claiming words views × ((k : ℕ) × (get_elem? views k ≡ some v))
+Moment v words views = Leads (length words) words views × ((k : ℕ) × (get_elem? views k ≡ some v))
 
 -- the step found the word n at the place
 abbrev pub Found : Hand → ℕ → ℕ → Type 0
 Found v p n = (words : List ℕ) × (views : List Hand) × Moment v words views × (p < length words) × (slice_index words p ≡ n)
+
+-- n is the least rank that all seats have offered at the place so far, or empty, at a moment that some interleaving leads to
+abbrev pub LeastBy : Hand → ℕ → ℕ → Type 0
+LeastBy v p n = (words : List ℕ) × (views : List Hand) × Moment v words views × (p < length words) × (n ≡ least_offered p views)
 
 -- an offer of r at the place, by some seat, had answered true
 abbrev pub Won : Hand → ℕ → ℕ → Type 0

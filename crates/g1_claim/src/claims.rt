@@ -2,7 +2,7 @@ ghost use Rattle.std.specs.Prelude.{◌≡◌, ℕ, ◌+◌, ◌-◌, ◌<◌, �
 ghost use Rattle.g1_words.specs.declared.fault.Fault.TheVariants.{Memory};
 ghost use Rattle.g1_words.specs.Geometry.{most_words};
 ghost use Rattle.g1_claim.specs.Claims.{all_shares, IsSeatOf, least_rank, least_value, IsWordOf, IsSettled, IsWonOnce, AreWon};
-ghost use Rattle.g1_claim.specs.Rule.{first_hand, after_offer, after_sight, left_hand, right_hand, both_hands, Found, Won, Beaten};
+ghost use Rattle.g1_claim.specs.Rule.{first_hand, after_offer, after_sight, left_hand, right_hand, both_hands, Found, LeastBy, Won, Beaten};
 
 use crate::rule::{BothHands, Hand, LeastWins, Look, Lower, OneShare, See};
 use atomic_table::{Seat, Table};
@@ -85,7 +85,8 @@ impl Claims {
         Ok((claims, seat))
     }
 
-    /// Offers a rank at a place. The answer is true exactly if this step lowered the word.
+    /// Offers a rank at a place. The answer is true exactly if this step lowered the word: if the rank
+    /// is below all that were offered there before, by whatever seats.
     ///
     /// It is one `fetch_min` on the word.
     pub fn offer(&self, seat: &mut ClaimSeat, place: u64, rank: u64) -> bool
@@ -95,6 +96,7 @@ impl Claims {
         ensures table { IsSeatOf self.now seat.new }
         ensures offered { seat.new.hand ≡ after_offer seat.old.hand place rank result }
         ensures lowered { (n : ℕ) × Found seat.old.hand place n × (result ≡ ltb rank n) }
+        ensures so_far { (n : ℕ) × LeastBy seat.old.hand place n × (result ≡ ltb rank n) }
         ensures below_known { IsTrue result → rank < least_value place seat.old.hand.known }
         ensures beaten { IsFalse result → Beaten seat.old.hand place rank }
         ensures least { seat.old.hand.shares ≡ all_shares → (IsTrue result ↔ (rank < least_rank place seat.old.hand.offers)) }
@@ -109,7 +111,7 @@ impl Claims {
         rank < found
     }
 
-    /// The least rank offered at a place so far, by whatever seats, or `EMPTY`.
+    /// The least rank that all seats have offered at a place when its word is read, or `EMPTY`.
     ///
     /// It is one load of the word.
     pub fn least(&self, seat: &mut ClaimSeat, place: u64) -> u64
@@ -118,6 +120,7 @@ impl Claims {
         ensures table { IsSeatOf self.now seat.new }
         ensures seen { seat.new.hand ≡ after_sight seat.old.hand place result }
         ensures found { Found seat.old.hand place result }
+        ensures so_far { LeastBy seat.old.hand place result }
         ensures won { (result ≡ EMPTY) ⊎ Won seat.old.hand place result }
         ensures known { result ≤ least_value place seat.old.hand.known }
         ensures least { seat.old.hand.shares ≡ all_shares → IsWordOf place result seat.old.hand.offers }

@@ -12,8 +12,9 @@
 //! 4. Seats are joined again. Once a seat has all 64 shares, each word is the least of the ranks
 //!    that this seat holds for its place, and closing the table with it gives the words.
 //!
-//! What holds of the words between any two steps is one definition, `Claiming` of `specs/Rule`.
-//! What a seat has offered and seen is in the proofs alone: the lists take no bytes.
+//! What holds of the words between any two steps is one definition, `Claimed` of `specs/Rule`: some
+//! interleaving of the seats' steps leads to them. What such interleavings come to are the laws in
+//! `laws`. What a seat has offered and seen is in the proofs alone: the lists take no bytes.
 #![tactic(auto)]
 
 mod claims;

@@ -10,9 +10,9 @@ impl Argument {
     /// What is wrong with a value that is no number of this argument's.
     pub fn refuse(&self, alloc: Global, value: &str) -> Result<Misuse, AllocError> {
         let shown = self.shown(alloc)?;
-        let range = self.range;
+        let (what, range) = (wrong_with(value), self.range);
         Ok(Misuse::Value(format!(in alloc;
-            "invalid value '{value}' for '{shown}': not a whole number ({range})"
+            "invalid value '{value}' for '{shown}': {what} ({range})"
         )?))
     }
 
@@ -21,6 +21,18 @@ impl Argument {
         let shown = self.shown(alloc)?;
         let other = other.shown(alloc)?;
         Ok(Misuse::Value(format!(in alloc; "'{shown}' needs '{other}'")?))
+    }
+}
+
+// What is wrong with a value that is no number of an argument's: only 0 is below any range.
+fn wrong_with(value: &str) -> &'static str {
+    let digits = value.trim_start_matches('0');
+    if value.is_empty() || digits.contains(|c: char| !c.is_ascii_digit()) {
+        "not a whole number"
+    } else if digits.is_empty() {
+        "too small"
+    } else {
+        "too large"
     }
 }
 

@@ -1,3 +1,6 @@
 pub mod Counts
+pub mod Kept
 pub mod Steps
+pub mod Moves
 pub mod Known
+pub mod Interleaving

@@ -1,16 +1,15 @@
--- Each step on the cursor keeps the rule.
-use Rattle.std.proofs.Common.{◌≡◌, ℕ, zero, suc, ◌+◌, ◌-◌, ◌%◌, ◌^◌, ◌<◌, ◌≤◌, ⊎_elim, ◌||◌, min, max, Bool, true, false, List, [], ◌∷◌, ◌++◌, length, get_or, set, sym, refl, ap, ◌∙◌, subst}
-use Rattle.std.proofs.Common.{arith, length-set, length-append, get_or-set_same, lt_of_not-le}
-use mathlib.Core.Logic.{dite}
-use mathlib.Core.Option.{none, some, some-injective, some-ne-none}
-use native.Mathlib.Decide.{dec_le}
+-- Each step on the cursor keeps what holds of it.
+use Rattle.std.proofs.Common.{◌≡◌, ℕ, zero, suc, ◌+◌, ◌-◌, ◌<◌, ◌≤◌, ⊎_elim, ◌||◌, min, max, Bool, true, false, List, [], ◌∷◌, ◌++◌, length, get_or, set, sym, refl, ap, ◌∙◌, subst}
+use Rattle.std.proofs.Common.{arith, length-append}
+use mathlib.Core.Option.{some, some-injective, some-ne-none}
 use lib.ListN.{get_elem?}
-use Rattle.atomic_table.specs.Table.{State, step, keeps, stepped, Allows, Splits, Joins, Final, Seen}
-use Rattle.atomic_table.proofs.Lists.{at_set, set_here, set_else, at_snoc}
+use Rattle.atomic_table.specs.Table.{State, Splits, Joins}
+use Rattle.atomic_table.proofs.Lists.{at_set, set_else, at_snoc}
 use Rattle.g1_deal.specs.declared.rule.Hand.{Hand}
 use Rattle.g1_deal.specs.Dealer.{times, once_below}
 use Rattle.g1_deal.proofs.Counts.{times_push, times_append, once_more, once_most}
-use Rattle.g1_deal.specs.Rule.{hands_total, weigh, IsSound, Dealing, Dealt, Sat, IsKnown, after_draw, after_none, after_look, drew, saw, looked, left_hand, right_hand, both_hands, spent_hand}
+use Rattle.g1_deal.proofs.Kept.{weigh, IsSound, Dealing}
+use Rattle.g1_deal.specs.Rule.{hands_total, IsKnown, after_draw, after_none, after_look, left_hand, right_hand, both_hands, spent_hand}
 
 total_set : (f : Hand → ℕ) (l : List Hand) (i : ℕ) (v w : Hand) → get_elem? l i ≡ some v → hands_total f (set l i w) + f v ≡ hands_total f l + f w
 total_set f [] i v w e = absurd (some-ne-none v (sym e))
@@ -21,7 +20,7 @@ total_snoc : (f : Hand → ℕ) (l : List Hand) (w : Hand) → hands_total f (l 
 total_snoc f [] w = omega arith
 total_snoc f (x ∷ xs) w = let r = total_snoc f xs w in omega arith
 
-total_at : (f : Hand → ℕ) (l : List Hand) (i : ℕ) (v : Hand) → get_elem? l i ≡ some v → f v ≤ hands_total f l
+pub total_at : (f : Hand → ℕ) (l : List Hand) (i : ℕ) (v : Hand) → get_elem? l i ≡ some v → f v ≤ hands_total f l
 total_at f [] i v e = absurd (some-ne-none v (sym e))
 total_at f (x ∷ xs) zero v e = let is : f x ≡ f v = ap f (some-injective x v e) in omega arith
 total_at f (x ∷ xs) (suc i) v e = let r = total_at f xs i v e in omega arith
@@ -30,7 +29,7 @@ weigh_le : (b : Bool) (n : ℕ) → weigh b n ≤ n
 weigh_le true n = omega arith
 weigh_le false n = omega arith
 
-total_weigh : (l : List Hand) → hands_total (λ v. weigh v.had_none v.shares) l ≤ hands_total (λ v. v.shares) l
+pub total_weigh : (l : List Hand) → hands_total (λ v. weigh v.had_none v.shares) l ≤ hands_total (λ v. v.shares) l
 total_weigh [] = omega arith
 total_weigh (x ∷ xs) = let r = total_weigh xs in let h = weigh_le x.had_none x.shares in omega arith
 
@@ -40,7 +39,7 @@ total_none f [] idle e = refl
 total_none f (x ∷ xs) idle e = let r = total_none f xs (λ i u h z. idle (suc i) u h z) (omega arith) in let here = idle zero x refl (omega arith) in omega arith
 
 -- where one hand has all shares, it has all of f
-total_whole : (f : Hand → ℕ) (l : List Hand) (i : ℕ) (v : Hand) → get_elem? l i ≡ some v → ((j : ℕ) (u : Hand) → get_elem? l j ≡ some u → u.shares ≡ 0 → f u ≡ 0)
+pub total_whole : (f : Hand → ℕ) (l : List Hand) (i : ℕ) (v : Hand) → get_elem? l i ≡ some v → ((j : ℕ) (u : Hand) → get_elem? l j ≡ some u → u.shares ≡ 0 → f u ≡ 0)
     → hands_total (λ u. u.shares) l ≡ v.shares → hands_total f l ≡ f v
 total_whole f [] i v e idle all = absurd (some-ne-none v (sym e))
 total_whole f (x ∷ xs) zero v e idle all = let is : x ≡ v = some-injective x v e in let same : f x ≡ f v = ap f is in let shares : x.shares ≡ v.shares = ap (λ (u : Hand). u.shares) is in
@@ -73,13 +72,13 @@ updated chunks n m views id v w d at shares draws count steps bound le sound = r
       (λ t. sound_later chunks (min n chunks) (min m chunks) u le (d.each j u t.1)) (at_set views id j w u e));
 }
 
-there : (l : List Hand) (i : ℕ) (v : Hand) → get_elem? l i ≡ some v → i < length l
+pub there : (l : List Hand) (i : ℕ) (v : Hand) → get_elem? l i ≡ some v → i < length l
 there [] i v e = absurd (some-ne-none v (sym e))
 there (x ∷ xs) zero v e = omega arith
 there (x ∷ xs) (suc i) v e = let r = there xs i v e in omega arith
 
 -- what the rule tells of one hand
-known_at : (chunks n : ℕ) (views : List Hand) (id : ℕ) (v : Hand) → Dealing chunks n views → get_elem? views id ≡ some v → 0 < v.shares → IsKnown v
+pub known_at : (chunks n : ℕ) (views : List Hand) (id : ℕ) (v : Hand) → Dealing chunks n views → get_elem? views id ≡ some v → 0 < v.shares → IsKnown v
 known_at chunks n views id v d at part =
     let sound = d.each id v at in
     let is : v.chunks ≡ chunks = sound.chunks_is part in
@@ -98,11 +97,12 @@ known_at chunks n views id v d at part =
           )),
     )
 
-placed : (chunks m id : ℕ) (s : State (Unit {0}) Hand) (me : Sat) (w : Hand) → length s.words ≡ 1 → Dealing chunks m (set s.views id w) → Dealt chunks (stepped s 0 m id me.1 w keeps)
-placed chunks m id s me w wide d = (length-set s.words 0 m ∙ wide, subst (λ (z : ℕ). Dealing chunks z (set s.views id w)) (sym (get_or-set_same s.words 0 m 0 (omega arith))) d)
+-- what holds of a table
+abbrev pub Keeps : ℕ → State (Unit {0}) Hand → Type 0
+Keeps chunks s = (length s.words ≡ 1) × Dealing chunks (get_or s.words 0 0) s.views
 
 -- the hand after a draw, and the rule
-draws_one : (chunks n id : ℕ) (views : List Hand) (v : Hand) → Dealing chunks n views → get_elem? views id ≡ some v → 0 < v.shares →
+pub draws_one : (chunks n id : ℕ) (views : List Hand) (v : Hand) → Dealing chunks n views → get_elem? views id ≡ some v → 0 < v.shares →
     v.had_none ≡ false → n < chunks → Dealing chunks (n + 1) (set views id (after_draw v n))
 draws_one chunks n id views v d at part fresh lt =
     let sound = d.each id v at in let before : min n chunks ≡ n = omega arith in let after : min (n + 1) chunks ≡ n + 1 = omega arith in
@@ -115,7 +115,7 @@ draws_one chunks n id views v d at part fresh lt =
     (omega arith)
     record { chunks_is = sound.chunks_is; idle_draws = (λ z. absurd (omega arith)); idle_steps = (λ z. absurd (omega arith)); floor_seen = (omega arith); none_is_end = (λ h. cc) }
 
-draws_none : (chunks n id : ℕ) (views : List Hand) (v : Hand) → Dealing chunks n views → get_elem? views id ≡ some v → 0 < v.shares →
+pub draws_none : (chunks n id : ℕ) (views : List Hand) (v : Hand) → Dealing chunks n views → get_elem? views id ≡ some v → 0 < v.shares →
     v.had_none ≡ false → chunks ≤ n → Dealing chunks (n + 1) (set views id (after_none v))
 draws_none chunks n id views v d at part fresh le =
     let sound = d.each id v at in let before : min n chunks ≡ chunks = omega arith in let after : min (n + 1) chunks ≡ chunks = omega arith in
@@ -129,70 +129,13 @@ draws_none chunks n id views v d at part fresh le =
     (omega arith)
     record { chunks_is = sound.chunks_is; idle_draws = (λ z. absurd (omega arith)); idle_steps = (λ z. absurd (omega arith)); floor_seen = (omega arith); none_is_end = (λ h. is) }
 
-pub takes : (chunks slots id : ℕ) (me : Sat) → 0 < me.0.shares → me.0.had_none ≡ false → Allows (Dealt chunks) slots id me 0 (λ n. (n + 1) % 2 ^ 64) (drew (step slots 0 1 0 none) me)
-takes chunks slots id me part fresh s r _ at _ =
-    let n : ℕ = get_or s.words 0 0 in let d : Dealing chunks n s.views = r.1 in let v : Hand = me.0 in let sound = d.each id v at in let is : v.chunks ≡ chunks = sound.chunks_is part in
-    let most = total_weigh s.views in let all = d.shares in let bound = d.bound in let few = d.few in let less : n + 1 ≡ (n + 1) % 18446744073709551616 = omega arith in
-    let here = there s.views id v at in let floor = sound.floor_seen in
-    dite (dec_le chunks n)
-    (λ le. let w : Hand = after_none v in let after = draws_none chunks n id s.views v d at part fresh le in (
-      w,
-      keeps,
-      tt,
-      subst (λ (z : ℕ). Dealt chunks (stepped s 0 z id me.1 w keeps)) less (placed chunks (n + 1) id s me w r.0 after),
-      ((λ lt. absurd (omega arith)), (λ _. refl), refl, known_at chunks (n + 1) (set s.views id w) id w after (set_here s.views id w here) part),
-    ))
-    (λ gt. let lt : n < chunks = lt_of_not-le gt in let w : Hand = after_draw v n in let after = draws_one chunks n id s.views v d at part fresh lt in (
-      w,
-      keeps,
-      tt,
-      subst (λ (z : ℕ). Dealt chunks (stepped s 0 z id me.1 w keeps)) less (placed chunks (n + 1) id s me w r.0 after),
-      ((λ _. (omega arith, refl)), (λ le. absurd (omega arith)), refl, known_at chunks (n + 1) (set s.views id w) id w after (set_here s.views id w here) part),
-    ))
-
 -- a load changes the floor alone
-looks_at : (chunks n id floor : ℕ) (views : List Hand) (v : Hand) → Dealing chunks n views → get_elem? views id ≡ some v → floor ≤ min n chunks →
+pub looks_at : (chunks n id floor : ℕ) (views : List Hand) (v : Hand) → Dealing chunks n views → get_elem? views id ≡ some v → floor ≤ min n chunks →
     v.floor ≤ floor → Dealing chunks n (set views id (after_look v floor))
 looks_at chunks n id floor views v d at le more =
     let sound = d.each id v at in let bound = d.bound in
     updated chunks n n views id v (after_look v floor) d at refl (λ x. refl) refl refl (omega arith) (omega arith)
     record { chunks_is = sound.chunks_is; idle_draws = sound.idle_draws; idle_steps = sound.idle_steps; floor_seen = le; none_is_end = (λ h. let e = sound.none_is_end h in omega arith) }
-
-pub sees : (chunks slots id : ℕ) (me : Sat) → 0 < me.0.shares → Allows (Dealt chunks) slots id me 0 (λ n. n) (saw (step slots 0 0 0 none) me)
-sees chunks slots id me part s r _ at _ =
-    let n : ℕ = get_or s.words 0 0 in let d : Dealing chunks n s.views = r.1 in let v : Hand = me.0 in let sound = d.each id v at in let is : v.chunks ≡ chunks = sound.chunks_is part in
-    let here = there s.views id v at in let floor = sound.floor_seen in let k : ℕ = min n v.chunks in let w : Hand = after_look v k in
-    let after = looks_at chunks n id k s.views v d at (omega arith) (omega arith) in (
-      w,
-      keeps,
-      tt,
-      placed chunks n id s me w r.0 after,
-      (
-        omega arith,
-        refl,
-        refl,
-        (λ all. sym (d.steps) ∙ total_whole (λ u. u.steps) s.views id v at (λ j u e z. (d.each j u e).idle_steps z) (d.shares
-            ∙ sym all)),
-        known_at chunks n (set s.views id w) id w after (set_here s.views id w here) part,
-      ),
-    )
-
-pub looks : (chunks slots id : ℕ) (me : Sat) → 0 < me.0.shares → Allows (Dealt chunks) slots id me 0 (λ n. n) (looked (step slots 0 0 0 none) me)
-looks chunks slots id me part s r _ at _ =
-    let n : ℕ = get_or s.words 0 0 in let d : Dealing chunks n s.views = r.1 in let v : Hand = me.0 in let sound = d.each id v at in
-    let here = there s.views id v at in let after = looks_at chunks n id v.floor s.views v d at sound.floor_seen (omega arith) in (
-      v,
-      keeps,
-      tt,
-      placed chunks n id s me v r.0 after,
-      (
-        refl,
-        refl,
-        (let most = total_at (λ u. u.shares) s.views id v at in let all = d.shares in
-            omega arith),
-        known_at chunks n s.views id v d at part,
-      ),
-    )
 
 weigh_split : (b : Bool) (n : ℕ) → 1 < n → weigh b (n - 1) + weigh b 1 ≡ weigh b n
 weigh_split true n h = omega arith
@@ -208,8 +151,8 @@ pub max_end : (b c : Bool) (x y n : ℕ) → (b || c) ≡ true → (b ≡ true �
 max_end true c x y n h f g lx ly = let e = f refl in omega arith
 max_end false c x y n h f g lx ly = let e = g h in omega arith
 
-pub splits : (chunks id : ℕ) (v : Hand) → 1 < v.shares → Splits (Dealt chunks) id v (left_hand v) (right_hand v)
-splits chunks id v two s r at =
+pub splits_kept : (chunks id : ℕ) (v : Hand) → 1 < v.shares → Splits (Keeps chunks) id v (left_hand v) (right_hand v)
+splits_kept chunks id v two s r at =
     let n : ℕ = get_or s.words 0 0 in let d : Dealing chunks n s.views = r.1 in let sound = d.each id v at in
     let a : Hand = left_hand v in let b : Hand = right_hand v in let l : List Hand = set s.views id a in (
       r.0,
@@ -243,8 +186,8 @@ splits chunks id v two s r at =
       },
     )
 
-pub joins : (chunks id other : ℕ) (v w : Hand) → 0 < v.shares → 0 < w.shares → v.floor ≤ v.chunks → w.floor ≤ w.chunks → Joins (Dealt chunks) id v other w (both_hands v w) spent_hand
-joins chunks id other v w p q fv fw s r at apart at' =
+pub joins_kept : (chunks id other : ℕ) (v w : Hand) → 0 < v.shares → 0 < w.shares → v.floor ≤ v.chunks → w.floor ≤ w.chunks → Joins (Keeps chunks) id v other w (both_hands v w) spent_hand
+joins_kept chunks id other v w p q fv fw s r at apart at' =
     let n : ℕ = get_or s.words 0 0 in let d : Dealing chunks n s.views = r.1 in let b : Hand = both_hands v w in let l : List Hand = set s.views id b in let e : Hand = spent_hand in
     let w_there : get_elem? s.views other ≡ some w = sym (set_else s.views id other b apart) ∙ at' in
     let sv = d.each id v at in let sw = d.each other w w_there in let iv : v.chunks ≡ chunks = sv.chunks_is p in let iw : w.chunks ≡ chunks = sw.chunks_is q in
@@ -282,15 +225,3 @@ joins chunks id other v w p q fv fw s r at apart at' =
             (at_set l other j e u h));
       },
     )
-
-get_or_here : (ws : List ℕ) (x : ℕ) → get_elem? ws 0 ≡ some x → x ≡ get_or ws 0 0
-get_or_here [] x e = absurd (some-ne-none x (sym e))
-get_or_here (y ∷ ys) x e = sym (some-injective y x e)
-
--- the last cursor is the steps of a seat that has all shares
-pub closes : (chunks id : ℕ) (v : Hand) (ws : List ℕ) (xs : List (Unit {0})) (cursor : ℕ) → Final (Seen (Dealt chunks) id v) ws xs → get_elem? ws 0 ≡ some cursor → v.shares ≡ 64 → cursor ≡ v.steps
-closes chunks id v ws xs cursor f at all =
-    let s = f.0 in let seen = f.1 in let d : Dealing chunks (get_or s.words 0 0) s.views = seen.0.1 in let is : s.words ≡ ws = f.2 in
-    let n : ℕ = get_or s.words 0 0 in
-    let steps : v.steps ≡ n = sym (total_whole (λ u. u.steps) s.views id v seen.1 (λ j u e z. (d.each j u e).idle_steps z) (d.shares ∙ sym all)) ∙ d.steps in
-    get_or_here ws cursor at ∙ (ap (λ (l : List ℕ). get_or l 0 0) (sym is) ∙ sym steps)

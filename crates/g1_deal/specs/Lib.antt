@@ -1,2 +1,3 @@
 pub mod Dealer
 pub mod Rule
+pub mod Interleaving

@@ -1,7 +1,7 @@
 ghost use Rattle.std.specs.Prelude.{◌≡◌, ℕ, ◌+◌, ◌-◌, ◌^◌, ◌<◌, ◌≤◌, ◌||◌, min, max, true, false, [], ◌∷◌, ◌++◌, length, IfOk, IfErr, IfSome, IfNone, IsTrue, IsNone};
 ghost use Rattle.g1_words.specs.declared.fault.Fault.TheVariants.{Memory};
 ghost use Rattle.g1_deal.specs.Dealer.{DealerView, dealer_view_coded, SeatView, seat_view_coded, all_shares, first_seat, IsSeatOf, IsEachBelow, IsOnceBelow};
-ghost use Rattle.g1_deal.specs.Rule.{IsKnown};
+ghost use Rattle.g1_deal.specs.Rule.{DrawnBy, IsKnown, hand_of};
 
 use crate::rule::{BothHands, Deal, Draw, Hand, Look, OneShare, See};
 use atomic_table::{Seat, Table};
@@ -83,7 +83,8 @@ impl Dealer {
 
     /// The next number below the count of chunks, or None if every one has been drawn.
     ///
-    /// It is one step on the cursor. A seat that has had None makes no further step, and answers
+    /// It is one step on the cursor: when it comes, all seats together have drawn the numbers below
+    /// this one, each once, and no others. A seat that has had None makes no further step, and answers
     /// None.
     pub fn take(&self, seat: &mut DealSeat) -> Option<u64>
         requires { IsSeatOf self.now seat.old }
@@ -91,6 +92,8 @@ impl Dealer {
         ensures not_known { IfSome result (λ n. seat.old.floor ≤ n) }
         ensures drawn { IfSome result (λ n. seat.new ≡ record seat.old { draws = seat.old.draws ++ n ∷ []; floor = n + 1; steps = seat.old.steps + 1 }) }
         ensures none { IfNone result (seat.new ≡ record seat.old { floor = self.now.chunks; steps = seat.new.steps; had_none = true }) }
+        ensures next { IfSome result (λ n. DrawnBy (hand_of seat.old) n) }
+        ensures end { IfNone result (seat.old.had_none ≡ false → DrawnBy (hand_of seat.old) self.now.chunks) }
         ensures one_step { seat.old.had_none ≡ false → seat.new.steps ≡ seat.old.steps + 1 }
         ensures no_step { IsTrue seat.old.had_none → seat.new.steps ≡ seat.old.steps }
         ensures stays_none { IsTrue seat.old.had_none → IsNone result }
@@ -111,12 +114,13 @@ impl Dealer {
         }
     }
 
-    /// How many chunks have been drawn, by all seats. It is one load of the cursor.
+    /// How many chunks have been drawn, by all seats, when the cursor is read. It is one load.
     pub fn drawn(&self, seat: &mut DealSeat) -> u64
         requires { IsSeatOf self.now seat.old }
         ensures known { seat.old.floor ≤ result }
         ensures below { result ≤ self.now.chunks }
         ensures floor { seat.new ≡ record seat.old { floor = result } }
+        ensures so_far { DrawnBy (hand_of seat.old) result }
         ensures count { seat.old.shares ≡ all_shares → result ≡ length seat.old.draws }
         ensures whole { seat.old.shares ≡ all_shares → IsEachBelow result seat.old.draws }
     {

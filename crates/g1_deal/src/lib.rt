@@ -12,11 +12,13 @@
 //! 4. Seats are joined again. The seat of all 64 shares has drawn each number once if it knows
 //!    that all are drawn, and closing the dealer with it gives the cursor.
 //!
-//! What holds of the cursor between any two steps is one definition, `Dealing` of `specs/Rule`.
-//! What a seat has drawn is in the proofs alone: the list takes no bytes.
+//! What holds of the cursor between any two steps is one definition, `Dealt` of `specs/Rule`: some
+//! interleaving of the seats' steps leads to it. What such interleavings come to are the laws in
+//! `laws`. What a seat has drawn is in the proofs alone: the list takes no bytes.
 #![tactic(auto)]
 
 mod dealer;
+pub mod laws;
 mod rule;
 
 pub use dealer::{DealSeat, Dealer, shares};

@@ -22,4 +22,4 @@ pub mod Searching
 pub mod Parts
 pub mod Leading
 pub mod Queues
-pub mod Listed
+pub mod Newness

@@ -1,7 +1,9 @@
 -- Offers, one after another.
-use Rattle.std.proofs.Common.{◌≡◌, ℕ, suc, ◌+◌, ◌^◌, ◌<◌, Bool, true, false, cond, List, [], ◌∷◌, ◌++◌, map, filter, flat_map, take, get_or, length, sym, refl, ap, ◌∙◌, subst, arith}
+use Rattle.std.proofs.Common.{◌≡◌, ℕ, suc, ◌+◌, ◌-◌, ◌^◌, ◌<◌, ◌≤◌, Bool, true, false, cond, List, [], ◌∷◌, ◌++◌, map, filter, flat_map, take, drop, get_or, length, sym, refl, ap, ◌∙◌, subst, arith}
 use Rattle.std.proofs.Common.{append_assoc, append-nil}
 use Rattle.std.proofs.lemmas.List.{map-append, take_more, flat_map_more}
+use Rattle.std.proofs.lemmas.List.Concat.{flat_map-append}
+use Rattle.std.proofs.Math.Seq.{take-add}
 use Rattle.g1_claim.specs.declared.rule.Offer.{Offer}
 use Rattle.g1_claim.specs.Claims.{offer, least_rank}
 use Rattle.g1_words.specs.Heap.{Heap}
@@ -67,6 +69,15 @@ module _ (place : ℕ → ℕ) where
   tried_more f xs n d a b c lt x y =
       subst (λ ps. HasTried place ps a c) (flat_map_more f [] (take n xs) (get_or xs n d) ∙ ap (flat_map f) (sym (take_more xs n d lt)))
       (tried_append (flat_map f (take n xs)) (f (get_or xs n d)) a b c x y)
+
+  -- the next ones of a list, up to another index
+  pub tried_next : {A : Type 0} (f : A → List (ℕ × ℕ)) (xs : List A) (from to : ℕ) → from ≤ to → (a b c : Holder) →
+      HasTried place (flat_map f (take from xs)) a b → HasTried place (flat_map f (take (to - from) (drop from xs))) b c → HasTried place (flat_map f (take to xs)) a c
+  tried_next f xs from to le a b c x y =
+      let sum : from + (to - from) ≡ to = omega (arith, le) in
+      subst (λ ps. HasTried place ps a c)
+      (sym (flat_map-append f (take from xs) (take (to - from) (drop from xs))) ∙ ap (flat_map f) (sym (take-add from (to - from) xs) ∙ ap (λ n. take n xs) sum))
+      (tried_append (flat_map f (take from xs)) (flat_map f (take (to - from) (drop from xs))) a b c x y)
 
 -- ---- what a word offers
 

@@ -52,6 +52,12 @@ first_items roots cards = root_items roots ++ map (λ c. Card c roots) cards
 abbrev pub slot_count : Heap → ℕ → ℕ
 slot_count h a = (object_at h a).refs
 
+-- how many slots the item's object has, 0 if the item is a root or a card
+abbrev pub item_slots : Heap → Item → ℕ
+item_slots h (Root i) = 0
+item_slots h (Card c b) = 0
+item_slots h (Object a b) = slot_count h a
+
 -- the objects at some addresses, their slots numbered on from a base
 abbrev pub object_items : Heap → ℕ → List ℕ → List Item
 object_items h base [] = []

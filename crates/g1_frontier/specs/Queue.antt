@@ -6,7 +6,6 @@ use Rattle.g1_words.specs.Heap.{word, slots}
 use Rattle.g1_words.specs.Lists.{has}
 use Rattle.g1_words.specs.Live.{Reached}
 use Rattle.g1_words.specs.Survivors.{firsts, seeds, children}
-use Rattle.g1_words.specs.Valid.{IsReference}
 use Rattle.g1_rem.specs.Slots.{slots_on}
 use Rattle.g1_frontier.specs.declared.queue.Queue.{Queue}
 use Rattle.g1_frontier.specs.declared.scope.Scope.{Scope}
@@ -32,11 +31,6 @@ pub record HasFound (s : Scope) (q : Queue) : Type 0 where
 pub record HasNoted (s : Scope) (more : List ℕ) (before after : Queue) : Type 0 where
   pub queue : HasFound s after
   pub found : after.found.items ≡ firsts (before.found.items ++ more)
-
--- more reference words are listed behind those before: in the window they reference these addresses, in order
-pub record HasListed (s : Scope) (more before after : List ℕ) : Type 0 where
-  pub named : flat_map (names_in s) after ≡ flat_map (names_in s) before ++ more
-  pub references : All (IsReference s.heap.now) after
 
 -- the first ones of what was found are searched: what was found are the seeds and their children, in order, and is reached
 pub record IsUnderWay (s : Scope) (n : ℕ) (q : Queue) : Type 0 where

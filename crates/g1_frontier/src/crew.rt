@@ -18,19 +18,14 @@ pub(crate) struct Crew<'a, R, G> {
 // each 2,048 items.
 const ITEMS_A_WORKER: usize = 2048;
 
-// The chunk of a caller who asks for no other. Who asks for another one wants rounds, and who asks for
-// a smaller one wants small rounds shared, too, as tests do that let two workers meet.
-const USUAL_CHUNK: u64 = 64;
-
-// With smaller chunks the first rounds of a call, which are all that a small heap has, may have two
-// workers for fewer items.
+// The first rounds of a call are all that a small heap has. They may have two workers for fewer
+// items, so that small heaps are shared, too.
 const ROUNDS_OF_TWO: u64 = 16;
 
 impl<'a, R: Threads + Sync, G: Gate + Sync> Crew<'a, R, G> {
-    /// Whether a search goes by rounds. With the usual chunk it doesn't: between two rounds one worker
-    /// merges what the others kept and lists the next items, which takes as long as to search alone.
+    /// Whether a search goes by rounds of claims: if it has several workers, who compete for objects.
     pub fn takes_rounds(&self) -> bool {
-        self.team.workers() > 1 && self.team.chunk() != USUAL_CHUNK
+        self.team.workers() > 1
     }
 
     /// Hires from the crew for a round of this many items.
@@ -39,8 +34,7 @@ impl<'a, R: Threads + Sync, G: Gate + Sync> Crew<'a, R, G> {
         ensures chunk { result.team.chunk ≡ self.now.team.chunk }
     {
         let fed = (items / ITEMS_A_WORKER) as u64;
-        let shared = self.team.chunk() < USUAL_CHUNK && round < ROUNDS_OF_TWO;
-        let fewest = if shared { 2 } else { 1 };
+        let fewest = if round < ROUNDS_OF_TWO { 2 } else { 1 };
         let workers = self.team.workers().min(fed.max(fewest));
         Crew {
             rt: self.rt,

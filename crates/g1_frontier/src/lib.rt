@@ -21,11 +21,14 @@
 //! 5. What a round found is the next round's items, until a round finds nothing. Since ranks rise
 //!    over all rounds, a place that has a word keeps it.
 //!
-//! With one worker, or with chunks of the usual size, there are no rounds, and no claim table. Several
-//! workers list the words on the cards that lead in, each for its part of the cards. Then one worker
-//! finds what is referenced in order, and marks it in one bit for each word of the window. What it has
-//! found is its queue: it reads the headers of the next objects in the queue at once, then their slots,
-//! and ends when nothing is left in the queue.
+//! The chunk says how many items a worker draws at once, and nothing else. A round hires one worker for
+//! each 2,048 items, and the first rounds at least two. A round of one worker, or of one chunk, makes
+//! the same offers and starts no thread.
+//!
+//! A worker alone competes with nobody, so it takes no rounds and no claim table. It finds what is
+//! referenced in order, and marks it in one bit for each word of the window. What it has found is its
+//! queue: it reads the headers of the next objects in the queue at once, then their slots, and ends when
+//! nothing is left in the queue.
 //!
 //! So the answer is the same for all workers and chunk sizes. A round takes memory in proportion to
 //! what it looks at and finds. A region's place in the window is in a table of four bytes
@@ -36,7 +39,6 @@
 mod crew;
 mod item;
 pub mod laws;
-mod leads;
 mod numbers;
 mod offering;
 mod queue;

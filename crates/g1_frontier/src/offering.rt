@@ -1,4 +1,4 @@
-ghost use Rattle.std.specs.Prelude.{◌≡◌, ◌<◌, ◌≤◌, ◌+◌, ◌*◌, ◌^◌, ◌++◌, ◌∷◌, [], ℕ, List, OnOk, IfErr, length, flat_map, slice_index, Contains, cond};
+ghost use Rattle.std.specs.Prelude.{◌≡◌, ◌<◌, ◌≤◌, ◌+◌, ◌*◌, ◌^◌, ◌++◌, ◌∷◌, [], ℕ, List, OnOk, IfErr, length, map, flat_map, slice_index, Contains, cond};
 ghost use Rattle.std.specs.List.{All};
 ghost use Rattle.g1_words.specs.declared.fault.Fault.TheVariants.{Memory};
 ghost use Rattle.g1_words.specs.Heap.{object_at, objects, word, slots};
@@ -7,7 +7,7 @@ ghost use Rattle.g1_rem.specs.Starts.{card_count};
 ghost use Rattle.g1_rem.specs.Slots.{slots_on};
 ghost use Rattle.g1_work.specs.Regions.{slice_of};
 ghost use Rattle.g1_claim.specs.Claims.{IsSeatOf};
-ghost use Rattle.g1_frontier.specs.Items.{IsItem, AreRanks};
+ghost use Rattle.g1_frontier.specs.Items.{IsItem, AreRanks, item_slots};
 ghost use Rattle.g1_frontier.specs.Scope.{IsScope, place_in, aims_in, pairs_in, all_pairs_in};
 ghost use Rattle.g1_frontier.specs.Offering.{HasTried};
 
@@ -15,7 +15,7 @@ use crate::item::Item;
 use crate::scope::Scope;
 use g1_claim::{ClaimSeat, Claims};
 use g1_rem::slots_on;
-use g1_words::Fault;
+use g1_words::{Fault, Heap};
 use g1_work::Task;
 use std::alloc::{AllocError, Global};
 
@@ -48,15 +48,43 @@ pub(crate) fn keep_if(
     Ok(())
 }
 
+// So many headers are read before the slots behind them, so that the processor waits for them
+// together. They are few enough to be in its nearest cache when their slots are read.
+pub(crate) const HEADERS_AHEAD: usize = 32;
+
+// How many slots the item's object has, 0 if the item is a root or a card.
+fn slots_of_item(heap: &Heap, item: Item) -> u64
+    requires { IsItem heap.now item }
+    ensures { result ≡ item_slots heap.now item }
+{
+    match item {
+        Item::Root { index: _ } => 0,
+        Item::Card { card: _, base: _ } => 0,
+        Item::Object { at, base: _ } => heap.object(at).refs,
+    }
+}
+
+// Reads how many slots the objects of some items have, one header beside the other.
+fn read_counts(heap: &Heap, items: &[Item], counts: &mut Vec<u64>) -> Result<(), AllocError>
+    requires { All (IsItem heap.now) items.now }
+    ensures { OnOk result (counts.new.items ≡ map (item_slots heap.now) items.now) }
+{
+    counts.clear();
+    for item in items {
+        counts.push(slots_of_item(heap, *item))?;
+    }
+    Ok(())
+}
+
 impl<'a> Offers<'a> {
-    ghost use Rattle.std.specs.Prelude.{◌≡◌, ◌<◌, ◌≤◌, ◌+◌, ◌-◌, ◌*◌, ◌^◌, ◌++◌, ◌∷◌, [], ℕ, List, OnOk, IfErr, length, flat_map, slice_index, Contains};
+    ghost use Rattle.std.specs.Prelude.{◌≡◌, ◌<◌, ◌≤◌, ◌+◌, ◌-◌, ◌*◌, ◌^◌, ◌++◌, ◌∷◌, [], ℕ, List, OnOk, IfErr, length, map, flat_map, slice_index, Contains};
     ghost use Rattle.std.specs.List.{All};
     ghost use Rattle.g1_words.specs.Heap.{object_at, objects, word, slots};
     ghost use Rattle.g1_words.specs.Valid.{IsReference};
     ghost use Rattle.g1_rem.specs.Starts.{card_count};
     ghost use Rattle.g1_rem.specs.Slots.{slots_on};
     ghost use Rattle.g1_claim.specs.Claims.{IsSeatOf};
-    ghost use Rattle.g1_frontier.specs.Items.{IsItem, AreRanks};
+    ghost use Rattle.g1_frontier.specs.Items.{IsItem, AreRanks, slot_count, item_slots};
     ghost use Rattle.g1_frontier.specs.Scope.{IsScope, place_in, aims_in, pairs_in, all_pairs_in};
     ghost use Rattle.g1_frontier.specs.Offering.{HasTried, HasPlaces};
 
@@ -108,28 +136,41 @@ impl<'a> Offers<'a> {
         Ok(())
     }
 
-    // Offers what the slots of an object reference in the window.
-    fn offer_object(&self, holder: &mut Holder, at: u64, base: u64) -> Result<(), AllocError>
+    // Offers what the slots of an object reference in the window. It has this many.
+    fn offer_object(
+        &self,
+        holder: &mut Holder,
+        at: u64,
+        base: u64,
+        refs: u64,
+    ) -> Result<(), AllocError>
         requires places { HasPlaces self.now.scope.now self.now.claims.now }
         requires seat { IsSeatOf self.now.claims.now holder.old.seat }
         requires object { Contains (objects self.now.scope.now.heap.now) (object_at self.now.scope.now.heap.now at) }
+        requires slots { refs ≡ slot_count self.now.scope.now.heap.now at }
         requires ranks { AreRanks (flat_map (λ p. aims_in self.now.scope.now (base + (p - (at + 1))) (word self.now.scope.now.heap.now p)) (slots (object_at self.now.scope.now.heap.now at))) }
         ensures { OnOk result (HasTried (place_in self.now.scope.now) (flat_map (λ p. aims_in self.now.scope.now (base + (p - (at + 1))) (word self.now.scope.now.heap.now p)) (slots (object_at self.now.scope.now.heap.now at))) holder.old holder.new) }
     {
         let words = self.scope.heap.words();
         let first = at + 1;
-        let refs = self.scope.heap.object(at).refs;
         for slot in first..first + refs {
             self.offer_named(holder, words[slot as usize], base, slot - first)?;
         }
         Ok(())
     }
 
-    // Offers what an item references in the window, in order.
-    fn offer_item(&self, alloc: Global, holder: &mut Holder, item: Item) -> Result<(), AllocError>
+    // Offers what an item references in the window, in order. Its object has this many slots.
+    fn offer_item(
+        &self,
+        alloc: Global,
+        holder: &mut Holder,
+        item: Item,
+        slots: u64,
+    ) -> Result<(), AllocError>
         requires places { HasPlaces self.now.scope.now self.now.claims.now }
         requires seat { IsSeatOf self.now.claims.now holder.old.seat }
         requires item { IsItem self.now.scope.now.heap.now item }
+        requires slots { slots ≡ item_slots self.now.scope.now.heap.now item }
         requires ranks { AreRanks (pairs_in self.now.scope.now item) }
         ensures { OnOk result (HasTried (place_in self.now.scope.now) (pairs_in self.now.scope.now item) holder.old holder.new) }
     {
@@ -139,8 +180,30 @@ impl<'a> Offers<'a> {
                 self.offer_named(holder, word, index, 0)
             }
             Item::Card { card, base } => self.offer_card(alloc, holder, card, base),
-            Item::Object { at, base } => self.offer_object(holder, at, base),
+            Item::Object { at, base } => self.offer_object(holder, at, base, slots),
         }
+    }
+
+    // Offers what the items of a batch reference in the window, in order. Their objects have these
+    // numbers of slots.
+    fn offer_batch(
+        &self,
+        alloc: Global,
+        holder: &mut Holder,
+        items: &[Item],
+        counts: &[u64],
+    ) -> Result<(), AllocError>
+        requires places { HasPlaces self.now.scope.now self.now.claims.now }
+        requires seat { IsSeatOf self.now.claims.now holder.old.seat }
+        requires items { All (IsItem self.now.scope.now.heap.now) items.now }
+        requires counts { counts.now ≡ map (item_slots self.now.scope.now.heap.now) items.now }
+        requires ranks { AreRanks (all_pairs_in self.now.scope.now items.now) }
+        ensures { OnOk result (HasTried (place_in self.now.scope.now) (all_pairs_in self.now.scope.now items.now) holder.old holder.new) }
+    {
+        for (index, item) in items.iter().enumerate() {
+            self.offer_item(alloc, holder, *item, counts[index])?;
+        }
+        Ok(())
     }
 
     // Offers what the items reference in the window, in order.
@@ -156,8 +219,14 @@ impl<'a> Offers<'a> {
         requires ranks { AreRanks (all_pairs_in self.now.scope.now items.now) }
         ensures { OnOk result (HasTried (place_in self.now.scope.now) (all_pairs_in self.now.scope.now items.now) holder.old holder.new) }
     {
-        for item in items {
-            self.offer_item(alloc, holder, *item)?;
+        let mut counts = Vec::with_capacity(alloc, HEADERS_AHEAD)?;
+        let mut from = 0;
+        while from < items.len() {
+            let to = items.len().min(from + HEADERS_AHEAD);
+            let batch = &items[from..to];
+            read_counts(self.scope.heap, batch, &mut counts)?;
+            self.offer_batch(alloc, holder, batch, counts.as_slice())?;
+            from = to;
         }
         Ok(())
     }

@@ -5,14 +5,11 @@ ghost use Rattle.g1_words.specs.Survivors.{Survivors};
 ghost use Rattle.g1_frontier.specs.Window.{AreCards, AreOutside, LeadIn};
 ghost use Rattle.g1_frontier.specs.Scope.{IsScope};
 
-use crate::leads::leads_on;
+use crate::offering::HEADERS_AHEAD;
 use crate::scope::Scope;
-use g1_rem::{SCANNED_CARDS_A_THREAD, slots_on};
+use g1_rem::slots_on;
 use g1_words::{Heap, Marks, Object};
-use g1_work::threads_for;
 use std::alloc::{AllocError, Global};
-use std::thread;
-use std::thread::Threads;
 
 /// What one worker has found, which is also the queue of what it searches.
 #[derive(Drop)]
@@ -21,10 +18,6 @@ pub struct Queue {
     /// A mark for each place, set if the object there was found.
     pub marks: Marks,
 }
-
-// So many headers are read before the slots behind them, so that the processor waits for them
-// together. They are few enough to be in its nearest cache when their slots are read.
-const HEADERS_AHEAD: usize = 32;
 
 // Reads the headers of the objects at these addresses, one load beside the other.
 fn read_headers(heap: &Heap, addresses: &[u64], ahead: &mut Vec<Object>) -> Result<(), AllocError>
@@ -46,7 +39,7 @@ impl Queue {
     ghost use Rattle.g1_rem.specs.Starts.{card_count};
     ghost use Rattle.g1_frontier.specs.Window.{AreCards, AreOutside, LeadIn};
     ghost use Rattle.g1_frontier.specs.Scope.{IsScope, names_in};
-    ghost use Rattle.g1_frontier.specs.Queue.{card_names, object_names, HasFound, HasNoted, HasListed, IsUnderWay};
+    ghost use Rattle.g1_frontier.specs.Queue.{card_names, object_names, HasFound, HasNoted, IsUnderWay};
 
     // Notes what a reference word references in the window: it is found, except if it was before.
     fn note(&mut self, scope: &Scope, word: u64) -> Result<(), AllocError>
@@ -110,62 +103,6 @@ impl Queue {
         Ok(())
     }
 
-    // As `note_cards`, by this many threads: each lists the words on its chunk of the cards that lead
-    // in, and this one notes what they reference.
-    fn note_cards_by_threads(
-        &mut self,
-        rt: &(impl Threads + Sync),
-        alloc: Global,
-        scope: &Scope,
-        cards: &[u32],
-        threads: usize,
-    ) -> Result<(), AllocError>
-        requires some { 0 < threads }
-        requires scope { IsScope scope.now }
-        requires queue { HasFound scope.now self.old }
-        requires cards { All (λ c. c < card_count scope.now.heap.now) cards.now }
-        ensures { OnOk result (HasNoted scope.now (flat_map (card_names scope.now) cards.now) self.old self.new) }
-    {
-        let size = cards.len().div_ceil(threads).max(1);
-        let parts = thread::map_chunks(
-            rt,
-            alloc,
-            cards,
-            size,
-            &|_start: usize, part: &[u32]| -> Result<Vec<u64>, AllocError>
-                requires { IsScope scope.now × All (λ c. c < card_count scope.now.heap.now) part.now }
-                ensures { IfOk result (λ v. HasListed scope.entry.now (flat_map (card_names scope.entry.now) part.now) [] v.items) }
-            { leads_on(alloc, scope, part) },
-        )?;
-        for part in &parts {
-            match part {
-                Ok(words) => self.note_words(scope, words)?,
-                Err(_) => return Err(AllocError),
-            }
-        }
-        Ok(())
-    }
-
-    // As `note_cards`, with this many workers at most. One if it is 0.
-    fn note_cards_by(
-        &mut self,
-        rt: &(impl Threads + Sync),
-        alloc: Global,
-        scope: &Scope,
-        cards: &[u32],
-        workers: u64,
-    ) -> Result<(), AllocError>
-        requires scope { IsScope scope.now }
-        requires queue { HasFound scope.now self.old }
-        requires cards { All (λ c. c < card_count scope.now.heap.now) cards.now }
-        ensures { OnOk result (HasNoted scope.now (flat_map (card_names scope.now) cards.now) self.old self.new) }
-    {
-        match threads_for(workers, cards.len(), SCANNED_CARDS_A_THREAD) {
-            1 => self.note_cards(alloc, scope, cards),
-            threads => self.note_cards_by_threads(rt, alloc, scope, cards, threads),
-        }
-    }
-
     // Notes what the slots of an object reference in the window.
     fn note_object(&mut self, scope: &Scope, object: &Object) -> Result<(), AllocError>
         requires scope { IsScope scope.now }
@@ -194,14 +131,8 @@ impl Queue {
         Ok(())
     }
 
-    // Finds what the roots and the slots on cards reference in the window, with this many workers at most.
-    fn begin(
-        rt: &(impl Threads + Sync),
-        alloc: Global,
-        scope: &Scope,
-        cards: &[u32],
-        workers: u64,
-    ) -> Result<Queue, AllocError>
+    // Finds what the roots and the slots on cards reference in the window.
+    fn begin(alloc: Global, scope: &Scope, cards: &[u32]) -> Result<Queue, AllocError>
         requires scope { IsScope scope.now }
         requires cards { AreCards scope.now.heap.now cards.now }
         requires outside { AreOutside scope.now.heap.now scope.now.window.now cards.now }
@@ -213,7 +144,7 @@ impl Queue {
             marks: Marks::none(alloc, scope.places() as usize)?,
         };
         queue.note_words(scope, scope.heap.roots())?;
-        queue.note_cards_by(rt, alloc, scope, cards, workers)?;
+        queue.note_cards(alloc, scope, cards)?;
         Ok(queue)
     }
 
@@ -238,13 +169,11 @@ impl Queue {
 }
 
 /// The survivors of the window of a scope, found by one worker, in the order in which a
-/// breadth-first search finds them. This many workers at most look at the slots on cards before it.
+/// breadth-first search finds them.
 pub(crate) fn search_alone(
-    rt: &(impl Threads + Sync),
     alloc: Global,
     scope: &Scope,
     cards: &[u32],
-    workers: u64,
 ) -> Result<Vec<u64>, AllocError>
     requires scope { IsScope scope.now }
     requires cards { AreCards scope.now.heap.now cards.now }
@@ -252,7 +181,7 @@ pub(crate) fn search_alone(
     requires lead_in { LeadIn scope.now.heap.now scope.now.window.now cards.now }
     ensures { IfOk result (λ v. Survivors scope.now.heap.now scope.now.window.now v.items) }
 {
-    let mut queue = Queue::begin(rt, alloc, scope, cards, workers)?;
+    let mut queue = Queue::begin(alloc, scope, cards)?;
     let mut ahead = Vec::with_capacity(alloc, HEADERS_AHEAD)?;
     let mut from = 0;
     while from < queue.found.len() {

@@ -149,8 +149,8 @@ pub(crate) fn next_round<R: Threads + Sync, G: Gate + Sync>(
     })
 }
 
-// The survivors of the window of a scope: by rounds if its objects have numbers, else by one worker
-// alone.
+// The survivors of the window of a scope: by rounds of claims if its objects have numbers, else by one
+// worker alone.
 fn survivors_in<R: Threads + Sync, G: Gate + Sync>(
     crew: &Crew<'_, R, G>,
     scope: &Scope,
@@ -164,8 +164,7 @@ fn survivors_in<R: Threads + Sync, G: Gate + Sync>(
     ensures memory { IfErr result (λ e. e ≡ Memory) }
 {
     if let Numbering::Words = scope.numbering {
-        let workers = crew.team.workers();
-        return Ok(search_alone(crew.rt, crew.alloc, scope, cards, workers)?);
+        return Ok(search_alone(crew.alloc, scope, cards)?);
     }
     let mut search = first_round(crew, scope, cards)?;
     let mut round: u64 = 1;
@@ -217,7 +216,8 @@ pub fn discover<R: Threads + Sync, G: Gate + Sync>(
         team: Team::new(workers, chunk),
         gate,
     };
-    // One worker marks words, so it needs no pass over the window that numbers its objects.
+    // One worker competes with nobody. It marks words, so it needs no claims, and no pass over the
+    // window that numbers its objects.
     let numbering = if crew.takes_rounds() {
         Numbering::Objects(Numbers::new_by(rt, alloc, heap, window, workers)?)
     } else {

@@ -111,7 +111,7 @@ module _ (bytes : List ℕ) (v : Version) (h : Heading) (table : List Entry) (ro
   image_of g =
       let f : File = plain_file v h table roots log remembered words in
       let i : Image = record { heap = heap_of f; remembered = remembered; log = log } in
-      (i, (v, (is_image f p.fits draft g.heap g.known g.log g.remembered, can_tell f p.fits, p.text ∙ ap file_text (sym (file_again f p.fits g.heap g.known)))))
+      (i, (v, (is_image f p.fits draft g.heap g.known g.log g.remembered, can_tell f p.fits, p.text ∙ ap file_text (sym (file_again f p.fits g.heap.shaped g.known)))))
 
   -- a whole file is an image's, or its bytes have a fault
   told_plain : ((i : Image) × IsTextOf bytes i) ⊎ AnyFault bytes

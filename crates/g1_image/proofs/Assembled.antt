@@ -8,7 +8,7 @@ use Rattle.std.proofs.lemmas.Bool.{cases_lt, lt-ltb}
 use Rattle.std.proofs.Math.Seq.{drop-append_seam}
 use Rattle.g1_words.specs.Heap.{Heap, free_region, region, start}
 use Rattle.g1_words.specs.declared.region.Region.{Region}
-use Rattle.g1_words.specs.Valid.{IsValid, IsReference, IsShapedBy, MayBePinned}
+use Rattle.g1_words.specs.Valid.{IsValid, IsReference, IsShapedBy, AllShaped, MayBePinned}
 use Rattle.g1_words.specs.declared.region.Kind.{Kind}
 use Rattle.g1_words.specs.declared.region.Kind.TheVariants.{Free, Ordinary, HumongousFirst, Continuation}
 use Rattle.g1_words.specs.declared.fault.Fault.{Fault}
@@ -183,10 +183,10 @@ valid_heap h d g pins zeros = record {
   current_in = d.current_in;
 }
 
-module _ (f : File) (fits : FileFits f) (g : IsGoodHeap (heap_of f)) where
+module _ (f : File) (fits : FileFits f) (shaped : AllShaped (heap_of f)) where
   tops : (q : ℕ) → q < length f.table → (slice_index_or f.table q (record { kind = 0; top = 0; flags = 0 })).top ≤ f.w
   tops q lt =
-      let s = g.shaped q (omega (arith, lt, fits.table.how_many)) in
+      let s = shaped q (omega (arith, lt, fits.table.how_many)) in
       omega (arith, top_of (region (heap_of f) q).kind (heap_of f) q s.by_kind, region_top f.table q)
 
   pub zeros : (r i : ℕ) → r < f.n → (region (heap_of f) r).top ≤ i → i < f.w → slice_index (heap_of f).words (start (heap_of f) r + i) ≡ 0
@@ -224,7 +224,7 @@ is_log h log count good = record {
 }
 
 -- where flags have a meaning, only ordinary regions are pinned
-pins_known : (f : File) → AreKnown f.table f.n → (r : ℕ) → r < f.n → MayBePinned (heap_of f) r
+pub pins_known : (f : File) → AreKnown f.table f.n → (r : ℕ) → r < f.n → MayBePinned (heap_of f) r
 pins_known f known r lt = λ t.
     ap (λ (q : Region). q.kind) (region_is f.table r) ∙ pin_ordinary f.table r (known.flags r lt) (sym (ap (λ (q : Region). q.pinned) (region_is f.table r)) ∙ t)
 
@@ -241,7 +241,7 @@ can_tell f fits = by f.version fits.table.each where
 pub is_image : (f : File) → FileFits f → IsDraft (heap_of f) → IsGoodHeap (heap_of f) → AreKnown f.table f.n → LogIsGood (heap_of f) f.log → SetsAreGood (heap_of f) f.remembered →
     IsImage (record { heap = heap_of f; remembered = f.remembered; log = f.log })
 is_image f fits d g known logged remembered = record {
-  heap = valid_heap (heap_of f) d g (pins_known f known) (zeros f fits g);
+  heap = valid_heap (heap_of f) d g (pins_known f known) (zeros f fits g.shaped);
   one_each = fits.remembered.how_many;
   remembered = remembered;
   log = is_log (heap_of f) f.log fits.heading.dirty logged;
@@ -258,4 +258,4 @@ made_image f h remembered log fits d same own logs good known logged sets =
 pub made_text : (f : File) (h : Heap) (remembered : List (List ℕ)) (log : List ℕ) → FileFits f → h ≡ heap_of f → remembered ≡ f.remembered → log ≡ f.log →
     IsGoodHeap (heap_of f) → AreKnown f.table f.n → file_text f ≡ file_text (file_of f.version (record { heap = h; remembered = remembered; log = log }))
 made_text f h remembered log fits same own logs good known =
-    ap file_text (sym ((λ t. file_of f.version (record { heap = same t; remembered = own t; log = logs t })) ∙ file_again f fits good known))
+    ap file_text (sym ((λ t. file_of f.version (record { heap = same t; remembered = own t; log = logs t })) ∙ file_again f fits good.shaped known))

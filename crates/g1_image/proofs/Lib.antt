@@ -13,6 +13,10 @@ pub mod Runs
 pub mod Rows
 pub mod Slots
 pub mod Logs
+pub mod Dirty
+pub mod StaleWords
+pub mod StaleSlots
+pub mod StaleImages
 pub mod Drafts
 pub mod Stages
 pub mod Assembled

@@ -12,7 +12,9 @@ use Rattle.g1_image.specs.declared.cursor.Heading.{Heading}
 use Rattle.g1_image.specs.declared.cursor.Version.TheVariants.{One}
 use Rattle.g1_image.specs.Text.{Entry, Version, magic, heading_text, table_words}
 use Rattle.g1_image.specs.Reading.{IsBytes}
-use Rattle.g1_image.specs.Faults.{FaultOf, MayFail}
+use Rattle.g1_image.specs.Faults.{FaultOf, IsTextFault, TableFault, MayFail}
+use Rattle.g1_image.specs.Reading.{FailsIf}
+use Rattle.g1_image.specs.Stale.{FaultWithout}
 use Rattle.g1_image.specs.Plain.{PlainIs, FrontFits, front_text}
 use Rattle.g1_image.specs.Source.{HoldsOfLeft, ReadFails, IsReadOut, input_mark}
 use Rattle.g1_image.specs.Ahead.{TakeFails, TextFails}
@@ -203,3 +205,47 @@ read_out_at_end left (Err e) h = h
 pub if_ok : {X : Type 0} (r : Result X Fault) (P Q : X → Type 0) → ((x : X) → P x → Q x) → IfOk r P → IfOk r Q
 if_ok (Ok x) P Q f h = f x h
 if_ok (Err e) P Q f h = tt
+
+-- ---- which faults the steps of reading return
+
+pub short_text : (e : Fault) (P : Type 0) → FailsIf e P → IsTextFault e
+short_text fault.Memory P h = tt
+short_text fault.Short P h = tt
+short_text _ P h = absurd h
+
+pub read_text : (m n : Bool) (e : Fault) → ReadFails m n e → IsTextFault e
+read_text m n fault.Memory h = tt
+read_text m n (fault.Device d) h = tt
+read_text m n _ h = absurd h
+
+pub take_text : (m n : Bool) (a : Option (List ℕ)) (w : ℕ) (e : Fault) → TakeFails m n a w e → IsTextFault e
+take_text m n a w fault.Memory h = tt
+take_text m n a w (fault.Device d) h = tt
+take_text m n a w fault.Short h = tt
+take_text m n a w _ h = absurd h
+
+text_without : (bytes : List ℕ) (e : Fault) → IsTextFault e → FaultOf bytes e → FaultWithout bytes e
+text_without bytes (fault.Reference p) t f = absurd t
+text_without bytes (fault.Card s) t f = absurd t
+text_without bytes e t f = f
+
+-- a fault that is found first is one whatever the words reference
+pub may_without : (bytes : List ℕ) (e : Fault) → IsTextFault e → MayFail bytes e → (e ≡ fault.Memory) ⊎ FaultWithout bytes e
+may_without bytes e t (inl m) = inl m
+may_without bytes e t (inr f) = inr (text_without bytes e t f)
+
+table_fault : (bytes : List ℕ) (table : List Entry) (n : ℕ) (e : Fault) → TableFault table n e → FaultOf bytes e → FaultWithout bytes e
+table_fault bytes table n (fault.Reference p) t f = absurd t
+table_fault bytes table n (fault.Card s) t f = absurd t
+table_fault bytes table n e t f = f
+
+-- and so is one of the table
+pub table_without : (bytes : List ℕ) (table : List Entry) (n : ℕ) (e : Fault) → (e ≡ fault.Memory) ⊎ TableFault table n e → MayFail bytes e → (e ≡ fault.Memory) ⊎ FaultWithout bytes e
+table_without bytes table n e (inl m) f = inl m
+table_without bytes table n e (inr t) (inl m) = inl m
+table_without bytes table n e (inr t) (inr f) = inr (table_fault bytes table n e t f)
+
+pub mark_without : {X : Type 0} (m n : Bool) (bytes : List ℕ) (r : Result X Fault) → IfErr r (λ e. (e ≡ fault.Memory) ⊎ FaultWithout bytes e) → n ≡ m → n ≡ input_mark m r
+mark_without m n bytes (Ok x) h same = same
+mark_without m n bytes (Err (fault.Device device.Input)) h same = absurd (no_input bytes h)
+mark_without m n bytes (Err e) h same = same

@@ -1,5 +1,5 @@
 -- The fault of bytes that are no image's text: that of the first stage of reading that finds one.
-use Rattle.std.specs.Prelude.{◌≡◌, ◌≢◌, ◌≤◌, ◌<◌, ℕ, ◌*◌, ◌^◌, ◌⊎◌, List, [], ◌++◌, length, slice_index, slice_index_or, All}
+use Rattle.std.specs.Prelude.{◌≡◌, ◌≢◌, ◌≤◌, ◌<◌, ℕ, ◌*◌, ◌^◌, ◌⊎◌, List, [], ◌++◌, length, slice_index, slice_index_or, All, ⊤}
 use Rattle.g1_words.specs.Geometry.{IsWithinLimits, most_roots}
 use Rattle.g1_words.specs.Heap.{Heap}
 use Rattle.g1_words.specs.Valid.{IsShaped, AllShaped, IsReference, HasObject, IsSlotOf}
@@ -144,6 +144,16 @@ FileFault f (fault.Shape r) = AreKnown f.table f.n × HeapFault (heap_of f) (fau
 FileFault f (fault.Reference p) = AreKnown f.table f.n × HeapFault (heap_of f) (fault.Reference p)
 FileFault f (fault.Card s) = AreKnown f.table f.n × IsGoodHeap (heap_of f) × CardFault (heap_of f) f.log f.remembered s
 FileFault _ _ = ⊥
+
+-- a fault that is found before the parts of a whole file are looked at
+abbrev pub IsTextFault : Fault → Type 0
+IsTextFault fault.Magic = ⊤
+IsTextFault fault.Geometry = ⊤
+IsTextFault fault.Short = ⊤
+IsTextFault fault.Trailing = ⊤
+IsTextFault fault.Memory = ⊤
+IsTextFault (fault.Device d) = ⊤
+IsTextFault _ = ⊥
 
 -- THE FAULT of bytes
 abbrev pub FaultOf : List ℕ → Fault → Type 0

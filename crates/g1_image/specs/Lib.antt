@@ -13,6 +13,8 @@ pub mod Shapes
 pub mod Checks
 pub mod Drafted
 pub mod Cards
+pub mod Dirty
+pub mod Stale
 pub mod Laws
 pub mod Source
 pub mod Sink

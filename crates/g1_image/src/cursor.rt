@@ -1,7 +1,7 @@
 ghost use Rattle.std.specs.Prelude.{◌≡◌, ◌≤◌, ◌<◌, ◌+◌, ◌^◌, ◌++◌, ℕ, List, length, drop, slice_index, ◌≢◌, IfSome, IfNone, OnOk, IfOk, IfErr, IsTrue, ◌↔◌};
 ghost use Rattle.g1_image.specs.Text.{u32 as u32_text, heading_text, digit, magic};
 ghost use Rattle.g1_image.specs.Reading.{IsBytes};
-ghost use Rattle.g1_image.specs.Faults.{HeadingFits, IsGoodHeading, FaultOf};
+ghost use Rattle.g1_image.specs.Faults.{HeadingFits, IsGoodHeading, IsTextFault, FaultOf};
 
 use byteorder::{ByteOrder, LittleEndian};
 use g1_words::{Fault, Geometry, MOST_ROOTS};
@@ -148,6 +148,7 @@ impl<'a> Cursor<'a> {
     fn check_magic(&self) -> Result<(), Fault>
         ensures ok { OnOk result ((7 ≤ length self.now) × ((k : ℕ) → k < 7 → slice_index self.now k ≡ slice_index (magic Version.One) k)) }
         ensures err { IfErr result (FaultOf self.now) }
+        ensures stage { IfErr result IsTextFault }
     {
         for i in 0..7 {
             if i >= self.rest.len() {
@@ -164,6 +165,7 @@ impl<'a> Cursor<'a> {
     pub(crate) fn magic(&mut self) -> Result<Version, Fault>
         ensures ok { IfOk result (λ v. self.old ≡ magic v ++ self.new) }
         ensures err { IfErr result (FaultOf self.old) }
+        ensures stage { IfErr result IsTextFault }
     {
         self.check_magic()?;
         if self.rest.len() < 8 {
@@ -182,6 +184,7 @@ impl<'a> Cursor<'a> {
     pub(crate) fn opening(&mut self) -> Result<(Heading, Version), Fault>
         ensures ok { IfOk result (λ x. HeadingFits x.0 × IsGoodHeading x.0 × (self.old ≡ magic x.1 ++ (heading_text x.0 ++ self.new))) }
         ensures err { IfErr result (FaultOf self.old) }
+        ensures stage { IfErr result IsTextFault }
     {
         let version = self.magic()?;
         match self.heading() {

@@ -4,6 +4,7 @@ ghost use Rattle.g1_image.specs.Faults.{MayFail, IsGoodHeading, IsGoodHeap, Tabl
 ghost use Rattle.g1_image.specs.Plain.{heap_of_parts};
 ghost use Rattle.g1_image.specs.Front.{IsLaidOut};
 ghost use Rattle.g1_image.specs.Drafted.{IsDraftOf};
+ghost use Rattle.g1_image.specs.Stale.{IsTextWithout, FaultWithout};
 
 use crate::cards::check_cards;
 use crate::checks::{check_heap, check_heap_by};
@@ -11,6 +12,8 @@ use crate::cursor::{Entry, Heading};
 use crate::draft::Draft;
 use crate::image::Image;
 use crate::plain::Front;
+use crate::stale::{Stale, heap_without, stale_words};
+use crate::starts::shaped_starts;
 use crate::table::{check_flags, regions};
 use g1_words::{Fault, Geometry, Heap};
 use std::alloc::Global;
@@ -63,6 +66,7 @@ fn draft_image(alloc: Global, front: Front, words: Vec<u64>) -> Result<DraftImag
     requires { (bytes : List ℕ) × IsLaidOut bytes front words.items }
     ensures ok { IfOk result (λ d. (bytes : List ℕ) → IsLaidOut bytes front words.items → IsDraftOf bytes d) }
     ensures err { IfErr result (λ e. (bytes : List ℕ) → IsLaidOut bytes front words.items → MayFail bytes e) }
+    ensures stage { IfErr result (λ e. (e ≡ Fault.Memory) ⊎ TableFault front.table.items front.heading.n e) }
 {
     let Front {
         version: _,
@@ -133,4 +137,27 @@ pub(crate) fn image_of_by(
     let drafted = draft_image(alloc, front, words)?;
     check_heap_by(rt, alloc, &drafted.draft, workers)?;
     finish(alloc, drafted)
+}
+
+/// The image of a whole file's front and words, with null in its stale words, and what these were.
+pub(crate) fn image_without(
+    alloc: Global,
+    front: Front,
+    words: Vec<u64>,
+) -> Result<(Image, Stale), Fault>
+    requires { (bytes : List ℕ) × IsLaidOut bytes front words.items }
+    ensures ok { IfOk result (λ x. (bytes : List ℕ) → IsLaidOut bytes front words.items → IsTextWithout bytes x.0 x.1.roots.items x.1.slots.items) }
+    ensures err { IfErr result (λ e. (bytes : List ℕ) → IsLaidOut bytes front words.items → (e ≡ Fault.Memory) ⊎ FaultWithout bytes e) }
+{
+    let drafted = draft_image(alloc, front, words)?;
+    let marks = shaped_starts(alloc, &drafted.draft)?;
+    let log = check_cards(alloc, &drafted.draft, &drafted.log, &drafted.remembered)?;
+    let stale = stale_words(alloc, &drafted.draft, &marks)?;
+    let heap = heap_without(drafted.draft, &stale);
+    let image = Image {
+        heap,
+        remembered: drafted.remembered,
+        log,
+    };
+    Ok((image, stale))
 }

@@ -7,7 +7,7 @@ use crate::draft::Draft;
 use g1_words::{Fault, Marks, Place};
 
 /// Returns whether a word is null or references an object.
-fn is_reference(draft: &Draft, marks: &Marks, x: u64) -> bool
+pub(crate) fn is_reference(draft: &Draft, marks: &Marks, x: u64) -> bool
     requires { StartsAre draft.now marks.now }
     ensures { IsTrue result ↔ IsReference draft.now x }
 {

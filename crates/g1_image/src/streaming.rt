@@ -3,18 +3,20 @@ ghost use Rattle.std.specs.Prelude.{◌≡◌, ◌≢◌, ◌≤◌, ◌<◌, �
 ghost use Rattle.std.specs.Io.KnownBytes.{IsAtEnd, Consumes};
 ghost use Rattle.g1_image.specs.Source.{HoldsOfLeft, IsReadOut, input_mark};
 ghost use Rattle.g1_image.specs.Image.{IsTextOf};
-ghost use Rattle.g1_image.specs.Faults.{FaultOf, MayFail};
+ghost use Rattle.g1_image.specs.Faults.{FaultOf, IsTextFault, MayFail};
 ghost use Rattle.g1_image.specs.Front.{IsGoodFront, text_of, IsLaidOut};
+ghost use Rattle.g1_image.specs.Stale.{IsTextWithout, FaultWithout};
 ghost use Rattle.g1_image.specs.Ahead.{to_take, KnowsEnd, TextFails};
 
 use crate::ahead::Ahead;
 use crate::buffer::PIECE;
 use crate::cursor::Cursor;
-use crate::decoding::{image_of, image_of_by};
+use crate::decoding::{image_of, image_of_by, image_without};
 use crate::image::Image;
 use crate::pieces::lay_pieces;
 use crate::plain::{Front, read_front};
 use crate::source::{Nothing, Source};
+use crate::stale::Stale;
 use g1_words::{Device, Fault};
 use std::alloc::Global;
 use std::thread::Threads;
@@ -45,6 +47,7 @@ fn front_of(alloc: Global, bytes: &[u8]) -> Result<(Front, usize), Fault>
     ensures count { IfOk result (λ x. x.1 ≤ length bytes.now) }
     ensures text { IfOk result (λ x. bytes.now ≡ text_of x.0 (drop x.1 bytes.now)) }
     ensures err { IfErr result (MayFail bytes.now) }
+    ensures stage { IfErr result IsTextFault }
 {
     let (front, rest) = read_front(alloc, bytes)?;
     Ok((front, bytes.len() - rest.len()))
@@ -58,6 +61,7 @@ fn take_front<S: Source>(alloc: Global, source: &mut S, ahead: &mut Ahead) -> Re
     ensures taken { IfOk result (λ x. Consumes (to_take ahead.old (S.left source.old)) (to_take ahead.new (S.left source.new)) (text_of x [])) }
     ensures mark { OnOk result (S.failed source.new ≡ S.failed source.old) }
     ensures err { IfErr result (TextFails (S.failed source.old) (S.failed source.new) (to_take ahead.old (S.left source.old))) }
+    ensures stage { IfErr result IsTextFault }
 {
     let mut wanted = PIECE;
     loop {
@@ -89,6 +93,7 @@ fn take_parts<S: Source>(
     ensures end { OnOk result (IsAtEnd (S.left source.new)) }
     ensures mark { OnOk result (S.failed source.new ≡ S.failed source.old) }
     ensures err { IfErr result (TextFails (S.failed source.old) (S.failed source.new) (to_take ahead.old (S.left source.old))) }
+    ensures stage { IfErr result IsTextFault }
 {
     let front = take_front(alloc, source, ahead)?;
     let words = lay_pieces(alloc, front.heading.w, &front.table, source, ahead)?;
@@ -102,6 +107,7 @@ fn take_parts<S: Source>(
 fn read_parts<S: Source>(alloc: Global, source: &mut S) -> Result<(Front, Vec<u64>), Fault>
     ensures ok { IfOk result (λ x. HoldsOfLeft (S.left source.old) (λ xs. IsLaidOut xs x.0 x.1.items)) }
     ensures err { IfErr result (λ e. (e ≡ Fault.Device Device.Input) ⊎ HoldsOfLeft (S.left source.old) (λ xs. MayFail xs e)) }
+    ensures stage { IfErr result IsTextFault }
     ensures end { IsReadOut (S.left source.new) result }
     ensures marks { S.failed source.new ≡ input_mark (S.failed source.old) result }
 {
@@ -148,6 +154,22 @@ pub fn read<S: Source>(alloc: Global, source: &mut S) -> Result<Image, Fault>
 {
     let (front, words) = read_parts(alloc, source)?;
     image_of(alloc, front, words)
+}
+
+/// As `read`, with the stale words taken for null: a root or a slot that references no object is none of
+/// the faults. Returns the image with null in them, and what they were.
+///
+/// # Errors
+///
+/// Those of `read`, except `Fault::Reference`.
+pub fn read_stale<S: Source>(alloc: Global, source: &mut S) -> Result<(Image, Stale), Fault>
+    ensures ok { IfOk result (λ x. HoldsOfLeft (S.left source.old) (λ xs. IsTextWithout xs x.0 x.1.roots.items x.1.slots.items)) }
+    ensures err { IfErr result (λ e. (e ≡ Fault.Device Device.Input) ⊎ HoldsOfLeft (S.left source.old) (λ xs. (e ≡ Fault.Memory) ⊎ FaultWithout xs e)) }
+    ensures end { IsReadOut (S.left source.new) result }
+    ensures marks { S.failed source.new ≡ input_mark (S.failed source.old) result }
+{
+    let (front, words) = read_parts(alloc, source)?;
+    image_without(alloc, front, words)
 }
 
 /// As `read`, with this many workers at most. One if it is 0.

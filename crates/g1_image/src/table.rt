@@ -49,7 +49,7 @@ pub(crate) fn check_flags(table: &[Entry]) -> Result<(), Fault>
     ensures err { IfErr result (λ e. (r : ℕ) × (e ≡ Fault.Flags r) × IsFirstBreach (HasKnownFlags table.now) (length table.now) r) }
 {
     for (r, e) in table.iter().enumerate() {
-        if e.flags > 1 || (e.flags == 1 && e.kind != 1) {
+        if e.flags > 1 || (e.flags == 1 && e.kind != Kind::Ordinary.number()) {
             return Err(Fault::Flags(r as u32));
         }
     }

@@ -11,22 +11,22 @@ use Rattle.g1_same.proofs.Tables.{index_more, index_few}
 use Rattle.g1_kept.specs.declared.pairs.Pairs.{Pairs}
 use Rattle.g1_kept.specs.Keeps.{MayHoldCopy}
 use Rattle.g1_kept.specs.Lost.{Match}
-use Rattle.g1_kept.specs.Walk.{IsWalk, HasGrown, IsPaired}
+use Rattle.g1_kept.specs.Walk.{IsPairWalk, HasMorePairs, ArePaired}
 
 -- the pairs of a walk are within its tables
-pub before_within : (fill : Bool) (chosen : List ℕ) (g h : Heap) (w : Pairs) → IsValid g → IsWalk fill chosen g h w
+pub before_within : (fill : Bool) (chosen : List ℕ) (g h : Heap) (w : Pairs) → IsValid g → IsPairWalk fill chosen g h w
     → (i : ℕ) → i < length w.before.items → slice_index w.before.items i < length w.new_of.items
 before_within fill chosen g h w valid walk i p = let o = object_in g (slice_index w.before.items i) valid (walk.names_before i p) in omega (arith, o.0, o.1, walk.table_before)
 
-pub after_within : (fill : Bool) (chosen : List ℕ) (g h : Heap) (w : Pairs) → IsValid h → IsWalk fill chosen g h w
+pub after_within : (fill : Bool) (chosen : List ℕ) (g h : Heap) (w : Pairs) → IsValid h → IsPairWalk fill chosen g h w
     → (i : ℕ) → i < length w.after.items → slice_index w.after.items i < length w.old_of.items
 after_within fill chosen g h w valid walk i p = let o = object_in h (slice_index w.after.items i) valid (walk.names_after i (omega (arith, p, walk.pairs))) in omega (arith, o.0, o.1, walk.table_after)
 
-pub few_pairs : (fill : Bool) (chosen : List ℕ) (g h : Heap) (w : Pairs) → IsValid g → IsWalk fill chosen g h w → length w.before.items ≤ length g.words
+pub few_pairs : (fill : Bool) (chosen : List ℕ) (g h : Heap) (w : Pairs) → IsValid g → IsPairWalk fill chosen g h w → length w.before.items ≤ length g.words
 few_pairs fill chosen g h w valid walk = let k = index_few w.new_of.items w.before.items walk.index_before (before_within fill chosen g h w valid walk) in omega (arith, k, walk.table_before)
 
 -- so their places fit the tables
-pub pairs_fit : (fill : Bool) (chosen : List ℕ) (g h : Heap) (w : Pairs) → IsValid g → IsWalk fill chosen g h w → length w.before.items ≤ 2 ^ 24
+pub pairs_fit : (fill : Bool) (chosen : List ℕ) (g h : Heap) (w : Pairs) → IsValid g → IsPairWalk fill chosen g h w → length w.before.items ≤ 2 ^ 24
 pairs_fit fill chosen g h w valid walk = let k = few_pairs fill chosen g h w valid walk in omega (arith, k, valid.word_count, valid.limits.words_most)
 
 pub record IsAdded (w v : Pairs) (a b : ℕ) : Type 0 where
@@ -44,11 +44,11 @@ pushed_new xs ys x i e p = ap (λ l. slice_index l i) e ∙ get_or_push xs x 0 i
 pushed_length : (xs ys : List ℕ) (x : ℕ) → ys ≡ xs ++ x ∷ [] → length ys ≡ length xs + 1
 pushed_length xs ys x e = ap length e ∙ length_push xs x
 
-module _ (fill : Bool) (chosen : List ℕ) (g h : Heap) (w v : Pairs) (a b : ℕ) (walk : IsWalk fill chosen g h w) (e : IsAdded w v a b) where
+module _ (fill : Bool) (chosen : List ℕ) (g h : Heap) (w v : Pairs) (a b : ℕ) (walk : IsPairWalk fill chosen g h w) (e : IsAdded w v a b) where
   len : length v.before.items ≡ length w.before.items + 1
   len = pushed_length w.before.items v.before.items a e.before
 
-  pub added_grown : HasGrown w v
+  pub added_grown : HasMorePairs w v
   added_grown = record {
     more = omega (arith, len);
     olds = λ i p. pushed_old w.before.items v.before.items a i e.before p;
@@ -65,7 +65,7 @@ module _ (fill : Bool) (chosen : List ℕ) (g h : Heap) (w v : Pairs) (a b : ℕ
   split i p = elim (cases_lt i (length w.before.items)) [ inl q ↦ inl q | inr q ↦ inr (omega (arith, p, q, len)) ]
 
   -- the two words now reference a pair
-  pub added_paired : IsPaired chosen g v (suc a) (suc b)
+  pub added_paired : ArePaired chosen g v (suc a) (suc b)
   added_paired =
       let l : ℕ = length w.before.items in
       inr (l, omega (arith, len), ap suc (sym (before_new l refl)), ap suc (sym (after_new l refl)))
@@ -82,7 +82,7 @@ module _ (fill : Bool) (chosen : List ℕ) (g h : Heap) (w v : Pairs) (a b : ℕ
       (of_set : IsTrue (in_set g chosen a)) (room : MayHoldCopy fill g b) (matched : Match chosen g h a b)
       (a_lt : a < length w.new_of.items) (b_lt : b < length w.old_of.items)
       (a_new : slice_index w.new_of.items a ≡ 0) (b_new : slice_index w.old_of.items b ≡ 0) where
-    pub added_walk : IsWalk fill chosen g h v
+    pub added_walk : IsPairWalk fill chosen g h v
     added_walk = record {
       table_before = ap length e.new_of ∙ length-set w.new_of.items a (suc (length w.before.items)) ∙ walk.table_before;
       table_after = ap length e.old_of ∙ length-set w.old_of.items b (suc (length w.before.items)) ∙ walk.table_after;

@@ -9,7 +9,7 @@ use Rattle.g1_kept.specs.declared.lost.Lost.{Lost}
 use Rattle.g1_kept.specs.declared.lost.Lost.TheVariants as lost
 use Rattle.g1_kept.specs.Keeps.{IsAsItWas, KeepsRegion, KeepsTable}
 use Rattle.g1_kept.specs.Lost.{HasOtherTop, IsUsedOutside, IsLoss}
-use Rattle.g1_kept.specs.Order.{KeepsBefore, IsEarliest, IsMetFirst}
+use Rattle.g1_kept.specs.Order.{KeepsBefore, IsEarliestLoss, IsMetFirst}
 use Rattle.g1_kept.specs.Laws.{OneLoss}
 use Rattle.g1_kept.proofs.OneLoss.{one_met}
 use Rattle.g1_kept.proofs.Regions.{other_top}
@@ -71,7 +71,7 @@ module _ (fill : Bool) (set : List ℕ) (g h : Heap) (left : IsValid g) (right :
   not_pinned r c k = let was = as_it_was r c.0 c.1 k in false≢true (sym c.3 ∙ sym was.same_pin ∙ c.4)
 
   -- what is met first when the tables and the number of roots are as they have to be is the first loss
-  pub later : (l : Lost) → KeepsTable fill set g h → length h.roots ≡ length g.roots → IsLoss fill set g h l → IsMetFirst fill set g h l → IsEarliest fill set g h l
+  pub later : (l : Lost) → KeepsTable fill set g h → length h.roots ≡ length g.roots → IsLoss fill set g h l → IsMetFirst fill set g h l → IsEarliestLoss fill set g h l
   later lost.Sizes t n c m = tt
   later lost.Roots t n c m = t
   later (lost.Set r) t n c m = absurd (not_set r c (t.regions r c.0))
@@ -91,7 +91,7 @@ module _ (fill : Bool) (set : List ℕ) (g h : Heap) (left : IsValid g) (right :
     roots : l ≡ lost.Roots → KeepsTable fill set g h → length h.roots ≢ length g.roots → Stage l
     words : KeepsTable fill set g h → length h.roots ≡ length g.roots → IsMetFirst fill set g h l → Stage l
 
-  stage : (l : Lost) → IsLoss fill set g h l → IsEarliest fill set g h l → Stage l
+  stage : (l : Lost) → IsLoss fill set g h l → IsEarliestLoss fill set g h l → Stage l
   stage lost.Sizes c e = sizes refl c
   stage lost.Roots c e = roots refl e c
   stage (lost.Set r) c e = region r c.0 (for_set refl c.1) e (not_set r c)

@@ -3,7 +3,7 @@ use Rattle.std.proofs.Common.{◌≡◌, ℕ, suc, ◌+◌, ◌<◌, ◌≤◌, 
 use Rattle.std.proofs.lemmas.Bool.{cases_lt}
 use Rattle.g1_words.specs.Heap.{Heap, word, object_at}
 use Rattle.g1_kept.specs.declared.pairs.Pairs.{Pairs}
-use Rattle.g1_kept.specs.Walk.{IsPaired, HasGrown, PairsRoots, PairsSlots, IsCompared, ComparesRegion, ComparesOutside, ComparesPairs}
+use Rattle.g1_kept.specs.Walk.{ArePaired, HasMorePairs, PairsRoots, PairsSlots, IsCompared, ComparesRegion, ComparesOutside, ComparesPairs}
 
 -- the first objects of a list were compared with themselves
 abbrev pub ComparesFirst : List ℕ → Heap → Heap → Pairs → List ℕ → ℕ → Type 0
@@ -38,37 +38,37 @@ ok_some_both P R Q (Ok None) p q then = tt
 ok_some_both P R Q (Ok (Some x)) p q then = then x p q
 ok_some_both P R Q (Err e) p q then = tt
 
-pub grown_same : (w : Pairs) → HasGrown w w
+pub grown_same : (w : Pairs) → HasMorePairs w w
 grown_same w = record { more = omega arith; olds = λ i p. refl; news = λ i p. refl }
 
-pub grown_more : (w v u : Pairs) → HasGrown w v → HasGrown v u → HasGrown w u
+pub grown_more : (w v u : Pairs) → HasMorePairs w v → HasMorePairs v u → HasMorePairs w u
 grown_more w v u a b = record {
   more = omega (arith, a.more, b.more);
   olds = λ i p. b.olds i (omega (arith, p, a.more)) ∙ a.olds i p;
   news = λ i p. b.news i (omega (arith, p, a.more)) ∙ a.news i p;
 }
 
-pub paired_more : (set : List ℕ) (g : Heap) (w v : Pairs) → HasGrown w v → (x y : ℕ) → IsPaired set g w x y → IsPaired set g v x y
+pub paired_more : (set : List ℕ) (g : Heap) (w v : Pairs) → HasMorePairs w v → (x y : ℕ) → ArePaired set g w x y → ArePaired set g v x y
 paired_more set g w v grown x y (inl e) = inl e
 paired_more set g w v grown x y (inr k) = inr (k.0, omega (arith, k.1, grown.more), k.2 ∙ ap suc (sym (grown.olds k.0 k.1)), k.3 ∙ ap suc (sym (grown.news k.0 k.1)))
 
-module _ (set : List ℕ) (g h : Heap) (w v : Pairs) (grown : HasGrown w v) where
+module _ (set : List ℕ) (g h : Heap) (w v : Pairs) (grown : HasMorePairs w v) where
   pub roots_kept : (k : ℕ) → PairsRoots set g h w k → PairsRoots set g h v k
   roots_kept k paired n lt = paired_more set g w v grown (slice_index g.roots n) (slice_index h.roots n) (paired n lt)
 
-  pub roots_more : (k : ℕ) → PairsRoots set g h w k → IsPaired set g v (slice_index g.roots k) (slice_index h.roots k) → PairsRoots set g h v (k + 1)
+  pub roots_more : (k : ℕ) → PairsRoots set g h w k → ArePaired set g v (slice_index g.roots k) (slice_index h.roots k) → PairsRoots set g h v (k + 1)
   roots_more k paired new n lt = elim (cases_lt n k) [
     | inl p ↦ roots_kept k paired n p
-    | inr p ↦ let e : k ≡ n = omega (arith, lt, p) in subst (λ z. IsPaired set g v (slice_index g.roots z) (slice_index h.roots z)) e new
+    | inr p ↦ let e : k ≡ n = omega (arith, lt, p) in subst (λ z. ArePaired set g v (slice_index g.roots z) (slice_index h.roots z)) e new
   ]
 
   pub slots_kept : (a b k : ℕ) → PairsSlots set g h w a b k → PairsSlots set g h v a b k
   slots_kept a b k paired n lt = paired_more set g w v grown (word g (a + 1 + n)) (word h (b + 1 + n)) (paired n lt)
 
-  pub slots_more : (a b k : ℕ) → PairsSlots set g h w a b k → IsPaired set g v (word g (a + 1 + k)) (word h (b + 1 + k)) → PairsSlots set g h v a b (k + 1)
+  pub slots_more : (a b k : ℕ) → PairsSlots set g h w a b k → ArePaired set g v (word g (a + 1 + k)) (word h (b + 1 + k)) → PairsSlots set g h v a b (k + 1)
   slots_more a b k paired new n lt = elim (cases_lt n k) [
     | inl p ↦ slots_kept a b k paired n p
-    | inr p ↦ let e : k ≡ n = omega (arith, lt, p) in subst (λ z. IsPaired set g v (word g (a + 1 + z)) (word h (b + 1 + z))) e new
+    | inr p ↦ let e : k ≡ n = omega (arith, lt, p) in subst (λ z. ArePaired set g v (word g (a + 1 + z)) (word h (b + 1 + z))) e new
   ]
 
   pub compared_kept : (a b : ℕ) → IsCompared set g h w a b → IsCompared set g h v a b

@@ -17,12 +17,12 @@ use Rattle.g1_same.proofs.Heaps.{root_of, slot_of}
 use Rattle.g1_same.proofs.Tables.{index_apart}
 use Rattle.g1_kept.specs.declared.pairs.Pairs.{Pairs}
 use Rattle.g1_kept.specs.Keeps.{MayHoldCopy, IsOutside, Keeps, Remains, outside, root, slot, KeepsTable}
-use Rattle.g1_kept.specs.Walk.{IsWalk, IsPaired, PairsRoots, IsCompared, ComparesOutside, ComparesPairs}
+use Rattle.g1_kept.specs.Walk.{IsPairWalk, ArePaired, PairsRoots, IsCompared, ComparesOutside, ComparesPairs}
 use Rattle.g1_kept.proofs.Adding.{before_within, after_within}
 use Rattle.g1_kept.proofs.Regions.{not_at_object}
 use Rattle.g1_kept.proofs.Remaining.{remains_object}
 
-module _ (fill : Bool) (set : List ℕ) (g h : Heap) (left : IsValid g) (right : IsValid h) (w : Pairs) (walk : IsWalk fill set g h w) where
+module _ (fill : Bool) (set : List ℕ) (g h : Heap) (left : IsValid g) (right : IsValid h) (w : Pairs) (walk : IsPairWalk fill set g h w) where
   abbrev found_at : ℕ → ℕ
   found_at a = slice_index w.after.items (slice_index w.new_of.items a - 1)
 
@@ -43,12 +43,12 @@ module _ (fill : Bool) (set : List ℕ) (g h : Heap) (left : IsValid g) (right :
   stays_word zero out = refl
   stays_word (suc a) out = ap suc (sym (rename_out a (out a refl)))
 
-  paired_renamed : (x y : ℕ) → IsPaired set g w x y → y ≡ renamed rename x
+  paired_renamed : (x y : ℕ) → ArePaired set g w x y → y ≡ renamed rename x
   paired_renamed x y (inl e) = e.1 ∙ stays_word x e.0
   paired_renamed x y (inr k) = k.3 ∙ ap suc (sym (rename_at k.0 k.1)) ∙ ap (renamed rename) (sym k.2)
 
   -- an object of the set that a paired word references is that of a pair
-  paired_place : (x y a : ℕ) → IsPaired set g w x y → x ≡ suc a → IsTrue (in_set g set a) → (i : ℕ) × (i < length w.before.items) × (slice_index w.before.items i ≡ a)
+  paired_place : (x y a : ℕ) → ArePaired set g w x y → x ≡ suc a → IsTrue (in_set g set a) → (i : ℕ) × (i < length w.before.items) × (slice_index w.before.items i ≡ a)
   paired_place x y a (inl e) t of_set = absurd (false≢true (sym (e.0 a t) ∙ of_set))
   paired_place x y a (inr k) t of_set = (k.0, k.1, omega (arith, k.2, t))
 

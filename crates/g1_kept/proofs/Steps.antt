@@ -5,7 +5,7 @@ use Rattle.g1_words.specs.Valid.{IsValid}
 use Rattle.g1_kept.specs.declared.pairs.Pairs.{Pairs}
 use Rattle.g1_kept.specs.Lost.{Match}
 use Rattle.g1_kept.specs.Keeps.{KeepsTable}
-use Rattle.g1_kept.specs.Walk.{IsWalk}
+use Rattle.g1_kept.specs.Walk.{IsPairWalk}
 
 -- two valid heaps of the same sizes have as many words
 pub as_many_words : (fill : Bool) (set : List ℕ) (g h : Heap) → IsValid g → IsValid h → KeepsTable fill set g h → length h.words ≡ length g.words
@@ -19,7 +19,7 @@ pub record IsPair (set : List ℕ) (g h : Heap) (w : Pairs) (i a b : ℕ) : Type
   pub after_in : Contains (objects h) (object_at h b)
   pub matched : Match set g h a b
 
-pub pair_read : (fill : Bool) (set : List ℕ) (g h : Heap) (w : Pairs) (i a b : ℕ) → IsWalk fill set g h w → i < length w.before.items
+pub pair_read : (fill : Bool) (set : List ℕ) (g h : Heap) (w : Pairs) (i a b : ℕ) → IsPairWalk fill set g h w → i < length w.before.items
     → a ≡ slice_index w.before.items i → b ≡ slice_index w.after.items i → IsPair set g h w i a b
 pair_read fill set g h w i a b walk lt a_is b_is = record {
   before = sym a_is;

@@ -9,14 +9,14 @@ use Rattle.g1_kept.specs.declared.pairs.Pairs.{Pairs}
 use Rattle.g1_kept.specs.Keeps.{MayHoldCopy}
 use Rattle.g1_kept.specs.Lost.{IsLoss}
 use Rattle.g1_kept.specs.Order.{IsSearch, Clash, IsLostAt}
-use Rattle.g1_kept.specs.Walk.{HasGrown, IsPaired, HasTurn, HasWords, PassesWords, StopsAtWords, PassesObjects, StopsAtObjects, IsFirstOfObjects}
+use Rattle.g1_kept.specs.Walk.{HasMorePairs, ArePaired, HasTurn, HasWords, PassesWords, StopsAtWords, PassesObjects, StopsAtObjects, IsFirstOfObjects}
 use Rattle.g1_kept.proofs.Adding.{IsAdded}
 use Rattle.g1_kept.proofs.Search.{words_on, added_search, contents_on}
 
 module _ (fill : Bool) (set : List ℕ) (g h : Heap) (w : Pairs) where
   -- ---- two words
 
-  pub passes_same : (x y : ℕ) → IsPaired set g w x y → PassesWords fill set g h w w x y
+  pub passes_same : (x y : ℕ) → ArePaired set g w x y → PassesWords fill set g h w w x y
   passes_same x y paired f n s at = words_on fill set g h w.before.items w.after.items f n s x y at paired
 
   pub passes_new : (v : Pairs) (a b : ℕ) → IsAdded w v a b → IsTrue (in_set g set a) → MayHoldCopy fill g b → IsNew w.before.items a → IsNew w.after.items b
@@ -48,7 +48,7 @@ module _ (fill : Bool) (set : List ℕ) (g h : Heap) (w : Pairs) where
 
   -- ---- two objects
 
-  pub turn_more : (v : Pairs) (t a b : ℕ) → HasGrown w v → HasTurn set g h w t a b → HasTurn set g h v t a b
+  pub turn_more : (v : Pairs) (t a b : ℕ) → HasMorePairs w v → HasTurn set g h w t a b → HasTurn set g h v t a b
   turn_more v t a b grown (inl o) = inl o
   turn_more v t a b grown (inr o) = inr (o.0, omega (arith, o.1, grown.more), o.2, o.3 ∙ sym (grown.olds o.0 o.1), o.4 ∙ sym (grown.news o.0 o.1))
 

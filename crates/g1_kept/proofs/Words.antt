@@ -12,7 +12,7 @@ use Rattle.g1_kept.specs.declared.pairs.Pairs.{Pairs}
 use Rattle.g1_kept.specs.Lost.{Match, Disagree, split, joined}
 use Rattle.g1_kept.specs.Order.{Clash}
 use Rattle.g1_kept.specs.Order as order
-use Rattle.g1_kept.specs.Walk.{IsWalk, IsPaired}
+use Rattle.g1_kept.specs.Walk.{IsPairWalk, ArePaired}
 
 pub some : (n : ℕ) → n ≢ 0 → n ≡ suc (n - 1)
 some n h = omega arith
@@ -20,7 +20,7 @@ some n h = omega arith
 pub named_below : (h : Heap) (x : ℕ) → IsValid h → x ≢ 0 → IsReference h x → x - 1 < length h.words
 named_below h x valid some names = let o = object_in h (x - 1) valid (object_named h x (x - 1) valid names (omega arith)) in omega (arith, o.0, o.1)
 
-module _ (fill : Bool) (set : List ℕ) (g h : Heap) (w : Pairs) (walk : IsWalk fill set g h w) (a b i j : ℕ)
+module _ (fill : Bool) (set : List ℕ) (g h : Heap) (w : Pairs) (walk : IsPairWalk fill set g h w) (a b i j : ℕ)
     (a_lt : a < length w.new_of.items) (b_lt : b < length w.old_of.items) (is_i : i ≡ slice_index w.new_of.items a) (is_j : j ≡ slice_index w.old_of.items b) where
   in_before : i ≢ 0 → (i - 1 < length w.before.items) × (slice_index w.before.items (i - 1) ≡ a)
   in_before some = subst (λ m. (m - 1 < length w.before.items) × (slice_index w.before.items (m - 1) ≡ a)) (sym is_i)
@@ -30,7 +30,7 @@ module _ (fill : Bool) (set : List ℕ) (g h : Heap) (w : Pairs) (walk : IsWalk 
   in_after some = subst (λ m. (m - 1 < length w.after.items) × (slice_index w.after.items (m - 1) ≡ b)) (sym is_j)
       (index_some w.old_of.items w.after.items walk.index_after b b_lt (λ z. some (is_j ∙ z)))
 
-  pub known_here : i ≡ j → i ≢ 0 → IsPaired set g w (suc a) (suc b)
+  pub known_here : i ≡ j → i ≢ 0 → ArePaired set g w (suc a) (suc b)
   known_here same some =
       let p = in_before some in
       let q = in_after (λ z. some (same ∙ z)) in

@@ -10,7 +10,7 @@ use Rattle.g1_after.specs.Paused.{IsPaused}
 use Rattle.g1_kept.specs.declared.lost.Lost.{Lost}
 use Rattle.g1_kept.specs.Keeps.{Keeps}
 use Rattle.g1_kept.specs.Lost.{IsLoss}
-use Rattle.g1_kept.specs.Order.{IsEarliest}
+use Rattle.g1_kept.specs.Order.{IsEarliestLoss}
 
 -- the image after a pause of a set keeps what a pause of the set keeps
 abbrev pub PauseKeeps : Type 0
@@ -33,4 +33,4 @@ FreesRuns = (fill : Bool) (set : List ℕ) (g h : Heap) (r i : ℕ) → IsValid 
 -- two heaps have one first loss
 abbrev pub OneLoss : Type 0
 OneLoss = (fill : Bool) (set : List ℕ) (g h : Heap) (l m : Lost) → IsValid g → IsValid h
-    → IsLoss fill set g h l → IsEarliest fill set g h l → IsLoss fill set g h m → IsEarliest fill set g h m → l ≡ m
+    → IsLoss fill set g h l → IsEarliestLoss fill set g h l → IsLoss fill set g h m → IsEarliestLoss fill set g h m → l ≡ m

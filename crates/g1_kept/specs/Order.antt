@@ -87,11 +87,11 @@ abbrev pub KeepsBefore : Bool → List ℕ → Heap → Heap → ℕ → Type 0
 KeepsBefore fill set g h r = (h.geometry ≡ g.geometry) × ((q : ℕ) → q < r → KeepsRegion fill set g h q)
 
 -- nothing that comes before it is lost
-abbrev pub IsEarliest : Bool → List ℕ → Heap → Heap → Lost → Type 0
-IsEarliest fill set g h lost.Sizes = Unit {0}
-IsEarliest fill set g h (lost.Set r) = KeepsBefore fill set g h r
-IsEarliest fill set g h (lost.Region r) = KeepsBefore fill set g h r
-IsEarliest fill set g h (lost.Unpinned r) = KeepsBefore fill set g h r
-IsEarliest fill set g h (lost.Pinned r) = KeepsBefore fill set g h r
-IsEarliest fill set g h lost.Roots = KeepsTable fill set g h
-IsEarliest fill set g h l = KeepsTable fill set g h × (length h.roots ≡ length g.roots) × IsMetFirst fill set g h l
+abbrev pub IsEarliestLoss : Bool → List ℕ → Heap → Heap → Lost → Type 0
+IsEarliestLoss fill set g h lost.Sizes = Unit {0}
+IsEarliestLoss fill set g h (lost.Set r) = KeepsBefore fill set g h r
+IsEarliestLoss fill set g h (lost.Region r) = KeepsBefore fill set g h r
+IsEarliestLoss fill set g h (lost.Unpinned r) = KeepsBefore fill set g h r
+IsEarliestLoss fill set g h (lost.Pinned r) = KeepsBefore fill set g h r
+IsEarliestLoss fill set g h lost.Roots = KeepsTable fill set g h
+IsEarliestLoss fill set g h l = KeepsTable fill set g h × (length h.roots ≡ length g.roots) × IsMetFirst fill set g h l

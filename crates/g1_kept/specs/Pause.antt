@@ -6,8 +6,8 @@ use Rattle.g1_kept.specs.declared.pairs.Pairs.{Pairs}
 use Rattle.g1_kept.specs.declared.pause.Pause.{Pause}
 use Rattle.g1_kept.specs.Keeps.{Keeps, KeepsTable}
 use Rattle.g1_kept.specs.Lost.{Match, IsLoss}
-use Rattle.g1_kept.specs.Order.{IsEarliest, IsMetFirst}
-use Rattle.g1_kept.specs.Walk.{IsWalk, Searches, PassesObjects, StopsAtObjects}
+use Rattle.g1_kept.specs.Order.{IsEarliestLoss, IsMetFirst}
+use Rattle.g1_kept.specs.Walk.{IsPairWalk, Searches, PassesObjects, StopsAtObjects}
 
 -- the heap after keeps what a pause of the set keeps
 abbrev pub KeepsIn : Pause → Type 0
@@ -23,7 +23,7 @@ IsLossIn p l = IsLoss p.fill p.set.now p.before.now p.after.now l
 
 -- nothing that comes before it is lost
 abbrev pub IsEarliestIn : Pause → Lost → Type 0
-IsEarliestIn p l = IsEarliest p.fill p.set.now p.before.now p.after.now l
+IsEarliestIn p l = IsEarliestLoss p.fill p.set.now p.before.now p.after.now l
 
 -- a search meets this loss first
 abbrev pub IsMetFirstIn : Pause → Lost → Type 0
@@ -41,7 +41,7 @@ pub record AreMatched (p : Pause) (a b : ℕ) : Type 0 where
 
 -- the pairs are objects of the set and their copies, found by the tables
 abbrev pub IsWalkIn : Pause → Pairs → Type 0
-IsWalkIn p w = IsWalk p.fill p.set.now p.before.now p.after.now w
+IsWalkIn p w = IsPairWalk p.fill p.set.now p.before.now p.after.now w
 
 -- the walk has found what a search has before a place
 abbrev pub SearchesIn : Pause → Pairs → ℕ → ℕ → Type 0

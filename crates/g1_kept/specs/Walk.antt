@@ -15,7 +15,7 @@ use Rattle.g1_kept.specs.Lost.{Match, LeadsOut, Disagree}
 use Rattle.g1_kept.specs.Order.{IsTurn, AreWords, IsSearch, Clash, IsLostAt, IsMetFirst}
 
 -- The pairs are objects of the set and of the heap after that match, found by the tables, each where a copy may be.
-pub record IsWalk (fill : Bool) (set : List ℕ) (g h : Heap) (w : Pairs) : Type 0 where
+pub record IsPairWalk (fill : Bool) (set : List ℕ) (g h : Heap) (w : Pairs) : Type 0 where
   pub table_before : length w.new_of.items ≡ length g.words
   pub table_after : length w.old_of.items ≡ length h.words
   pub index_before : IsIndex w.new_of.items w.before.items
@@ -28,33 +28,33 @@ pub record IsWalk (fill : Bool) (set : List ℕ) (g h : Heap) (w : Pairs) : Type
   pub matched : (i : ℕ) → i < length w.before.items → Match set g h (slice_index w.before.items i) (slice_index w.after.items i)
 
 -- the walk has all pairs that it had, each in its place
-pub record HasGrown (w v : Pairs) : Type 0 where
+pub record HasMorePairs (w v : Pairs) : Type 0 where
   pub more : length w.before.items ≤ length v.before.items
   pub olds : (i : ℕ) → i < length w.before.items → slice_index v.before.items i ≡ slice_index w.before.items i
   pub news : (i : ℕ) → i < length w.before.items → slice_index v.after.items i ≡ slice_index w.after.items i
 
 -- the words are equal and lead out of the set, or reference a pair that was found
-abbrev pub IsPaired : List ℕ → Heap → Pairs → ℕ → ℕ → Type 0
-IsPaired set g w x y =
+abbrev pub ArePaired : List ℕ → Heap → Pairs → ℕ → ℕ → Type 0
+ArePaired set g w x y =
     (LeadsOut set g x × (y ≡ x))
     ⊎ ((i : ℕ) × (i < length w.before.items) × (x ≡ suc (slice_index w.before.items i)) × (y ≡ suc (slice_index w.after.items i)))
 
 -- what two words are to the walk
-abbrev pub IsMet : Bool → List ℕ → Heap → Heap → Pairs → ℕ → ℕ → Met → Type 0
-IsMet fill set g h w x y Agree = IsPaired set g w x y
-IsMet fill set g h w x y Differ = Disagree set g h x y × Clash set g w.before.items w.after.items x y
-IsMet fill set g h w x y (Occupied a b) =
+abbrev pub IsPairMet : Bool → List ℕ → Heap → Heap → Pairs → ℕ → ℕ → Met → Type 0
+IsPairMet fill set g h w x y Agree = ArePaired set g w x y
+IsPairMet fill set g h w x y Differ = Disagree set g h x y × Clash set g w.before.items w.after.items x y
+IsPairMet fill set g h w x y (Occupied a b) =
     (x ≡ suc a) × (y ≡ suc b) × IsTrue (in_set g set a) × (MayHoldCopy fill g b → ⊥) × IsNew w.before.items a × IsNew w.after.items b
-IsMet fill set g h w x y (New a b) =
+IsPairMet fill set g h w x y (New a b) =
     (x ≡ suc a) × (y ≡ suc b) × IsTrue (in_set g set a) × MayHoldCopy fill g b × (slice_index w.new_of.items a ≡ 0) × (slice_index w.old_of.items b ≡ 0)
 
 -- the first roots are paired
 abbrev pub PairsRoots : List ℕ → Heap → Heap → Pairs → ℕ → Type 0
-PairsRoots set g h w k = (n : ℕ) → n < k → IsPaired set g w (slice_index g.roots n) (slice_index h.roots n)
+PairsRoots set g h w k = (n : ℕ) → n < k → ArePaired set g w (slice_index g.roots n) (slice_index h.roots n)
 
 -- the first slots of two objects are paired
 abbrev pub PairsSlots : List ℕ → Heap → Heap → Pairs → ℕ → ℕ → ℕ → Type 0
-PairsSlots set g h w a b k = (n : ℕ) → n < k → IsPaired set g w (word g (a + 1 + n)) (word h (b + 1 + n))
+PairsSlots set g h w a b k = (n : ℕ) → n < k → ArePaired set g w (word g (a + 1 + n)) (word h (b + 1 + n))
 
 -- two objects were compared: they have one header and the same data words, and their slots are paired
 pub record IsCompared (set : List ℕ) (g h : Heap) (w : Pairs) (a b : ℕ) : Type 0 where

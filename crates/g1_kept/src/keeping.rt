@@ -6,8 +6,8 @@ ghost use Rattle.g1_words.specs.Heap.{kind, start};
 ghost use Rattle.g1_same.specs.Walk.{AreAlike};
 ghost use Rattle.g1_kept.specs.Keeps.{Keeps};
 ghost use Rattle.g1_kept.specs.Lost.{IsLoss};
-ghost use Rattle.g1_kept.specs.Order.{IsEarliest};
-ghost use Rattle.g1_kept.specs.Walk.{HasGrown, IsCompared, ComparesRegion, ComparesOutside, ComparesPairs, IsFirstOfObjects};
+ghost use Rattle.g1_kept.specs.Order.{IsEarliestLoss};
+ghost use Rattle.g1_kept.specs.Walk.{HasMorePairs, IsCompared, ComparesRegion, ComparesOutside, ComparesPairs, IsFirstOfObjects};
 ghost use Rattle.g1_kept.specs.Pause.{KeepsIn, KeepsTableIn, IsLossIn, IsEarliestIn, IsMetFirstIn, AreMatched, IsWalkIn, SearchesIn, PassesObjectsIn, StopsAtObjectsIn};
 
 use crate::linking::{link_roots, link_slots};
@@ -58,7 +58,7 @@ fn compare_pair(
     requires sizes { length pause.now.after.now.words ≡ length pause.now.before.now.words }
     requires pair { AreMatched pause.now a b }
     ensures walk { OnOk result (IsWalkIn pause.now pairs.new) }
-    ensures grown { OnOk result (HasGrown pairs.old pairs.new) }
+    ensures grown { OnOk result (HasMorePairs pairs.old pairs.new) }
     ensures compared { let p = pause.now in IfOk result (λ o. IfNone o (IsCompared p.set.now p.before.now p.after.now pairs.new a b)) }
     ensures lost { IfOk result (λ o. IfSome o (λ l. IsLossIn pause.now l)) }
     ensures passed { IfOk result (λ o. IfNone o (PassesObjectsIn pause.now pairs.old pairs.new a b 0)) }
@@ -85,7 +85,7 @@ fn compare_region(
     requires in_use { kind pause.now.after.now region ≢ Free }
     requires search { SearchesIn pause.now pairs.old (suc (start pause.now.before.now region)) 0 }
     ensures walk { OnOk result (IsWalkIn pause.now pairs.new) }
-    ensures grown { OnOk result (HasGrown pairs.old pairs.new) }
+    ensures grown { OnOk result (HasMorePairs pairs.old pairs.new) }
     ensures compared { let p = pause.now in IfOk result (λ o. IfNone o (ComparesRegion p.set.now p.before.now p.after.now pairs.new region)) }
     ensures lost { IfOk result (λ o. IfSome o (λ l. IsLossIn pause.now l)) }
     ensures searched { IfOk result (λ o. IfNone o (SearchesIn pause.now pairs.new (suc (start pause.now.before.now (region + 1))) 0)) }
@@ -127,7 +127,7 @@ fn compare_outside(
     requires table { KeepsTableIn pause.now }
     requires search { SearchesIn pause.now pairs.old 1 0 }
     ensures walk { OnOk result (IsWalkIn pause.now pairs.new) }
-    ensures grown { OnOk result (HasGrown pairs.old pairs.new) }
+    ensures grown { OnOk result (HasMorePairs pairs.old pairs.new) }
     ensures compared { let p = pause.now in IfOk result (λ o. IfNone o (ComparesOutside p.set.now p.before.now p.after.now pairs.new p.before.now.geometry.n)) }
     ensures lost { IfOk result (λ o. IfSome o (λ l. IsLossIn pause.now l)) }
     ensures searched { IfOk result (λ o. IfNone o (SearchesIn pause.now pairs.new (suc (length pause.now.before.now.words)) 0)) }
@@ -151,7 +151,7 @@ fn compare_pairs(pause: &Pause<'_>, pairs: &mut Pairs) -> Result<Option<Lost>, A
     requires table { KeepsTableIn pause.now }
     requires search { SearchesIn pause.now pairs.old (suc (length pause.now.before.now.words)) 0 }
     ensures walk { OnOk result (IsWalkIn pause.now pairs.new) }
-    ensures grown { OnOk result (HasGrown pairs.old pairs.new) }
+    ensures grown { OnOk result (HasMorePairs pairs.old pairs.new) }
     ensures compared { let p = pause.now in IfOk result (λ o. IfNone o (ComparesPairs p.set.now p.before.now p.after.now pairs.new (length pairs.new.before.items))) }
     ensures lost { IfOk result (λ o. IfSome o (λ l. IsLossIn pause.now l)) }
     ensures first { IfOk result (λ o. IfSome o (λ l. IsMetFirstIn pause.now l)) }
@@ -221,7 +221,7 @@ pub fn kept(
 ) -> Result<Result<(), Lost>, Fault>
     ensures keeps { IfOk result (λ r. IfOk r (λ _. Keeps fill set.now before.now after.now)) }
     ensures lost { IfOk result (λ r. IfErr r (λ l. IsLoss fill set.now before.now after.now l)) }
-    ensures earliest { IfOk result (λ r. IfErr r (λ l. IsEarliest fill set.now before.now after.now l)) }
+    ensures earliest { IfOk result (λ r. IfErr r (λ l. IsEarliestLoss fill set.now before.now after.now l)) }
     ensures never { IfOk result (λ r. IfErr r (λ _. Keeps fill set.now before.now after.now → ⊥)) }
     ensures memory { IfErr result (λ e. e ≡ Memory) }
 {

@@ -5,7 +5,7 @@ ghost use Rattle.g1_words.specs.Valid.{IsReference};
 ghost use Rattle.g1_same.specs.Walk.{AreAlike};
 ghost use Rattle.g1_kept.specs.Keeps.{MayHoldCopy};
 ghost use Rattle.g1_kept.specs.Lost.{LeadsOut, Disagree};
-ghost use Rattle.g1_kept.specs.Walk.{HasGrown, IsPaired, IsMet, PairsRoots, PairsSlots, PassesWords, StopsAtWords};
+ghost use Rattle.g1_kept.specs.Walk.{HasMorePairs, ArePaired, IsPairMet, PairsRoots, PairsSlots, PassesWords, StopsAtWords};
 ghost use Rattle.g1_kept.specs.Pause.{MatchIn, AreMatched, IsLossIn, IsMetFirstIn, IsWalkIn, SearchesIn, PassesObjectsIn, StopsAtObjectsIn};
 
 use crate::lost::Lost;
@@ -59,7 +59,7 @@ fn meet(pause: &Pause<'_>, pairs: &Pairs, x: u64, y: u64) -> Met
     requires sizes { length pause.now.after.now.words ≡ length pause.now.before.now.words }
     requires x { IsReference pause.now.before.now x }
     requires y { IsReference pause.now.after.now y }
-    ensures { let p = pause.now in IsMet p.fill p.set.now p.before.now p.after.now pairs.now x y result }
+    ensures { let p = pause.now in IsPairMet p.fill p.set.now p.before.now p.after.now pairs.now x y result }
 {
     g1_words::laws::valid(pause.before);
     g1_words::laws::valid(pause.after);
@@ -104,8 +104,8 @@ fn link(
     requires found { (a b : ℕ) → x ≡ suc a → y ≡ suc b → IsTrue (in_set pause.now.before.now pause.now.set.now a) → MatchIn pause.now a b }
     requires other { let p = pause.now in Disagree p.set.now p.before.now p.after.now x y → IsLossIn p other }
     ensures walk { OnOk result (IsWalkIn pause.now pairs.new) }
-    ensures grown { OnOk result (HasGrown pairs.old pairs.new) }
-    ensures paired { IfOk result (λ o. IfNone o (IsPaired pause.now.set.now pause.now.before.now pairs.new x y)) }
+    ensures grown { OnOk result (HasMorePairs pairs.old pairs.new) }
+    ensures paired { IfOk result (λ o. IfNone o (ArePaired pause.now.set.now pause.now.before.now pairs.new x y)) }
     ensures lost { IfOk result (λ o. IfSome o (λ l. IsLossIn pause.now l)) }
     ensures passed { let p = pause.now in IfOk result (λ o. IfNone o (PassesWords p.fill p.set.now p.before.now p.after.now pairs.old pairs.new x y)) }
     ensures first { let p = pause.now in IfOk result (λ o. IfSome o (λ l. StopsAtWords p.fill p.set.now p.before.now p.after.now pairs.old x y other l)) }
@@ -165,7 +165,7 @@ pub(crate) fn link_slots(
     requires pair { AreMatched pause.now a b }
     requires alike { AreAlike pause.now.before.now pause.now.after.now a b }
     ensures walk { OnOk result (IsWalkIn pause.now pairs.new) }
-    ensures grown { OnOk result (HasGrown pairs.old pairs.new) }
+    ensures grown { OnOk result (HasMorePairs pairs.old pairs.new) }
     ensures paired { let p = pause.now in IfOk result (λ o. IfNone o (PairsSlots p.set.now p.before.now p.after.now pairs.new a b (object_at p.before.now a).refs)) }
     ensures lost { IfOk result (λ o. IfSome o (λ l. IsLossIn pause.now l)) }
     ensures passed { IfOk result (λ o. IfNone o (PassesObjectsIn pause.now pairs.old pairs.new a b 1)) }

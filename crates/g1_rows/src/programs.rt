@@ -1,8 +1,9 @@
 //! The programs by their names: `g1pause`, `g1heap`, and `g1heap_at_terminal`, whose streams are a terminal.
 //!
 //! A program is called as its `main` calls it, over streams in memory, which go well unless the row says that they fail.
-//! Its files are in the folder of the run. If a row gives no standard input, the program must not read it: each of its
-//! reads fails, and is reported.
+//! Its files are in the folder of the run, and so is a link that leads to a pipe, if a row names one: no row writes to a
+//! device of the machine. If a row gives no standard input, the program must not read it: each of its reads fails, and is
+//! reported.
 use crate::rows::{Trial, push_shown};
 use crate::scene::{Content, Devices, Scene, fits};
 use g1_testing::{Stream, Trouble};
@@ -10,7 +11,9 @@ use g1_words::{Device, Fault};
 use g1heap_cli::Terminals;
 use std::alloc::{AllocError, Global};
 use std::fs::File;
-use std::io::{ErrorKind, Read, Write};
+use std::io::{ErrorKind, Read, Write, pipe};
+use std::os::fd::AsRawFd;
+use std::os::unix::fs::symlink;
 use std::rt::Files;
 use std::thread::Threads;
 use std::{fs, io};
@@ -18,12 +21,13 @@ use std::{fs, io};
 /// The names of the programs.
 const NAMES: [&str; 3] = ["g1pause", "g1heap", "g1heap_at_terminal"];
 
-/// What a program left: its status, standard output, and what is on standard error.
+/// What a program left: its status, standard output, what is on standard error, and what went into the pipe.
 #[derive(Drop)]
 struct Left {
     status: u8,
     writer: Stream,
     errors: Vec<u8>,
+    piped: Vec<u8>,
 }
 
 /// Whether a program has this name.
@@ -117,18 +121,55 @@ fn left_by<R: Threads + Files + Sync>(
     before: &Scene,
     input: &[u8],
     at: usize,
-) -> Result<Left, AllocError> {
+) -> Result<Left, Fault> {
     let mut left = Left {
         status: 0,
         writer: writer_of(trial.alloc, before.devices, at),
         errors: Vec::new(trial.alloc),
+        piped: Vec::new(trial.alloc),
     };
     let mut reader = reader_of(input.to_vec(trial.alloc)?, before, at);
-    run(trial, line, &mut reader, &mut left)?;
+    if before.pipe.is_there {
+        run_with_pipe(trial, line, before, &mut reader, &mut left)?;
+    } else {
+        run(trial, line, &mut reader, &mut left)?;
+    }
     if before.is_closed() && reader.calls > 0 {
         left.errors.extend_from_slice(b"standard input was read\n")?;
     }
     Ok(left)
+}
+
+/// Runs a program while a name leads to a pipe, whose writer is then closed.
+fn run_with_pipe<R: Threads + Files + Sync>(
+    trial: &Trial<'_, R>,
+    line: &str,
+    before: &Scene,
+    reader: &mut Stream,
+    left: &mut Left,
+) -> Result<(), Fault> {
+    let name = before.pipe.name.as_str();
+    let Ok((end, writer)) = pipe(trial.rt) else {
+        return Err(Fault::Device(Device::Output));
+    };
+    let number = writer.as_raw_fd();
+    let target = format!(in trial.alloc; "/proc/self/fd/{number}")?;
+    done(symlink(trial.rt, target.as_str(), name))?;
+    let read = if before.is_pipe_broken {
+        drop(end);
+        run(trial, line, reader, left)?;
+        Ok(0)
+    } else {
+        run(trial, line, reader, left)?;
+        drop(writer);
+        let mut end = end;
+        end.read_to_end(&mut left.piped)
+    };
+    done(fs::remove_file(trial.rt, name))?;
+    match read {
+        Ok(_) => Ok(()),
+        Err(_) => Err(Fault::Device(Device::Input)),
+    }
 }
 
 fn reader_of(input: Vec<u8>, before: &Scene, at: usize) -> Stream {
@@ -199,6 +240,11 @@ fn is_as_wanted<R: Files>(
     };
     if left.status != after.status || !is_told || !fits(left.writer.bytes.as_slice(), wanted) {
         push_left(why, left)?;
+        return Ok(false);
+    }
+    if left.piped.as_slice() != after.pipe.bytes(trial.alloc, trial.pictures)?.as_slice() {
+        why.push_str("into the pipe went\n")?;
+        push_shown(why, left.piped.as_slice())?;
         return Ok(false);
     }
     for file in after.files.iter() {

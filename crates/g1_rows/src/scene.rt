@@ -3,6 +3,8 @@
 //! - Parts (`parts`) are standard input or standard output, or what is in a file. In standard output a first or a last
 //!   line `..` stands for any text.
 //! - `file NAME`: the parts below are in this file; `no file NAME`: there is no such file.
+//! - `pipe NAME`: this name leads to a pipe, and the parts below are what has to go into it. It takes 65,536 bytes.
+//!   `broken pipe NAME`: the reader of that pipe is gone.
 //! - `stdin`: the parts below are standard input again.
 //! - `each read fails`: the program is run again and again over a reader that gives a byte a call and fails from the first
 //!   call on, from the second on, and so on up to the one that finds the end. Each run has to leave what is expected.
@@ -48,6 +50,14 @@ impl Content {
     }
 }
 
+/// What the lines below belong to.
+#[derive(Clone, Copy)]
+enum Place {
+    Stream,
+    LastFile,
+    Pipe,
+}
+
 /// Which calls of the streams fail.
 #[derive(Clone, Copy)]
 pub(crate) enum Devices {
@@ -66,8 +76,9 @@ pub(crate) struct Scene {
     pub(crate) is_usage: bool,
     pub(crate) stream: Content,
     pub(crate) files: Vec<Content>,
-    // Whether the next line belongs to the last file.
-    is_in_file: bool,
+    pub(crate) pipe: Content,
+    pub(crate) is_pipe_broken: bool,
+    place: Place,
 }
 
 impl Scene {
@@ -84,7 +95,9 @@ impl Scene {
             is_usage: false,
             stream: Content::new(alloc, String::new(alloc), false),
             files: Vec::new(alloc),
-            is_in_file: false,
+            pipe: Content::new(alloc, String::new(alloc), false),
+            is_pipe_broken: false,
+            place: Place::Stream,
         };
         for line in lines.split('\n') {
             scene.push_with_status(alloc, line)?;
@@ -120,9 +133,16 @@ impl Scene {
         if let Some(name) = line.strip_prefix("no file ") {
             return self.begin_file(alloc, name, false);
         }
+        if let Some(name) = line.strip_prefix("pipe ") {
+            return self.begin_pipe(alloc, name);
+        }
+        if let Some(name) = line.strip_prefix("broken pipe ") {
+            self.is_pipe_broken = true;
+            return self.begin_pipe(alloc, name);
+        }
         match line {
             "stdin" => {
-                self.is_in_file = false;
+                self.place = Place::Stream;
                 self.stream.is_there = true;
             }
             "usage" => {
@@ -145,18 +165,26 @@ impl Scene {
     }
 
     fn begin_file(&mut self, alloc: Global, name: &str, is_there: bool) -> Result<(), Fault> {
-        self.is_in_file = true;
+        self.place = Place::LastFile;
         let name = String::from_str(alloc, name)?;
         Ok(self.files.push(Content::new(alloc, name, is_there))?)
     }
 
+    fn begin_pipe(&mut self, alloc: Global, name: &str) -> Result<(), Fault> {
+        self.place = Place::Pipe;
+        let name = String::from_str(alloc, name)?;
+        self.pipe = Content::new(alloc, name, true);
+        Ok(())
+    }
+
     fn push_part(&mut self, line: &str) -> Result<(), Fault> {
-        if !self.is_in_file {
-            return self.stream.push(line);
-        }
-        match self.files.last_mut() {
-            Some(file) => file.push(line),
-            None => Ok(()),
+        match self.place {
+            Place::Stream => self.stream.push(line),
+            Place::Pipe => self.pipe.push(line),
+            Place::LastFile => match self.files.last_mut() {
+                Some(file) => file.push(line),
+                None => Ok(()),
+            },
         }
     }
 }

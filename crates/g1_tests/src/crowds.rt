@@ -190,6 +190,24 @@ fn all_workers_search_and_write_at_once(rt: HostRuntime) -> Result<(), Fault> {
     expect_at_once(&rt, alloc, (WIDE, WIDE_AFTER), 0..128, Part::Fill, 64)
 }
 
+/// The chunk of a caller who asks for no other.
+const USUAL_CHUNK: u64 = 64;
+
+/// Two workers meet in both rounds of the search of the field: that of the root and the cards, and that
+/// of the objects.
+#[test]
+fn workers_meet_in_each_round_of_usual_chunks(rt: HostRuntime) -> Result<(), Fault> {
+    let alloc = rt.alloc();
+    let gate = Crowd::new(&rt, Part::Deal, 2, 2);
+    let before = raw(alloc, FIELD)?;
+    let regions = (33..65).collect::<Vec<u32>>(alloc)?;
+    let settings = collecting(alloc, &regions, 2, USUAL_CHUNK)?;
+    let found = bytes_after(&rt, alloc, &before, &settings, &gate)?;
+    expect_equal(&rt, gate.met(), 2);
+    expect_bytes(&rt, &found, &raw(alloc, FIELD_AFTER)?);
+    Ok(())
+}
+
 /// Sees that a team that counts the live bytes of each region of an image meets this many times.
 fn expect_live<T: Threads + Clock + Abort + Sync>(
     rt: &T,
@@ -223,7 +241,10 @@ fn all_workers_count_live_bytes_at_once(rt: HostRuntime) -> Result<(), Fault> {
     let mut expected = [0; 128];
     expected[0] = 8 * 131_073;
     expected[33..65].fill(8 * 4_096);
-    expect_live(&rt, rt.alloc(), &bytes, Team::new(64, CHUNK), 1, &expected)
+    for chunk in [USUAL_CHUNK, CHUNK] {
+        expect_live(&rt, rt.alloc(), &bytes, Team::new(64, chunk), 1, &expected)?;
+    }
+    Ok(())
 }
 
 /// Two roots reference two objects when the pause comes.

@@ -4,7 +4,7 @@
 //!
 //! 1. `words`: addresses, and where regions and cards start. `refusals`: the line and the status of a refusal; words of a
 //!    command line.
-//! 2. `work`, `claim`: work and words that threads share. `frontier`: the words that two rounds leave.
+//! 2. `deal`, `work`, `claim`: chunks, work and words that threads share. `frontier`: the words that two rounds leave.
 //! 3. `crowds`: that workers work at the same time, up to 64. `gates` has the gates that see it: a new case of threads
 //!    begins with one of them.
 //! 4. `streams`: images and pauses over readers and writers that give a byte a call, fail, are interrupted or would block.
@@ -17,6 +17,8 @@
 mod claim;
 #[cfg(test)]
 mod crowds;
+#[cfg(test)]
+mod deal;
 #[cfg(test)]
 mod expecting;
 #[cfg(test)]

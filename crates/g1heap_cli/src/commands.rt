@@ -1,6 +1,7 @@
 //! What the program does with a request.
 use crate::explaining::{explain_object, explain_pause};
 use crate::files::{read_bytes, read_image};
+use crate::line_writer::LineWriter;
 use crate::options::{Part, Request, parse};
 use crate::output::{Output, write_file};
 use crate::refusal::{no_object, no_region};
@@ -29,7 +30,7 @@ pub struct Call<'a> {
 /// Runs the program, and gives its exit status: 0, 1 if two heaps differ, 141 if the reader of a text
 /// went away, or that of the refusal which is then reported on `errors`. Files and the reader are read
 /// when the words were found to be a request. The writer is written last, and not at all if there is a
-/// refusal, unless it was the writer that failed.
+/// refusal, unless it was the writer that failed or the lines are written as they are made.
 pub fn program<T: Threads + Sync + Files, R: Read, W: Write, E: Write>(
     rt: &T,
     alloc: Global,
@@ -67,9 +68,10 @@ fn answer<T: Threads + Sync + Files, R: Read, W: Write>(
     match request {
         Request::Help(text) => Ok(deliver_text(0, text.as_bytes(), writer)?),
         Request::Same(same) => {
-            let mut text = String::new(alloc);
-            let status = compare_files(rt, alloc, same, reader, &mut text)?;
-            Ok(deliver_text(status, text.as_bytes(), writer)?)
+            let text = String::new(alloc);
+            let mut answer = LineWriter { text, writer };
+            let status = compare_files(rt, alloc, same, reader, &mut answer)?;
+            Ok(answer.write(status)?)
         }
         Request::Print {
             image,

@@ -182,7 +182,7 @@ fn push_path(
 fn push_before(text: &mut String, sides: Sides<'_>, word: u64) -> Result<(), AllocError> {
     push_word(text, ": ", sides.labels[0], word)?;
     if let (Some(names), Some(address)) = (sides.names, word.checked_sub(1)) {
-        push_named_object(text, names, address)?;
+        push_named_object(text, sides.before, names, address)?;
     }
     text.push_str(" before")
 }
@@ -313,7 +313,8 @@ fn word_at_path(heap: &Heap, root: u64, slots: &[u64]) -> u64 {
     word
 }
 
-fn first_data(heap: &Heap, reference: u64) -> Option<u64> {
+/// The first data word of the object that a reference word references, if it has one.
+pub fn first_data(heap: &Heap, reference: u64) -> Option<u64> {
     let object = object_in(heap, reference.checked_sub(1)?)?;
     if object.size > object.refs.saturating_add(1) {
         Some(data_word(heap, reference, 0))

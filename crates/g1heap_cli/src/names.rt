@@ -1,7 +1,9 @@
 //! What a program calls its roots, its objects and the words in them.
+use crate::comparing::{first_data, slots_of};
 use crate::places::value_at;
 use crate::refusal::wrong_line;
 use g1_command::{Refusal, whole};
+use g1_words::Heap;
 use std::alloc::{AllocError, Global};
 
 /// The names in a text of lines:
@@ -11,16 +13,18 @@ use std::alloc::{AllocError, Global};
 ///     label WORD TYPE
 ///     object ADDRESS TYPE [NOTE]
 ///
-/// A last name that ends with `[]` is that of its word and of all behind it.
+/// A last name that ends with `[]` is that of its word and of all behind it. Of several lines of one number, or of one
+/// type, the first counts.
 #[derive(Drop)]
 pub struct Names<'a> {
+    // Numbers, rising.
     roots: Vec<(u64, &'a str)>,
+    // Types, rising.
     types: Vec<(&'a str, Vec<&'a str>)>,
-    // Each type with the first data word that its objects have.
+    // First data words, rising, each with the type of the objects that have it.
     labels: Vec<(u64, &'a str)>,
-    // Addresses, rising, each with the place of its object's kind.
-    objects: Vec<(u64, u64)>,
-    kinds: Vec<Kind<'a>>,
+    // Addresses, rising.
+    objects: Vec<(u64, Kind<'a>)>,
 }
 
 /// The type of an object, and what else its line says of it.
@@ -50,11 +54,18 @@ impl<'a> Names<'a> {
             types: Vec::new(alloc),
             labels: Vec::new(alloc),
             objects: Vec::new(alloc),
-            kinds: Vec::new(alloc),
         };
         names.add_lines(alloc, file, text)?;
-        names.objects.sort_unstable();
+        names.sort()?;
         Ok(names)
+    }
+
+    // Puts each list in the order in which it is searched. Lines of one key stay in their order.
+    fn sort(&mut self) -> Result<(), AllocError> {
+        self.roots.sort_by_key(|line| line.0)?;
+        self.types.sort_by_key(|line| line.0)?;
+        self.labels.sort_by_key(|line| line.0)?;
+        self.objects.sort_by_key(|line| line.0)
     }
 
     fn add_lines(&mut self, alloc: Global, file: &str, text: &'a str) -> Result<(), Refusal> {
@@ -137,47 +148,50 @@ impl<'a> Names<'a> {
         let Some(address) = whole(address) else {
             return Ok(Some("an address behind 'object'"));
         };
-        self.objects.push((address, self.kinds.len() as u64))?;
-        self.kinds.push(Kind { name, note })?;
+        self.objects.push((address, Kind { name, note }))?;
         Ok(None)
     }
 
     /// The name of a root.
     pub fn root(&self, number: u64) -> Option<&'a str> {
-        found(&self.roots, number)
+        value_at(self.roots.as_slice(), number)
     }
 
     /// The type whose objects have this first data word.
     pub fn label(&self, word: u64) -> Option<&'a str> {
-        found(&self.labels, word)
+        value_at(self.labels.as_slice(), word)
     }
 
-    /// The kind of the object at an address.
-    pub fn object(&self, address: u64) -> Option<Kind<'a>> {
-        let place = value_at(self.objects.as_slice(), address)?;
-        self.kinds.get(place as usize).copied()
-    }
-
-    /// The name of a slot of the object at an address, which has `slots` of them.
-    pub fn slot(&self, address: u64, slots: u64, slot: u64) -> Option<Word<'a>> {
-        let words = self.type_at(address)?;
-        numbered(words.get(..border(words, slots))?, slot)
-    }
-
-    /// The name of a data word of the object at an address, which has this many slots.
-    pub fn data(&self, address: u64, slots: u64, word: u64) -> Option<Word<'a>> {
-        let words = self.type_at(address)?;
-        numbered(words.get(border(words, slots).saturating_add(1)..)?, word)
-    }
-
-    fn type_at(&self, address: u64) -> Option<&[&'a str]> {
-        let kind = self.object(address)?;
-        for (name, words) in &self.types {
-            if *name == kind.name {
-                return Some(words.as_slice());
-            }
+    /// The kind of an object of the heap before: that of its address, or else the type of its first data word.
+    pub fn object(&self, heap: &Heap, address: u64) -> Option<Kind<'a>> {
+        if let Some(kind) = value_at(self.objects.as_slice(), address) {
+            return Some(kind);
         }
-        None
+        let name = self.label(first_data(heap, address.saturating_add(1))?)?;
+        Some(Kind { name, note: "" })
+    }
+
+    /// The name of a slot of an object of the heap before.
+    pub fn slot(&self, heap: &Heap, address: u64, slot: u64) -> Option<Word<'a>> {
+        let words = self.words_of(heap, address)?;
+        numbered(words.get(..border(words, slots_of(heap, address)))?, slot)
+    }
+
+    /// The name of a data word of an object of the heap before.
+    pub fn data(&self, heap: &Heap, address: u64, word: u64) -> Option<Word<'a>> {
+        let words = self.words_of(heap, address)?;
+        let first = border(words, slots_of(heap, address)).saturating_add(1);
+        numbered(words.get(first..)?, word)
+    }
+
+    // The words of the line of an object's type, behind `slots`.
+    fn words_of(&self, heap: &Heap, address: u64) -> Option<&[&'a str]> {
+        let kind = self.object(heap, address)?;
+        let below = self.types.partition_point(|(name, _)| *name < kind.name);
+        match self.types.get(below) {
+            Some((name, words)) if *name == kind.name => Some(words.as_slice()),
+            _ => None,
+        }
     }
 }
 
@@ -212,15 +226,6 @@ fn border(words: &[&str], slots: u64) -> usize {
         }
     }
     words.len()
-}
-
-fn found<'a>(list: &[(u64, &'a str)], key: u64) -> Option<&'a str> {
-    for (number, name) in list {
-        if *number == key {
-            return Some(*name);
-        }
-    }
-    None
 }
 
 // The name of the word of this number.

@@ -1,5 +1,5 @@
 //! A difference in the names that a program has for it.
-use crate::comparing::{slots_of, word_at};
+use crate::comparing::word_at;
 use crate::names::{Names, Word};
 use g1_words::Heap;
 use std::alloc::{AllocError, Global};
@@ -33,12 +33,14 @@ pub fn push_named_path(
 fn push_ends(text: &mut String, runs: &[Run]) -> Result<(), AllocError> {
     let (first, rest) = runs.split_at(runs.len().min(END));
     let (middle, last) = rest.split_at(rest.len().saturating_sub(END));
-    push_runs(text, first, false)?;
+    let mut apart = push_runs(text, first, false)?;
     if !middle.is_empty() {
         let steps = steps_in(middle);
         write!(text, " .. {steps} steps ..")?;
+        apart = true;
     }
-    push_runs(text, last, !middle.is_empty())
+    push_runs(text, last, apart)?;
+    Ok(())
 }
 
 fn steps_in(runs: &[Run]) -> u64 {
@@ -49,7 +51,7 @@ fn steps_in(runs: &[Run]) -> u64 {
     steps
 }
 
-// A step, and how often it is done.
+// A step alone, or one that is repeated at least `RUN` times, and how often it is done.
 #[derive(Drop)]
 struct Run {
     step: String,
@@ -65,48 +67,60 @@ fn add_runs(
     slots: &[u64],
 ) -> Result<(), AllocError> {
     let mut word = word_at(heap.roots(), root);
+    let mut step = String::new(alloc);
     for slot in slots {
-        let mut step = String::new(alloc);
+        step.clear();
         push_step(&mut step, heap, names, word.saturating_sub(1), *slot)?;
-        add_step(runs, step)?;
+        add_step(alloc, runs, step.as_str())?;
         word = word_at(heap.words(), word.saturating_add(*slot));
     }
     Ok(())
 }
 
-fn add_step(runs: &mut Vec<Run>, step: String) -> Result<(), AllocError> {
+// The third of equal steps makes one run of the two before it, each of which was alone.
+fn add_step(alloc: Global, runs: &mut Vec<Run>, step: &str) -> Result<(), AllocError> {
+    let is_third = is_pair(runs.as_slice(), step);
+    if is_third {
+        runs.pop();
+    }
     if let Some(run) = runs.last_mut() {
-        if run.step == step {
+        if is_third {
+            run.count = RUN;
+            return Ok(());
+        }
+        if run.count >= RUN && run.step.as_str() == step {
             run.count = run.count.saturating_add(1);
             return Ok(());
         }
     }
+    let step = String::from_str(alloc, step)?;
     runs.push(Run { step, count: 1 })?;
     Ok(())
 }
 
-// Behind a number, or behind dots, a step begins with a space.
-fn push_runs(text: &mut String, runs: &[Run], apart: bool) -> Result<(), AllocError> {
-    let mut apart = apart;
-    for run in runs {
-        if apart && !run.step.starts_with(' ') {
-            text.push(' ')?;
-        }
-        push_run(text, run)?;
-        apart = run.count >= RUN;
+// Whether the last two runs are of this step.
+fn is_pair(runs: &[Run], step: &str) -> bool {
+    match runs {
+        [.., first, second] => first.step.as_str() == step && second.step.as_str() == step,
+        _ => false,
     }
-    Ok(())
 }
 
-fn push_run(text: &mut String, run: &Run) -> Result<(), AllocError> {
-    let Run { step, count } = run;
-    if *count >= RUN {
-        return write!(text, "{step} x {count}");
-    }
-    for _ in 0..*count {
+// Behind a number, or behind dots, a step begins with a space. Returns whether the last run ends with a number.
+fn push_runs(text: &mut String, runs: &[Run], apart: bool) -> Result<bool, AllocError> {
+    let mut apart = apart;
+    for run in runs {
+        let Run { step, count } = run;
+        if apart && !step.starts_with(' ') {
+            text.push(' ')?;
+        }
         text.push_str(step.as_str())?;
+        apart = *count >= RUN;
+        if apart {
+            write!(text, " x {count}")?;
+        }
     }
-    Ok(())
+    Ok(apart)
 }
 
 // The step from an object by a slot.
@@ -117,7 +131,7 @@ fn push_step(
     address: u64,
     slot: u64,
 ) -> Result<(), AllocError> {
-    let Some(Word { name, number }) = names.slot(address, slots_of(heap, address), slot) else {
+    let Some(Word { name, number }) = names.slot(heap, address, slot) else {
         return write!(text, " slot {slot}");
     };
     if !name.is_empty() {
@@ -132,10 +146,11 @@ fn push_step(
 /// The type of an object, and what else is said of it, in parentheses.
 pub fn push_named_object(
     text: &mut String,
+    heap: &Heap,
     names: &Names<'_>,
     address: u64,
 ) -> Result<(), AllocError> {
-    let Some(kind) = names.object(address) else {
+    let Some(kind) = names.object(heap, address) else {
         return Ok(());
     };
     let (name, note) = (kind.name, kind.note);
@@ -154,7 +169,7 @@ pub fn push_named_data(
     address: u64,
     word: u64,
 ) -> Result<(), AllocError> {
-    match names.data(address, slots_of(heap, address), word) {
+    match names.data(heap, address, word) {
         None => Ok(()),
         Some(Word { name, number: None }) => write!(text, ", {name},"),
         Some(

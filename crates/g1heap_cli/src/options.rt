@@ -55,11 +55,11 @@ pub struct Trace {
     pub image: Option<ImageAfter>,
 }
 
-/// The image after a command, and the file that it goes to.
+/// The image after a command, and where it goes: to a file, or in place of the replies.
 #[derive(Drop)]
 pub struct ImageAfter {
     pub command: u64,
-    pub file: String,
+    pub output: Output,
 }
 
 /// A pause to explain. At most one of budget and regions is here.
@@ -262,15 +262,19 @@ fn explain_of(alloc: Global, values: &ArgMatches<'_>) -> Result<Request, Misuse>
 
 // The number of the command, and the file.
 fn image_of(alloc: Global, values: &ArgMatches<'_>) -> Result<Option<ImageAfter>, Misuse> {
-    match values.get_strs(IMAGE_AFTER.id) {
-        Some([number, file]) => match number_in(alloc, &IMAGE_AFTER, number)? {
-            0 => Err(IMAGE_AFTER.refuse(alloc, "0")?),
-            command => Ok(Some(ImageAfter {
-                command,
-                file: String::from_str(alloc, file)?,
-            })),
-        },
-        _ => Ok(None),
+    let Some([number, file]) = values.get_strs(IMAGE_AFTER.id) else {
+        return Ok(None);
+    };
+    if *file == STANDARD_STREAM && values.get_flag(LIVE.id) {
+        let message = "with '--live' standard output has the replies: the image needs a file";
+        return Err(Misuse::Value(String::from_str(alloc, message)?));
+    }
+    match number_in(alloc, &IMAGE_AFTER, number)? {
+        0 => Err(IMAGE_AFTER.refuse(alloc, "0")?),
+        command => Ok(Some(ImageAfter {
+            command,
+            output: Output::of_name(alloc, Some(*file))?,
+        })),
     }
 }
 

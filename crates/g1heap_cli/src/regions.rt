@@ -1,5 +1,6 @@
 //! The regions of `--set` and `--young`: numbers, and lists of numbers and of ranges, as 1,2,5-9.
 use g1_command::{Argument, Misuse, region_in};
+use g1_words::Marks;
 use std::alloc::{AllocError, Global};
 
 const OPTION: &str = "--set";
@@ -62,23 +63,38 @@ fn is_list(word: &str) -> bool {
     matches!(bytes.first(), Some(b'0'..=b'9'))
 }
 
-/// The regions that these lists name, in their order. They need not be those of an image.
+/// The regions that these lists name, in their order. Each is one that an image may have, and none is there twice; but they
+/// need not be those of an image.
 pub fn regions_in(alloc: Global, argument: &Argument, lists: &[&str]) -> Result<Vec<u32>, Misuse> {
-    let mut regions = Vec::new(alloc);
+    let mut named = Named {
+        regions: Vec::new(alloc),
+        seen: Marks::none(alloc, MOST as usize)?,
+    };
     for list in lists {
-        push_list(alloc, argument, list, &mut regions)?;
+        push_list(alloc, argument, list, &mut named)?;
     }
+    let Named { regions, .. } = named;
     Ok(regions)
 }
+
+// The regions that were named, as a list and as marks.
+#[derive(Drop)]
+struct Named {
+    regions: Vec<u32>,
+    seen: Marks,
+}
+
+// No image has more regions.
+const MOST: u32 = 4096;
 
 fn push_list(
     alloc: Global,
     argument: &Argument,
     list: &str,
-    regions: &mut Vec<u32>,
+    named: &mut Named,
 ) -> Result<(), Misuse> {
     for part in list.split(',') {
-        push_part(alloc, argument, part, regions)?;
+        push_part(alloc, argument, part, named)?;
     }
     Ok(())
 }
@@ -87,31 +103,45 @@ fn push_part(
     alloc: Global,
     argument: &Argument,
     part: &str,
-    regions: &mut Vec<u32>,
+    named: &mut Named,
 ) -> Result<(), Misuse> {
     // A region alone is a range of one.
     let (first, last) = part.split_once('-').unwrap_or((part, part));
-    let first = region_in(alloc, argument, first)?;
-    let last = region_in(alloc, argument, last)?;
-    match last.checked_sub(first) {
-        Some(more) if more < MOST => push_range(first, last, regions),
-        _ => refuse_range(alloc, argument, part),
+    let first = region_of_image(alloc, argument, first)?;
+    let last = region_of_image(alloc, argument, last)?;
+    if first > last {
+        return refuse(alloc, argument, part, "a range rises");
     }
-}
-
-// No heap has this many regions.
-const MOST: u32 = 65_536;
-
-fn push_range(first: u32, last: u32, regions: &mut Vec<u32>) -> Result<(), Misuse> {
     for region in first..=last {
-        regions.push(region)?;
+        if !push_region(named, region)? {
+            return refuse(alloc, argument, part, "a region is given twice");
+        }
     }
     Ok(())
 }
 
-fn refuse_range(alloc: Global, argument: &Argument, part: &str) -> Result<(), Misuse> {
+// A region that an image may have.
+fn region_of_image(alloc: Global, argument: &Argument, text: &str) -> Result<u32, Misuse> {
+    let region = region_in(alloc, argument, text)?;
+    if region < MOST {
+        Ok(region)
+    } else {
+        Err(argument.refuse(alloc, text)?)
+    }
+}
+
+// Adds a region, and returns whether it was not there.
+fn push_region(named: &mut Named, region: u32) -> Result<bool, AllocError> {
+    let at = region as usize;
+    if at >= named.seen.len() || named.seen.is_set(at) {
+        return Ok(false);
+    }
+    named.seen.set(at);
+    named.regions.push(region)?;
+    Ok(true)
+}
+
+fn refuse(alloc: Global, argument: &Argument, part: &str, why: &str) -> Result<(), Misuse> {
     let shown = argument.shown(alloc)?;
-    Err(Misuse::Value(format!(in alloc;
-        "invalid value '{part}' for '{shown}': a range rises, over at most {MOST} regions"
-    )?))
+    Err(Misuse::Value(format!(in alloc; "invalid value '{part}' for '{shown}': {why}")?))
 }

@@ -1,6 +1,7 @@
 //! Whether two files have one heap, and what else is asked of them.
 use crate::comparing::{Sides, push_difference_line, push_same_line, push_stale_line};
 use crate::files::{SideContent, read_bytes, read_side};
+use crate::line_writer::LineWriter;
 use crate::listing::push_others;
 use crate::names::Names;
 use crate::options::Same;
@@ -17,39 +18,40 @@ use g1_rem::verify;
 use g1_same::{Difference, Renaming, compare};
 use g1_words::{Heap, Kind};
 use std::alloc::{AllocError, Global};
-use std::io::Read;
+use std::io::{Read, Write};
 use std::rt::Files;
 use std::str;
 use std::thread::Threads;
 
-/// Adds the lines for two files, and returns the status, which is 1 if they differ.
-pub fn compare_files<T: Threads + Sync + Files, R: Read>(
+/// Adds the lines for two files to the answer, and returns the status: 1 if they differ, and 141 if the reader of lines
+/// that were written went away.
+pub fn compare_files<T: Threads + Sync + Files, R: Read, W: Write>(
     rt: &T,
     alloc: Global,
     same: &Same,
     reader: &mut R,
-    text: &mut String,
+    answer: &mut LineWriter<'_, W>,
 ) -> Result<u8, Refusal> {
     let mut lines = Vec::new(alloc);
     match read_and_open(rt, alloc, same.before.as_str(), reader, &mut lines) {
-        Ok(before) => compare_to_after(rt, alloc, same, &before, reader, text),
+        Ok(before) => compare_to_after(rt, alloc, same, &before, reader, answer),
         Err(refusal) => Err(refusal),
     }
 }
 
 // The file before is refused for its words before the file after is read.
-fn compare_to_after<T: Threads + Sync + Files, R: Read>(
+fn compare_to_after<T: Threads + Sync + Files, R: Read, W: Write>(
     rt: &T,
     alloc: Global,
     same: &Same,
     before: &Side<'_>,
     reader: &mut R,
-    text: &mut String,
+    answer: &mut LineWriter<'_, W>,
 ) -> Result<u8, Refusal> {
     check_whole(alloc, same.before.as_str(), before)?;
     let mut lines = Vec::new(alloc);
     match read_and_open(rt, alloc, same.after.as_str(), reader, &mut lines) {
-        Ok(after) => compare_to_side(rt, alloc, same, before, after, reader, text),
+        Ok(after) => compare_to_side(rt, alloc, same, before, after, reader, answer),
         Err(refusal) => Err(refusal),
     }
 }
@@ -77,34 +79,34 @@ fn read_and_open<'a, T: Files, R: Read>(
 }
 
 // Only what is the same is asked for cover.
-fn compare_to_side<T: Threads + Sync + Files, R: Read>(
+fn compare_to_side<T: Threads + Sync + Files, R: Read, W: Write>(
     rt: &T,
     alloc: Global,
     same: &Same,
     before: &Side<'_>,
     after: Side<'_>,
     reader: &mut R,
-    text: &mut String,
+    answer: &mut LineWriter<'_, W>,
 ) -> Result<u8, Refusal> {
-    match compare_asked(rt, alloc, same, before, &after, reader, text) {
-        Ok(0) if same.covered => push_cover(rt, alloc, same, after, text),
+    match compare_asked(rt, alloc, same, before, &after, reader, answer) {
+        Ok(0) if same.covered => push_cover(rt, alloc, same, after, &mut answer.text),
         compared => compared,
     }
 }
 
 // The names of the program are read when both heaps are.
-fn compare_asked<T: Files, R: Read>(
+fn compare_asked<T: Files, R: Read, W: Write>(
     rt: &T,
     alloc: Global,
     same: &Same,
     before: &Side<'_>,
     after: &Side<'_>,
     reader: &mut R,
-    text: &mut String,
+    answer: &mut LineWriter<'_, W>,
 ) -> Result<u8, Refusal> {
     check_asked(alloc, same, before, after)?;
     match read_names(rt, alloc, same, reader) {
-        Ok(names) => compare_named(alloc, same, names.as_slice(), before, after, text),
+        Ok(names) => compare_named(alloc, same, names.as_slice(), before, after, answer),
         Err(refusal) => Err(refusal),
     }
 }
@@ -122,19 +124,19 @@ fn read_names<T: Files, R: Read>(
     }
 }
 
-fn compare_named(
+fn compare_named<W: Write>(
     alloc: Global,
     same: &Same,
     names: &[u8],
     before: &Side<'_>,
     after: &Side<'_>,
-    text: &mut String,
+    answer: &mut LineWriter<'_, W>,
 ) -> Result<u8, Refusal> {
     let Some(file) = &same.names else {
-        return compare_sides(alloc, same, None, before, after, text);
+        return compare_sides(alloc, same, None, before, after, answer);
     };
     match names_in(alloc, file.as_str(), names) {
-        Ok(names) => compare_sides(alloc, same, Some(&names), before, after, text),
+        Ok(names) => compare_sides(alloc, same, Some(&names), before, after, answer),
         Err(refusal) => Err(refusal),
     }
 }
@@ -179,18 +181,18 @@ fn first_no_text(bytes: &[u8]) -> u64 {
     number
 }
 
-fn compare_sides(
+fn compare_sides<W: Write>(
     alloc: Global,
     same: &Same,
     names: Option<&Names<'_>>,
     before: &Side<'_>,
     after: &Side<'_>,
-    text: &mut String,
+    answer: &mut LineWriter<'_, W>,
 ) -> Result<u8, Refusal> {
     let sides = sides_of(names, before, after);
     match &after.stale {
-        None => compare_heaps(alloc, same, sides, text),
-        Some(strays) => compare_stale(alloc, same, sides, strays, text),
+        None => compare_heaps(alloc, same, sides, answer),
+        Some(strays) => compare_stale(alloc, same, sides, strays, answer),
     }
 }
 
@@ -222,15 +224,15 @@ fn labels_of<'a>(side: &'a Side<'_>) -> Option<&'a [(u64, &'a str)]> {
     }
 }
 
-fn compare_heaps(
+fn compare_heaps<W: Write>(
     alloc: Global,
     same: &Same,
     sides: Sides<'_>,
-    text: &mut String,
+    answer: &mut LineWriter<'_, W>,
 ) -> Result<u8, Refusal> {
     match compare(alloc, sides.before, sides.after) {
-        Ok(Ok(renaming)) => push_same(alloc, same, sides, &renaming, text),
-        Ok(Err(difference)) => push_differences(alloc, same, sides, &difference, text),
+        Ok(Ok(renaming)) => push_same(alloc, same, sides, &renaming, &mut answer.text),
+        Ok(Err(difference)) => push_differences(alloc, same, sides, &difference, answer),
         Err(fault) => Err(Refusal::Fault(fault)),
     }
 }
@@ -246,27 +248,27 @@ fn push_same(
     push_kept(alloc, same, sides, text)
 }
 
-fn push_differences(
+fn push_differences<W: Write>(
     alloc: Global,
     same: &Same,
     sides: Sides<'_>,
     difference: &Difference,
-    text: &mut String,
+    answer: &mut LineWriter<'_, W>,
 ) -> Result<u8, Refusal> {
-    push_difference_line(alloc, text, sides, difference)?;
-    push_all(alloc, same, sides, None, text)
+    push_difference_line(alloc, &mut answer.text, sides, difference)?;
+    push_all(alloc, same, sides, None, answer)
 }
 
 // The first difference, of those between the graphs and the first stale word that the roots reach.
-fn compare_stale(
+fn compare_stale<W: Write>(
     alloc: Global,
     same: &Same,
     sides: Sides<'_>,
     strays: &Strays<'_>,
-    text: &mut String,
+    answer: &mut LineWriter<'_, W>,
 ) -> Result<u8, Refusal> {
-    push_first(alloc, same, sides, strays, text)?;
-    push_all(alloc, same, sides, Some(&strays.words), text)
+    push_first(alloc, same, sides, strays, &mut answer.text)?;
+    push_all(alloc, same, sides, Some(&strays.words), answer)
 }
 
 fn push_first(
@@ -312,18 +314,18 @@ fn comes_first(first: &Option<(Path, u64)>, difference: &Difference) -> bool {
     }
 }
 
-// The lines of other differences and their numbers, if that is asked, behind that of the first one.
-fn push_all(
+// The lines of other differences and their numbers, if that is asked, behind that of the first one. Returns the status.
+fn push_all<W: Write>(
     alloc: Global,
     same: &Same,
     sides: Sides<'_>,
     stale: Option<&Stale>,
-    text: &mut String,
+    answer: &mut LineWriter<'_, W>,
 ) -> Result<u8, Refusal> {
-    if let Some(most) = same.all {
-        push_others(alloc, text, sides, stale, most)?;
+    match same.all {
+        Some(most) => push_others(alloc, answer, sides, stale, most),
+        None => Ok(1),
     }
-    Ok(1)
 }
 
 // What a pause of the set keeps, if a set is given. If something is lost, only that is reported.

@@ -7,10 +7,10 @@ use g1_same::How;
 use g1_words::{Heap, Object};
 use std::alloc::{AllocError, Global};
 
-/// A difference, and the path to it.
-#[derive(Drop)]
+/// A difference, and the last step of the path to it.
+#[derive(Clone, Copy)]
 pub struct FoundDifference {
-    pub path: Path,
+    pub step: Step,
     pub what: What,
 }
 
@@ -58,53 +58,43 @@ impl Tour {
         })
     }
 
+    /// The path to a difference that the walk found.
+    pub fn path_to(&self, alloc: Global, found: &FoundDifference) -> Result<Path, AllocError> {
+        Path::of_steps(alloc, self.steps.as_slice(), found.step)
+    }
+
     /// Walks both heaps at once from as many roots as both have, in the order in which they are compared. The
     /// walk goes on behind objects whose data words alone differ. It does not go on behind any other difference.
-    pub fn walk(
-        &mut self,
-        alloc: Global,
-        sides: Sides<'_>,
-        stale: Option<&Stale>,
-    ) -> Result<(), AllocError> {
+    pub fn walk(&mut self, sides: Sides<'_>, stale: Option<&Stale>) -> Result<(), AllocError> {
         let none: &[(u64, u64)] = &[];
         let (roots, slots) = match stale {
             Some(stale) => (stale.roots.as_slice(), stale.slots.as_slice()),
             None => (none, none),
         };
-        self.meet_roots(alloc, sides, roots)?;
-        self.visit_all(alloc, sides, slots)
+        self.meet_roots(sides, roots)?;
+        self.visit_all(sides, slots)
     }
 
     // Meets what the roots reference that both heaps have.
-    fn meet_roots(
-        &mut self,
-        alloc: Global,
-        sides: Sides<'_>,
-        stale: &[(u64, u64)],
-    ) -> Result<(), AllocError> {
+    fn meet_roots(&mut self, sides: Sides<'_>, stale: &[(u64, u64)]) -> Result<(), AllocError> {
         for (number, old) in sides.before.roots().iter().enumerate() {
             let Some(new) = sides.after.roots().get(number) else {
                 break;
             };
             let number = number as u64;
             let word = value_at(stale, number);
-            self.meet(alloc, sides, Step { from: 0, number }, (*old, *new), word)?;
+            self.meet(sides, Step { from: 0, number }, (*old, *new), word)?;
         }
         Ok(())
     }
 
     // Visits the pairs in the order in which they are found.
-    fn visit_all(
-        &mut self,
-        alloc: Global,
-        sides: Sides<'_>,
-        stale: &[(u64, u64)],
-    ) -> Result<(), AllocError> {
+    fn visit_all(&mut self, sides: Sides<'_>, stale: &[(u64, u64)]) -> Result<(), AllocError> {
         for place in 0..sides.before.words().len() {
             let Some(pair) = self.pairs.get(place).copied() else {
                 break;
             };
-            self.visit(alloc, sides, stale, place as u64, pair)?;
+            self.visit(sides, stale, place as u64, pair)?;
         }
         Ok(())
     }
@@ -112,7 +102,6 @@ impl Tour {
     // Meets what the slots of two objects reference.
     fn visit(
         &mut self,
-        alloc: Global,
         sides: Sides<'_>,
         stale: &[(u64, u64)],
         place: u64,
@@ -125,7 +114,7 @@ impl Tour {
             let old = word_at(sides.before.words(), slot_at(a, number));
             let new = word_at(sides.after.words(), at);
             let word = value_at(stale, at);
-            self.meet(alloc, sides, Step { from, number }, (old, new), word)?;
+            self.meet(sides, Step { from, number }, (old, new), word)?;
         }
         Ok(())
     }
@@ -133,39 +122,37 @@ impl Tour {
     // Meets two words, of which the one after may be stale.
     fn meet(
         &mut self,
-        alloc: Global,
         sides: Sides<'_>,
         step: Step,
         words: (u64, u64),
         stale: Option<u64>,
     ) -> Result<(), AllocError> {
         if let Some(word) = stale {
-            return self.report(alloc, step, What::Stale(word));
+            return self.report(step, What::Stale(word));
         }
         let (a, b) = match words {
             (0, 0) => return Ok(()),
-            (0, _) => return self.report(alloc, step, What::How(How::NullBefore)),
-            (_, 0) => return self.report(alloc, step, What::How(How::NullAfter)),
+            (0, _) => return self.report(step, What::How(How::NullBefore)),
+            (_, 0) => return self.report(step, What::How(How::NullAfter)),
             (old, new) => (old.saturating_sub(1), new.saturating_sub(1)),
         };
         match self.clash(a, b) {
-            Some(how) => self.report(alloc, step, What::How(how)),
+            Some(how) => self.report(step, What::How(how)),
             None if entry(&self.new_of, a) != 0 => Ok(()),
-            None => self.meet_new(alloc, sides, step, (a, b)),
+            None => self.meet_new(sides, step, (a, b)),
         }
     }
 
     // Meets two objects that are both new.
     fn meet_new(
         &mut self,
-        alloc: Global,
         sides: Sides<'_>,
         step: Step,
         pair: (u64, u64),
     ) -> Result<(), AllocError> {
         let how = first_difference(sides, pair);
         if let Some(how) = how {
-            self.report(alloc, step, What::How(how))?;
+            self.report(step, What::How(how))?;
         }
         if matches!(how, None | Some(How::Data { .. })) {
             self.add(step, pair)?;
@@ -211,10 +198,9 @@ impl Tour {
         Ok(())
     }
 
-    fn report(&mut self, alloc: Global, step: Step, what: What) -> Result<(), AllocError> {
+    fn report(&mut self, step: Step, what: What) -> Result<(), AllocError> {
         if (self.first.len() as u64) < self.most {
-            let path = Path::of_steps(alloc, self.steps.as_slice(), step)?;
-            self.first.push(FoundDifference { path, what })?;
+            self.first.push(FoundDifference { step, what })?;
         }
         if let Some(count) = self.counts.get_mut(kind_of(&what)) {
             *count = count.saturating_add(1);

@@ -3,9 +3,9 @@ use crate::alone::{CHUNK, WORKERS};
 use crate::explaining::of_failure;
 use crate::files::{STANDARD_STREAM, open_file};
 use crate::options::Trace;
-use crate::output::write_file;
+use crate::output::{Output, write_file};
 use crate::refusal::{IMAGE_HINT, is_image, no_command, of_file, wrong_line};
-use g1_command::{LineReader, Refusal, deliver_text};
+use g1_command::{LineReader, Refusal, deliver, deliver_text};
 use g1_explain::{Explanation, Form, explain};
 use g1_image::{Image, decode, encode};
 use g1_pause::{Choice, Settings};
@@ -110,14 +110,19 @@ fn answer_all<T: Threads + Sync + Files, R: Read, W: Write>(
     write_all(job, state, writer)
 }
 
-// Writes what is not written yet, the image first, and gives the status.
+// Writes what is not written yet, the image first, and gives the status. If the image is on standard output, the replies
+// are not.
 fn write_all<T: Files, W: Write>(
     job: &Job<'_, T>,
     state: &mut State,
     writer: &mut W,
 ) -> Result<u8, Refusal> {
     if let (Some(wanted), Some(bytes)) = (&job.trace.image, &state.image) {
-        write_file(job.rt, job.alloc, wanted.file.as_str(), bytes.as_slice())?;
+        let Output::File(name) = &wanted.output else {
+            deliver(bytes.as_slice(), writer)?;
+            return Ok(0);
+        };
+        write_file(job.rt, job.alloc, name.as_str(), bytes.as_slice())?;
         state.image = None;
     }
     let status = deliver_text(0, state.replies.as_slice(), writer)?;

@@ -10,7 +10,7 @@ Statuses:
   2  wrong words
   3  a file is no image, or a line of it is not as it has to be
   4  a slot of AFTER is not covered
-  5  a region of the set is not there, humongous, pinned, or given twice
+  5  a region of the set is not there, humongous or pinned
   6  no memory, or a read or a write that failed
   7  a file that can't be opened
   141  the reader of the answer went away
@@ -84,7 +84,7 @@ Statuses:
   2  wrong words, a number out of its range, or a region, an object or a command that isn't there
   3  a file is no image, or a line is not as it has to be
   4  a slot is not covered
-  5  a region of the set is not there, not ordinary, pinned, or given twice, or no room
+  5  a region of the set is not there, not ordinary or pinned, or no room
   6  no memory, or a read or a write that failed
   7  a file that can't be opened or written
   8  an explanation contradicts the pause: an error of this program
@@ -196,6 +196,10 @@ pub const COVERED: Argument = Argument {
 // What messages say of numbers.
 const REGION_RANGE: &str = "a region's number, below 4294967296";
 
+const LISTED_RANGE: &str = "a region's number, below 4096";
+
+const COUNT_RANGE: &str = "1 to 18446744073709551615";
+
 const KEPT_SET: Argument = Argument {
     help: "Also asks that AFTER keeps all that a pause of these regions keeps, as in 1,2,5-9",
     ..SET
@@ -211,7 +215,7 @@ pub const YOUNG: Argument = Argument {
     id: "young",
     values: &["REGIONS"],
     help: "With --covered: slots in these regions need no cover, as in 1,2,5-9",
-    range: REGION_RANGE,
+    range: LISTED_RANGE,
     ..VALUE
 };
 
@@ -225,7 +229,7 @@ pub const NAMES: Argument = Argument {
 pub const ALL: Argument = Argument {
     id: "all",
     help: "Also lists the first N differences, and counts all that a walk of both heaps finds",
-    range: "at least 1",
+    range: COUNT_RANGE,
     ..VALUE
 };
 
@@ -293,7 +297,7 @@ pub const SET: Argument = Argument {
     form: Form::ManyValues,
     values: &["REGION"],
     help: "The regions to collect, as in 1,2,5-9",
-    range: REGION_RANGE,
+    range: LISTED_RANGE,
     ..VALUE
 };
 
@@ -341,7 +345,7 @@ pub const EXPLAINED: Argument = Argument {
 pub const IMAGE_AFTER: Argument = Argument {
     id: "image",
     values: &["N", "FILE"],
-    help: "Also writes the image after command N to this file",
-    range: "at least 1",
+    help: "Also writes the image after command N to this file, or - for it alone on standard output",
+    range: COUNT_RANGE,
     ..VALUE
 };

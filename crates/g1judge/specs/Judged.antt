@@ -17,7 +17,7 @@ use Rattle.g1_same.specs.Same.{IsFirstDifference, IsRenaming}
 use Rattle.g1_kept.specs.declared.lost.Lost.{Lost}
 use Rattle.g1_kept.specs.Keeps.{Keeps}
 use Rattle.g1_kept.specs.Lost.{IsLoss}
-use Rattle.g1_kept.specs.Order.{IsEarliest}
+use Rattle.g1_kept.specs.Order.{IsEarliestLoss}
 use Rattle.g1judge.specs.declared.verdict.Ends.{Ends}
 use Rattle.g1judge.specs.declared.verdict.Verdict.{Verdict}
 use Rattle.g1judge.specs.declared.verdict.Verdict.TheVariants.{Good, Same, Differ, NoImage, Uncovered, Loss, NoSet, Memory}
@@ -75,7 +75,7 @@ JudgesSlots i _ = ⊥
 -- a heap does not keep what a pause of the set keeps of another one, and this is lost
 pub record Loses (set : List ℕ) (g h : Heap) (l : Lost) : Type 0 where
   pub is : IsLoss false set g h l
-  pub earliest : IsEarliest false set g h l
+  pub earliest : IsEarliestLoss false set g h l
   pub never : Keeps false set g h → ⊥
 
 -- what a heap keeps of another one

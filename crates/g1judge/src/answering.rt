@@ -37,7 +37,15 @@ fn place(fault: &Fault) -> (u32, u64)
         Fault::Card(Stand::Region(region)) => (1, u64::from(*region)),
         Fault::Uncovered(address) => (3, *address),
         Fault::Set(region) => (1, u64::from(*region)),
-        _ => (0, 0),
+        Fault::Magic
+        | Fault::Geometry
+        | Fault::Short
+        | Fault::Trailing
+        | Fault::Room { .. }
+        | Fault::Settings(_)
+        | Fault::Memory
+        | Fault::Device(_)
+        | Fault::Line(_) => (0, 0),
     }
 }
 

@@ -3,48 +3,48 @@ use Rattle.g1_frontier.proofs.Queues.{found_small, searched}
 use Rattle.g1_frontier.proofs.queue.search_alone.Goals as goal
 
 pub loop-from-smaller : goal.loop-from-smaller
-loop-from-smaller g c =
+loop-from-smaller c =
     let q = c.loop-from.queue in
     let small = found_small c.args.scope.now c.requires.scope q c.loop-from.invariant.queue in
     omega (arith, small, c.loop-from-test.true, c.len.ensures, q.found.ok)
 
 pub returns : goal.returns
-returns g c =
+returns c =
     let q = c.loop-from.queue in
     searched c.args.scope.now c.requires.scope c.loop-from.from q c.loop-from.invariant (omega (arith, c.loop-from-test.false, c.len.ensures, q.found.ok))
 
 pub loop-from-init : goal.loop-from-init
-loop-from-init g c = c.in_ok-queue.ensures
+loop-from-init c = c.in_ok-queue.ensures
 
 pub loop-from-preserved : goal.loop-from-preserved
-loop-from-preserved g c = c.in_ok-search_batch.ensures
+loop-from-preserved c = c.in_ok-search_batch.ensures
 
 pub begin-requires-clause-scope : goal.begin-requires-clause-scope
-begin-requires-clause-scope g c κs within = c.requires.scope
+begin-requires-clause-scope c = c.requires.scope
 
 pub begin-requires-clause-cards : goal.begin-requires-clause-cards
-begin-requires-clause-cards g c κs within = c.requires.cards
+begin-requires-clause-cards c = c.requires.cards
 
 pub begin-requires-clause-outside : goal.begin-requires-clause-outside
-begin-requires-clause-outside g c κs within = c.requires.outside
+begin-requires-clause-outside c = c.requires.outside
 
 pub begin-requires-clause-lead_in : goal.begin-requires-clause-lead_in
-begin-requires-clause-lead_in g c κs within = c.requires.lead_in
+begin-requires-clause-lead_in c = c.requires.lead_in
 
 pub search_batch-requires-clause-scope : goal.search_batch-requires-clause-scope
-search_batch-requires-clause-scope g c = c.requires.scope
+search_batch-requires-clause-scope c = c.requires.scope
 
 pub search_batch-requires-clause-queue : goal.search_batch-requires-clause-queue
-search_batch-requires-clause-queue g c = c.loop-from.invariant
+search_batch-requires-clause-queue c = c.loop-from.invariant
 
 pub search_batch-requires-clause-order : goal.search_batch-requires-clause-order
-search_batch-requires-clause-order g c = omega (arith, c.min-to.ensures, c.loop-from-test.true, c.len.ensures)
+search_batch-requires-clause-order c = omega (arith, c.min-to.ensures, c.loop-from-test.true, c.len.ensures)
 
 pub search_batch-requires-clause-found : goal.search_batch-requires-clause-found
-search_batch-requires-clause-found g c = omega (arith, c.min-to.ensures)
+search_batch-requires-clause-found c = omega (arith, c.min-to.ensures)
 
 pub overflow_add-from : goal.overflow_add-from
-overflow_add-from g c =
+overflow_add-from c =
     let q = c.loop-from.queue in
     let small = found_small c.args.scope.now c.requires.scope q c.loop-from.invariant.queue in
     omega (arith, small, c.loop-from-test.true, c.len.ensures, q.found.ok)

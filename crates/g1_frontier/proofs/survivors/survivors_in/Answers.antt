@@ -20,16 +20,16 @@ returns-clause-ok g c =
     (λ a k. i.reached a (Contains-from_in s.found.items a k))
 
 pub search_alone-requires-clause-scope : goal.search_alone-requires-clause-scope
-search_alone-requires-clause-scope g c κs within = c.requires.scope
+search_alone-requires-clause-scope g c = c.requires.scope
 
 pub search_alone-requires-clause-cards : goal.search_alone-requires-clause-cards
-search_alone-requires-clause-cards g c κs within = c.requires.cards
+search_alone-requires-clause-cards g c = c.requires.cards
 
 pub search_alone-requires-clause-outside : goal.search_alone-requires-clause-outside
-search_alone-requires-clause-outside g c κs within = c.requires.outside
+search_alone-requires-clause-outside g c = c.requires.outside
 
 pub search_alone-requires-clause-lead_in : goal.search_alone-requires-clause-lead_in
-search_alone-requires-clause-lead_in g c κs within = c.requires.lead_in
+search_alone-requires-clause-lead_in g c = c.requires.lead_in
 
 pub first_round-requires-clause-scope : goal.first_round-requires-clause-scope
 first_round-requires-clause-scope g c κs within = c.requires.scope

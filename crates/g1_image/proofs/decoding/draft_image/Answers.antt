@@ -44,3 +44,12 @@ returns-clause-ok c = λ bytes told.
       log = refl;
       remembered = refl;
     }
+
+pub returns-in_err-draft-clause-stage : goal.returns-in_err-draft-clause-stage
+returns-in_err-draft-clause-stage c =
+    let f = c.args.front in
+    let left = err_from_is_err_and c.from_residual.result c.from_residual.ensures.1 in
+    rw (left.1, left.2) (elim c.in_err-draft.ensures.err [
+      | inl m ↦ inl m
+      | inr h ↦ inr (subst (λ t. TableFault t f.heading.n c.in_err-draft.field-0.0) c.deref.ensures.value h)
+    ])

@@ -5,6 +5,7 @@ use Rattle.g1_image.specs.Reading.{Are, IsU32, IsU64, EndsWithin}
 use Rattle.g1_image.specs.Faults.{EntryFits, RememberedFits, FaultOf}
 use Rattle.g1_image.proofs.Files.{fails, short_table, short_roots, short_log, short_remembered}
 use Rattle.g1_image.proofs.plain.read_front.Goals as goal
+use Rattle.g1_image.proofs.Told.{short_text}
 use Rattle.g1_image.proofs.plain.read_front.Goals.{After-rest}
 
 -- the bytes are the magic, the heading and the rest
@@ -72,3 +73,28 @@ returns-clause-ok c =
       ready ∙ ap (λ l. magic v ++ (heading_text h ++ l)) (c.in_ok-table.ensures.1
           ∙ ap (λ l. table_text v table ++ l) (c.in_ok-roots.ensures.1 ∙ ap (λ l. words_text roots ++ l) (c.in_ok-log.ensures.1 ∙ ap (λ l. numbers_text log ++ l) c.in_ok-remembered.ensures.1))),
     )
+
+pub returns-in_err-heading-clause-stage : goal.returns-in_err-heading-clause-stage
+returns-in_err-heading-clause-stage c =
+    let left = err_from_is_err_and c.from_residual.result c.from_residual.ensures.1 in
+    rw (left.1, left.2) (c.in_err-heading.ensures.stage)
+
+pub returns-in_err-table-clause-stage : goal.returns-in_err-table-clause-stage
+returns-in_err-table-clause-stage c =
+    let left = err_from_is_err_and c.from_residual-in_err-table.result c.from_residual-in_err-table.ensures.1 in
+    rw (left.1, left.2) (short_text c.in_err-table.field-0.0 _ c.in_err-table.ensures)
+
+pub returns-in_err-roots-clause-stage : goal.returns-in_err-roots-clause-stage
+returns-in_err-roots-clause-stage c =
+    let left = err_from_is_err_and c.from_residual-in_err-roots.result c.from_residual-in_err-roots.ensures.1 in
+    rw (left.1, left.2) (short_text c.in_err-roots.field-0.0 _ c.in_err-roots.ensures)
+
+pub returns-in_err-log-clause-stage : goal.returns-in_err-log-clause-stage
+returns-in_err-log-clause-stage c =
+    let left = err_from_is_err_and c.from_residual-in_err-log.result c.from_residual-in_err-log.ensures.1 in
+    rw (left.1, left.2) (short_text c.in_err-log.field-0.0 _ c.in_err-log.ensures)
+
+pub returns-in_err-remembered-clause-stage : goal.returns-in_err-remembered-clause-stage
+returns-in_err-remembered-clause-stage c =
+    let left = err_from_is_err_and c.from_residual-in_err-remembered.result c.from_residual-in_err-remembered.ensures.1 in
+    rw (left.1, left.2) (short_text c.in_err-remembered.field-0.0 _ c.in_err-remembered.ensures)

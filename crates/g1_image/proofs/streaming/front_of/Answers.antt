@@ -22,3 +22,8 @@ returns-clause-ok c = c.in_ok-front.ensures.ok.0
 
 pub returns-clause-count : goal.returns-clause-count
 returns-clause-count c = omega arith
+
+pub returns-in_err-front-clause-stage : goal.returns-in_err-front-clause-stage
+returns-in_err-front-clause-stage c =
+    let left = err_from_is_err_and c.from_residual.result c.from_residual.ensures.1 in
+    rw (left.1, left.2) (c.in_err-front.ensures.stage)

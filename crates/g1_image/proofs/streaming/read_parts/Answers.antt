@@ -7,7 +7,7 @@ use Rattle.g1_image.specs.declared.plain.Front.{Front}
 use Rattle.g1_image.specs.Ahead.{waiting, TextFails}
 use Rattle.g1_image.specs.Faults.{MayFail}
 use Rattle.g1_image.specs.Source.{HoldsOfLeft, IsReadOut}
-use Rattle.g1_image.proofs.Told.{none_waits, read_fails, read_out_at_end, read_out_failed, not_read_out, text_mark, text_unmarked, text_may}
+use Rattle.g1_image.proofs.Told.{none_waits, read_text, read_fails, read_out_at_end, read_out_failed, not_read_out, text_mark, text_unmarked, text_may}
 use Rattle.g1_image.proofs.streaming.read_parts.Goals as goal
 use Rattle.g1_image.proofs.streaming.read_parts.Goals.{then-is_of_bytes+in_ok-drain-in-Err, else-is_of_bytes}
 use Rattle.g1_image.proofs.streaming.read_parts.Goals.{Joined-ahead-2}
@@ -76,3 +76,11 @@ returns-clause-marks g c =
       | then-is_of_bytes+in_ok-drain-in-Err w ↦ ap (λ s. g.S.Source.failed s) w.source-is ∙ w.in_ok-drain-in-Err.ensures.mark ∙ marked
       | else-is_of_bytes w ↦ ap (λ s. g.S.Source.failed s) w.source-is ∙ marked
     ]
+
+pub returns-in_err-drain-in-Err-clause-stage : goal.returns-in_err-drain-in-Err-clause-stage
+returns-in_err-drain-in-Err-clause-stage g c =
+    let left = err_from_is_err_and c.from_residual.result c.from_residual.ensures.1 in
+    rw (left.1, left.2) (read_text _ _ c.in_err-drain-in-Err.field-0.0 c.in_err-drain-in-Err.ensures.err)
+
+pub returns-clause-stage : goal.returns-clause-stage
+returns-clause-stage g c = c.in-Err.ensures.stage

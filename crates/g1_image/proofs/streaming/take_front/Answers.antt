@@ -3,7 +3,7 @@ use Rattle.std.proofs.KnownBytes.{Keeps-refl, Keeps-trans}
 use Rattle.std.proofs.lemmas.Result.{err_from_is_err_and}
 use Rattle.g1_image.specs.Ahead.{waiting}
 use Rattle.g1_image.specs.Faults.{FaultOf, MayFail}
-use Rattle.g1_image.proofs.Told.{read_fails, front_taken, front_fails, at_end, whatever_follows}
+use Rattle.g1_image.proofs.Told.{read_text, read_fails, front_taken, front_fails, at_end, whatever_follows}
 use Rattle.g1_image.proofs.streaming.take_front.Goals as goal
 use Rattle.g1_image.proofs.streaming.take_front.Goals.{then-not-more-via-then-not-more, then-not-more-via-else-not-more+then-is_final}
 
@@ -71,3 +71,11 @@ returns-in_err-more-clause-known g c = c.reach.ensures.known
 
 pub returns-then-not-more-clause-known : goal.returns-then-not-more-clause-known
 returns-then-not-more-clause-known g c = c.reach.ensures.known
+
+pub returns-in_err-more-clause-stage : goal.returns-in_err-more-clause-stage
+returns-in_err-more-clause-stage g c =
+    let left = err_from_is_err_and c.from_residual.result c.from_residual.ensures.1 in
+    rw (left.1, left.2) (read_text _ _ c.in_err-more.field-0.0 c.in_err-more.ensures.err)
+
+pub returns-then-not-more-clause-stage : goal.returns-then-not-more-clause-stage
+returns-then-not-more-clause-stage g c = c.in-Err.ensures.stage

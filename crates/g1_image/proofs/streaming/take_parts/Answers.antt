@@ -4,7 +4,7 @@ use Rattle.g1_image.specs.Text.{table_words, words_of}
 use Rattle.g1_image.specs.Image.{all_words}
 use Rattle.g1_image.specs.Plain.{front_text}
 use Rattle.g1_image.specs.Ahead.{waiting, to_take, TakeFails}
-use Rattle.g1_image.proofs.Told.{read_fails, words_fail, whole_text, bytes_behind, all_taken}
+use Rattle.g1_image.proofs.Told.{read_text, take_text, read_fails, words_fail, whole_text, bytes_behind, all_taken}
 use Rattle.g1_image.proofs.streaming.take_parts.Goals as goal
 
 pub returns-in_err-front-clause-err : goal.returns-in_err-front-clause-err
@@ -91,3 +91,18 @@ returns-clause-known g c = c.reach.ensures.known
 
 pub returns-clause-mark : goal.returns-clause-mark
 returns-clause-mark g c = c.in_ok-reach.ensures.ok.mark ∙ c.in_ok-words.ensures.ok.1.mark ∙ c.in_ok-front.ensures.mark
+
+pub returns-in_err-front-clause-stage : goal.returns-in_err-front-clause-stage
+returns-in_err-front-clause-stage g c =
+    let left = err_from_is_err_and c.from_residual.result c.from_residual.ensures.1 in
+    rw (left.1, left.2) (c.in_err-front.ensures.stage)
+
+pub returns-in_err-words-clause-stage : goal.returns-in_err-words-clause-stage
+returns-in_err-words-clause-stage g c =
+    let left = err_from_is_err_and c.from_residual-in_err-words.result c.from_residual-in_err-words.ensures.1 in
+    rw (left.1, left.2) (take_text _ _ _ _ c.in_err-words.field-0.0 c.in_err-words.ensures.err)
+
+pub returns-in_err-reach-clause-stage : goal.returns-in_err-reach-clause-stage
+returns-in_err-reach-clause-stage g c =
+    let left = err_from_is_err_and c.from_residual-in_err-reach.result c.from_residual-in_err-reach.ensures.1 in
+    rw (left.1, left.2) (read_text _ _ c.in_err-reach.field-0.0 c.in_err-reach.ensures.err)

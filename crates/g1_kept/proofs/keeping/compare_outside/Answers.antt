@@ -6,7 +6,7 @@ use Rattle.g1_words.specs.Heap.{Heap, kind, start}
 use Rattle.g1_kept.specs.declared.lost.Lost.{Lost}
 use Rattle.g1_kept.specs.declared.pairs.Pairs.{Pairs}
 use Rattle.g1_kept.specs.Pause.{IsLossIn, IsMetFirstIn}
-use Rattle.g1_kept.specs.Walk.{IsWalk, HasGrown, ComparesRegion, ComparesOutside, Searches}
+use Rattle.g1_kept.specs.Walk.{IsPairWalk, HasMorePairs, ComparesRegion, ComparesOutside, Searches}
 use Rattle.g1_kept.proofs.Growing.{none_then, some_then, grown_same, grown_more, outside_more}
 use Rattle.g1_kept.proofs.Outside.{region_skipped}
 use Rattle.g1_kept.proofs.keeping.compare_outside.Goals as goal
@@ -24,23 +24,23 @@ loop-region-preserved c =
     elim c.if-is_compared.branch [
       | then-is_compared+in_ok-lost+in_default w' ↦
           let v : Pairs = w'.compare_region.new.pairs in
-          let grown : HasGrown w v = w'.in_ok-lost.ensures.grown in
+          let grown : HasMorePairs w v = w'.in_ok-lost.ensures.grown in
           let one : ComparesRegion pause.set.now g h v k = none_then (ComparesRegion pause.set.now g h v k) w'.in_ok-lost.field-0 w'.in_default.not-Some w'.in_ok-lost.ensures.compared in
           let on = none_then (Searches pause.fill pause.set.now g h v (suc (start g (k + 1))) 0) w'.in_ok-lost.field-0 w'.in_default.not-Some w'.in_ok-lost.ensures.searched in
           record {
-            walk = subst (IsWalk pause.fill pause.set.now g h) (sym w'.pairs-is) w'.in_ok-lost.ensures.walk;
+            walk = subst (IsPairWalk pause.fill pause.set.now g h) (sym w'.pairs-is) w'.in_ok-lost.ensures.walk;
             search = subst (λ u. Searches pause.fill pause.set.now g h u (suc (start g (k + 1))) 0) (sym w'.pairs-is) on;
-            grown = subst (HasGrown c.args.pairs.now) (sym w'.pairs-is) (grown_more c.args.pairs.now w v c.loop-region.invariant.grown grown);
+            grown = subst (HasMorePairs c.args.pairs.now) (sym w'.pairs-is) (grown_more c.args.pairs.now w v c.loop-region.invariant.grown grown);
             compared = subst (λ u. ComparesOutside pause.set.now g h u (k + 1)) (sym w'.pairs-is) (outside_more pause.set.now g h w v grown k c.loop-region.invariant.compared one);
           }
       | else-is_compared w' ↦
           record {
-            walk = subst (IsWalk pause.fill pause.set.now g h) (sym w'.pairs-is) c.loop-region.invariant.walk;
+            walk = subst (IsPairWalk pause.fill pause.set.now g h) (sym w'.pairs-is) c.loop-region.invariant.walk;
             search = subst (λ u. Searches pause.fill pause.set.now g h u (suc (start g (k + 1))) 0) (sym w'.pairs-is)
                 (region_skipped pause.fill pause.set.now g h c.valid.ensures c.valid-2.ensures w k in_heap
                 (λ out used in_use. let yes : c.is_compared.result ≡ true = c.is_compared.ensures.1 (out, used, in_use) in false≢true (sym w'.if-is_compared.false ∙ yes))
                 c.loop-region.invariant.search);
-            grown = subst (HasGrown c.args.pairs.now) (sym w'.pairs-is) c.loop-region.invariant.grown;
+            grown = subst (HasMorePairs c.args.pairs.now) (sym w'.pairs-is) c.loop-region.invariant.grown;
             compared = subst (λ u. ComparesOutside pause.set.now g h u (k + 1)) (sym w'.pairs-is)
                 (λ r lt out used in_use. elim (cases_lt r k) [
                   | inl p ↦ c.loop-region.invariant.compared r p out used in_use

@@ -4,7 +4,7 @@ use Rattle.g1_words.specs.Heap.{Heap}
 use Rattle.g1_kept.specs.declared.pairs.Pairs.{Pairs}
 use Rattle.g1_kept.specs.declared.lost.Lost.{Lost}
 use Rattle.g1_kept.specs.Pause.{IsLossIn}
-use Rattle.g1_kept.specs.Walk.{IsCompared, HasGrown, HasTurn, Searches, PassesObjects, StopsAtObjects}
+use Rattle.g1_kept.specs.Walk.{IsCompared, HasMorePairs, HasTurn, Searches, PassesObjects, StopsAtObjects}
 use Rattle.g1_kept.proofs.Adding.{few_pairs}
 use Rattle.g1_kept.proofs.Growing.{none_then, some_then, grown_same, grown_more, pairs_more}
 use Rattle.g1_kept.proofs.Steps.{as_many_words, pair_read}
@@ -39,7 +39,7 @@ loop-place-preserved c =
     let lt : i < length w.before.items = omega (arith, c.loop-place-test.true, c.len.ensures, w.before.ok) in
     let a_is : a ≡ slice_index w.before.items i = get_or_read w.before.items i a lt c.index-a.ensures 0 in
     let b_is : b ≡ slice_index w.after.items i = get_or_read w.after.items i b (omega (arith, lt, c.loop-place.invariant.walk.pairs)) c.index-b.ensures 0 in
-    let grown : HasGrown w v = c.in_ok-lost.ensures.grown in
+    let grown : HasMorePairs w v = c.in_ok-lost.ensures.grown in
     let one : IsCompared pause.set.now g h v a b = none_then (IsCompared pause.set.now g h v a b) c.in_ok-lost.field-0 c.in_default.not-Some c.in_ok-lost.ensures.compared in
     let turn : HasTurn pause.set.now g h w (length g.words + i) a b = inr (i, lt, refl, a_is, b_is) in
     let passed = none_then (PassesObjects pause.fill pause.set.now g h w v a b 0) c.in_ok-lost.field-0 c.in_default.not-Some c.in_ok-lost.ensures.passed in

@@ -1,4 +1,4 @@
-use Rattle.g1_kept.specs.Walk.{HasGrown}
+use Rattle.g1_kept.specs.Walk.{HasMorePairs}
 use Rattle.g1_kept.proofs.Growing.{ComparesFirst}
 use Rattle.g1_kept.specs.Pause.{IsWalkIn}
 use Rattle.g1_kept.proofs.Outside.{IsAlong}
@@ -7,7 +7,7 @@ use Rattle.g1_kept.proofs.keeping.compare_region.Given as goal
 abbrev pub invariant-loop-place : goal.invariant-loop-place
 invariant-loop-place l = record {
   walk : IsWalkIn l.pause l.pairs;
-  grown : HasGrown l.initial.pairs l.pairs;
+  grown : HasMorePairs l.initial.pairs l.pairs;
   compared : ComparesFirst l.pause.set.now l.pause.before.now l.pause.after.now l.pairs l.starts.items l.place;
   along : IsAlong l.pause.fill l.pause.set.now l.pause.before.now l.pause.after.now l.pairs l.starts.items l.region l.place;
 }

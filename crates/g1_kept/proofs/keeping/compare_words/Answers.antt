@@ -5,7 +5,7 @@ use Rattle.std.proofs.Common.{suc, length}
 use Rattle.g1_words.specs.Heap.{Heap}
 use Rattle.g1_kept.specs.declared.pairs.Pairs.{Pairs}
 use Rattle.g1_kept.specs.Keeps.{Keeps}
-use Rattle.g1_kept.specs.Walk.{IsWalk, HasGrown, Searches, PairsRoots, ComparesOutside, ComparesPairs}
+use Rattle.g1_kept.specs.Walk.{IsPairWalk, HasMorePairs, Searches, PairsRoots, ComparesOutside, ComparesPairs}
 use Rattle.g1_kept.proofs.Growing.{none_then, ok_none_then, roots_kept, outside_kept, grown_more, some_then}
 use Rattle.g1_kept.proofs.Renamed.{keeps}
 use Rattle.g1_kept.proofs.keeping.compare_words.Goals as goal
@@ -21,7 +21,7 @@ returns-clause-none c =
     let v : Pairs = c.compare_pairs.new.pairs in
     let roots : PairsRoots set g h u (length g.roots) = none_then (PairsRoots set g h u (length g.roots)) c.in_ok-lost.field-0 c.in_default.not-Some c.in_ok-lost.ensures.paired in
     let others : ComparesOutside set g h w g.geometry.n = none_then (ComparesOutside set g h w g.geometry.n) c.in_ok-lost-2.field-0 c.in_default-2.not-Some c.in_ok-lost-2.ensures.compared in
-    ok_none_then (ComparesPairs set g h v (length v.before.items)) (Keeps pause.fill set g h) (IsWalk pause.fill set g h v) (HasGrown w v) c.compare_pairs.result
+    ok_none_then (ComparesPairs set g h v (length v.before.items)) (Keeps pause.fill set g h) (IsPairWalk pause.fill set g h v) (HasMorePairs w v) c.compare_pairs.result
     c.compare_pairs.ensures.compared c.compare_pairs.ensures.walk c.compare_pairs.ensures.grown
     (λ walk grown pairs. keeps pause.fill set g h c.in_ok-pairs.ensures.before c.in_ok-pairs.ensures.after v walk c.requires.table c.requires.roots
     (roots_kept set g h u v (grown_more u w v c.in_ok-lost-2.ensures.grown grown) (length g.roots) roots)

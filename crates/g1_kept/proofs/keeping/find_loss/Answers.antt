@@ -2,7 +2,7 @@ use Rattle.std.proofs.Common.{arith, ap, ◌≡◌, length}
 use Rattle.g1_words.specs.Heap.{Heap}
 use Rattle.g1_kept.specs.Keeps.{KeepsTable}
 use Rattle.g1_kept.specs.Lost.{IsLoss}
-use Rattle.g1_kept.specs.Order.{IsEarliest, IsMetFirst}
+use Rattle.g1_kept.specs.Order.{IsEarliestLoss, IsMetFirst}
 use Rattle.g1_kept.proofs.First.{later}
 use Rattle.g1_kept.proofs.Growing.{none_then, ok_some_both}
 use Rattle.g1_kept.proofs.keeping.find_loss.Goals as goal
@@ -23,5 +23,5 @@ returns-clause-earliest c =
     let h : Heap = pause.after.now in
     let table : KeepsTable pause.fill set g h = none_then (KeepsTable pause.fill set g h) c.compare_tables.result c.in_default.not-Some c.compare_tables.ensures.none in
     let count : length h.roots ≡ length g.roots = omega (arith, c.if-roots.false, ap length c.roots-2.ensures, ap length c.roots.ensures) in
-    ok_some_both (IsLoss pause.fill set g h) (IsMetFirst pause.fill set g h) (IsEarliest pause.fill set g h) c.compare_words.result c.compare_words.ensures.some c.compare_words.ensures.first
+    ok_some_both (IsLoss pause.fill set g h) (IsMetFirst pause.fill set g h) (IsEarliestLoss pause.fill set g h) c.compare_words.result c.compare_words.ensures.some c.compare_words.ensures.first
     (λ l lost met. later pause.fill set g h c.valid.ensures c.valid-2.ensures l table count lost met)

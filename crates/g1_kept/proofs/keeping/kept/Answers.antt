@@ -1,4 +1,4 @@
-use Rattle.g1_kept.specs.Order.{IsEarliest}
+use Rattle.g1_kept.specs.Order.{IsEarliestLoss}
 use Rattle.g1_kept.specs.declared.lost.Lost.{Lost}
 use Rattle.std.proofs.Common.{IfNone, subst, ◌≡◌}
 use Rattle.g1_kept.specs.Keeps.{Keeps}
@@ -42,8 +42,8 @@ returns-in-Some-clause-lost c =
 
 pub returns-in-Some-clause-earliest : goal.returns-in-Some-clause-earliest
 returns-in-Some-clause-earliest c =
-    let found = some_then (λ (l : Lost). IsEarliest c.args.fill c.in_ok-regions.regions c.args.before.now c.args.after.now l) c.in_ok-lost.field-0 c.in-Some.lost c.in-Some.is c.in_ok-lost.ensures.earliest in
-    subst (λ s. IsEarliest c.args.fill s c.args.before.now c.args.after.now c.in-Some.lost) c.in_ok-regions.ensures found
+    let found = some_then (λ (l : Lost). IsEarliestLoss c.args.fill c.in_ok-regions.regions c.args.before.now c.args.after.now l) c.in_ok-lost.field-0 c.in-Some.lost c.in-Some.is c.in_ok-lost.ensures.earliest in
+    subst (λ s. IsEarliestLoss c.args.fill s c.args.before.now c.args.after.now c.in-Some.lost) c.in_ok-regions.ensures found
 
 pub returns-clause-keeps : goal.returns-clause-keeps
 returns-clause-keeps c =

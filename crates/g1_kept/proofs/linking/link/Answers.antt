@@ -2,7 +2,7 @@ use Rattle.g1_kept.proofs.Growing.{grown_same}
 use Rattle.std.proofs.Common.{arith, refl, subst, sym, suc, ℕ, ◌<◌, length, slice_index}
 use Rattle.g1_same.specs.Walk.{IsNew}
 use Rattle.g1_kept.specs.declared.lost.Lost.TheVariants as lost
-use Rattle.g1_kept.specs.Walk.{IsPaired, PassesWords, StopsAtWords}
+use Rattle.g1_kept.specs.Walk.{ArePaired, PassesWords, StopsAtWords}
 use Rattle.g1_words.proofs.Sound.{object_in}
 use Rattle.g1_same.proofs.Heaps.{object_named}
 use Rattle.g1_kept.proofs.Adding.{IsAdded, added_walk, added_paired, pairs_fit, added_grown}
@@ -63,8 +63,8 @@ returns-in_ok-add-in-New-clause-paired c =
       new_of = c.in_ok-add-in-New.ensures.new_of;
       old_of = c.in_ok-add-in-New.ensures.old_of;
     } in
-    subst (λ z. IsPaired pause.set.now g v z c.args.y) (sym met.0)
-    (subst (λ z. IsPaired pause.set.now g v (suc a) z) (sym met.1) (added_paired pause.fill pause.set.now g h w v a b c.requires.walk e))
+    subst (λ z. ArePaired pause.set.now g v z c.args.y) (sym met.0)
+    (subst (λ z. ArePaired pause.set.now g v (suc a) z) (sym met.1) (added_paired pause.fill pause.set.now g h w v a b c.requires.walk e))
 
 pub returns-in-Agree-clause-passed : goal.returns-in-Agree-clause-passed
 returns-in-Agree-clause-passed c =

@@ -7,7 +7,7 @@ use Rattle.g1_kept.specs.Lost.{Disagree, root}
 use Rattle.g1_kept.specs.Pause.{IsLossIn}
 use Rattle.g1_kept.specs.declared.lost.Lost.{Lost}
 use Rattle.g1_kept.specs.declared.lost.Lost.TheVariants as lost
-use Rattle.g1_kept.specs.Walk.{IsPaired, HasWords, PassesWords, StopsAtWords}
+use Rattle.g1_kept.specs.Walk.{ArePaired, HasWords, PassesWords, StopsAtWords}
 use Rattle.g1_kept.proofs.Growing.{none_then, some_then, roots_more}
 use Rattle.g1_kept.proofs.Search.{search_none, roots_on}
 use Rattle.g1_kept.proofs.linking.link_roots.Goals as goal
@@ -37,11 +37,11 @@ loop-number-preserved c =
     let h : Heap = pause.after.now in
     let v : Pairs = c.link.new.pairs in
     let n : ℕ = c.loop-number.number in
-    let l : IsPaired pause.set.now g v (slice_index c.roots-old.result.now n) (slice_index c.roots-new.result.now n) =
-    none_then (IsPaired pause.set.now g v (slice_index c.roots-old.result.now n) (slice_index c.roots-new.result.now n)) c.in_ok-lost.field-0 c.in_default.not-Some c.in_ok-lost.ensures.paired in
-    let l' : IsPaired pause.set.now g v (slice_index g.roots n) (slice_index h.roots n) =
-    subst (λ q. IsPaired pause.set.now g v (slice_index q n) (slice_index h.roots n)) c.roots-old.ensures
-    (subst (λ q. IsPaired pause.set.now g v (slice_index c.roots-old.result.now n) (slice_index q n)) c.roots-new.ensures l) in
+    let l : ArePaired pause.set.now g v (slice_index c.roots-old.result.now n) (slice_index c.roots-new.result.now n) =
+    none_then (ArePaired pause.set.now g v (slice_index c.roots-old.result.now n) (slice_index c.roots-new.result.now n)) c.in_ok-lost.field-0 c.in_default.not-Some c.in_ok-lost.ensures.paired in
+    let l' : ArePaired pause.set.now g v (slice_index g.roots n) (slice_index h.roots n) =
+    subst (λ q. ArePaired pause.set.now g v (slice_index q n) (slice_index h.roots n)) c.roots-old.ensures
+    (subst (λ q. ArePaired pause.set.now g v (slice_index c.roots-old.result.now n) (slice_index q n)) c.roots-new.ensures l) in
     let w : Pairs = c.loop-number.pairs in
     let x : ℕ = slice_index c.roots-old.result.now n in
     let y : ℕ = slice_index c.roots-new.result.now n in

@@ -8,7 +8,7 @@ use Rattle.g1_kept.specs.Lost.{Disagree, slot}
 use Rattle.g1_kept.specs.Pause.{IsLossIn}
 use Rattle.g1_kept.specs.declared.lost.Lost.{Lost}
 use Rattle.g1_kept.specs.declared.lost.Lost.TheVariants as lost
-use Rattle.g1_kept.specs.Walk.{IsPaired, HasTurn, HasWords, PassesWords, StopsAtWords}
+use Rattle.g1_kept.specs.Walk.{ArePaired, HasTurn, HasWords, PassesWords, StopsAtWords}
 use Rattle.g1_kept.proofs.Growing.{none_then, some_then, grown_same, grown_more, slots_more}
 use Rattle.g1_kept.proofs.Search.{slots_on}
 use Rattle.g1_kept.proofs.Walking.{turn_more, words_at}
@@ -65,11 +65,11 @@ loop-number-preserved c =
     let v : Pairs = c.link.new.pairs in
     let x : ℕ = slice_index c.slots-here.result.now n in
     let y : ℕ = slice_index c.slots-there.result.now n in
-    let l = none_then (IsPaired pause.set.now g v x y) c.in_ok-lost.field-0 c.in_default.not-Some c.in_ok-lost.ensures.paired in
+    let l = none_then (ArePaired pause.set.now g v x y) c.in_ok-lost.field-0 c.in_default.not-Some c.in_ok-lost.ensures.paired in
     let x_is = here.each n c.loop-number-test.true in
     let y_is = there.each n (omega (arith, c.loop-number-test.true, here.count, refs, there.count)) in
-    let l' : IsPaired pause.set.now g v (word g (c.args.a + 1 + n)) (word h (c.args.b + 1 + n)) =
-    subst (λ z. IsPaired pause.set.now g v z (word h (c.args.b + 1 + n))) x_is (subst (λ z. IsPaired pause.set.now g v x z) y_is l) in
+    let l' : ArePaired pause.set.now g v (word g (c.args.a + 1 + n)) (word h (c.args.b + 1 + n)) =
+    subst (λ z. ArePaired pause.set.now g v z (word h (c.args.b + 1 + n))) x_is (subst (λ z. ArePaired pause.set.now g v x z) y_is l) in
     let w : Pairs = c.loop-number.pairs in
     let passed = none_then (PassesWords pause.fill pause.set.now g h w v x y) c.in_ok-lost.field-0 c.in_default.not-Some c.in_ok-lost.ensures.passed in
     record {

@@ -4,7 +4,7 @@ use Rattle.std.proofs.lemmas.List.{get_or_read}
 use Rattle.g1_kept.specs.Lost.{Disagree, changed, null}
 use Rattle.g1_kept.specs.Order.{Clash}
 use Rattle.g1_kept.specs.Order as order
-use Rattle.g1_kept.specs.Walk.{IsPaired}
+use Rattle.g1_kept.specs.Walk.{ArePaired}
 use Rattle.g1_kept.proofs.Words.{some, named_below, known_here, differ_here, clash_here, new_before, new_after}
 use Rattle.g1_kept.proofs.linking.meet.Goals as goal
 
@@ -70,7 +70,7 @@ returns-then-i-ne0 c =
     let is_i : c.index-i.result.now ≡ slice_index w.new_of.items (c.args.x - 1) = get_or_read w.new_of.items (c.args.x - 1) c.index-i.result.now x_lt c.index-i.ensures 0 in
     let is_j : c.index-j.result.now ≡ slice_index w.old_of.items (c.args.y - 1) = get_or_read w.old_of.items (c.args.y - 1) c.index-j.result.now y_lt c.index-j.ensures 0 in
     let d = known_here pause.fill set g h w c.requires.walk (c.args.x - 1) (c.args.y - 1) c.index-i.result.now c.index-j.result.now x_lt y_lt is_i is_j c.if-i-j.false c.if-i-ne0.true in
-    subst (λ z. IsPaired set g w z c.args.y) (sym (some c.args.x into.0)) (subst (λ z. IsPaired set g w (suc (c.args.x - 1)) z) (sym (some c.args.y c.if-y-eq0.false)) d)
+    subst (λ z. ArePaired set g w z c.args.y) (sym (some c.args.x into.0)) (subst (λ z. ArePaired set g w (suc (c.args.x - 1)) z) (sym (some c.args.y c.if-y-eq0.false)) d)
 
 pub returns-then-may_hold_copy : goal.returns-then-may_hold_copy
 returns-then-may_hold_copy c =

@@ -1,7 +1,7 @@
 use Rattle.std.proofs.Common.{IfOk, IfErr, false, subst}
 use Rattle.g1_kept.specs.Keeps.{Keeps}
 use Rattle.g1_kept.specs.Lost.{IsLoss}
-use Rattle.g1_kept.specs.Order.{IsEarliest}
+use Rattle.g1_kept.specs.Order.{IsEarliestLoss}
 use Rattle.g1judge.proofs.judging.judge_loss.Goals as goal
 
 pub returns-in-Ok-Ok : goal.returns-in-Ok-Ok
@@ -14,6 +14,6 @@ returns-in-Ok-Err c =
     let h = c.args.after.now in
     record {
       is = subst (λ r. IfErr r (λ l. IsLoss false set g h l)) c.in-Ok-Err.field-0-is c.in-Ok-Err.ensures.lost;
-      earliest = subst (λ r. IfErr r (λ l. IsEarliest false set g h l)) c.in-Ok-Err.field-0-is c.in-Ok-Err.ensures.earliest;
+      earliest = subst (λ r. IfErr r (λ l. IsEarliestLoss false set g h l)) c.in-Ok-Err.field-0-is c.in-Ok-Err.ensures.earliest;
       never = subst (λ r. IfErr r (λ _. Keeps false set g h → ⊥)) c.in-Ok-Err.field-0-is c.in-Ok-Err.ensures.never;
     }

@@ -2,7 +2,7 @@ use Rattle.std.proofs.Common.{◌≡◌, ℕ, ◌<◌, List, length, get_or, sym
 use Rattle.std.specs.Slots.{slots_items}
 use Rattle.g1_claim.specs.declared.rule.Hand.{Hand}
 use Rattle.g1_claim.specs.Claims.{SeatView, TableView, IsWordOf, IsWonOnce, AreWon}
-use Rattle.g1_claim.proofs.Steps.{read_word, word_of}
+use Rattle.g1_claim.proofs.Steps.{read_word, word_of, leads_keeps}
 use Rattle.g1_claim.proofs.claims.Claims.close.Goals as goal
 
 pub loop-place-preserved : goal.loop-place-preserved
@@ -33,7 +33,7 @@ returns-clause-words c p in_table =
     let done = c.loop-place-test.false in
     let last = c.len-place-end.ensures in
     let read = c.loop-place.invariant.written p (omega arith) ∙ ap (λ (l : List ℕ). get_or l p 0) (sym end.2) in
-    let here = word_of c.seat.inside.seat.me.0 words end.0.views ruled.1 c.seat.inside.seat.id end.1.1 all p inside in
+    let here = word_of c.seat.inside.seat.me.0 words end.0.views (leads_keeps _ words end.0.views ruled.1).1 c.seat.inside.seat.id end.1.1 all p inside in
     subst (λ (z : ℕ × Hand). IsWordOf p z.0 z.1.offers) (λ i. (sym read i, is i)) here
 
 pub returns-clause-once : goal.returns-clause-once

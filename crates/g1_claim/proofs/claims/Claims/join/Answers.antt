@@ -11,7 +11,7 @@ join_seat-requires c =
     let mine : c.seat.inside.seat.table_id ≡ c.args.seat.now.table = ap (λ (s : SeatView). s.table) c.seat.view_is in
     let theirs : c.other.inside.seat.table_id ≡ c.args.other.table = ap (λ (s : SeatView). s.table) c.other.view_is in
     let share = c.seat.invariant in
-    (mine ∙ c.requires.table ∙ sym is, theirs ∙ c.requires.other ∙ sym is, c.other.invariant.2, omega arith, joins _ _ _ _ _ (omega arith))
+    (mine ∙ c.requires.table ∙ sym is, theirs ∙ c.requires.other ∙ sym is, c.other.invariant.2, omega arith, (let more = c.other.invariant in joins _ _ _ _ _ (omega arith) (omega arith)))
 
 pub load-requires : goal.load-requires
 load-requires c =

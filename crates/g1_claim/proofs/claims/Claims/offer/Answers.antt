@@ -1,7 +1,8 @@
-use Rattle.std.proofs.Common.{ℕ, ◌≡◌, ◌<◌, sym, ap, ◌∙◌, arith, subst, ltb-true, lt-ltb}
-use Rattle.g1_claim.specs.Claims.{SeatView, TableView, IsWordOf}
+use Rattle.std.proofs.Common.{refl, ℕ, ◌≡◌, ◌<◌, ◌≤◌, sym, ap, ◌∙◌, arith, subst, ltb-true, lt-ltb}
+use Rattle.g1_claim.specs.Claims.{SeatView, TableView, IsWordOf, least_value}
 use Rattle.g1_claim.specs.declared.rule.Hand.{Hand}
-use Rattle.g1_claim.proofs.Steps.{offers, found_word}
+use Rattle.g1_claim.specs.Rule.{LeastBy, Beaten}
+use Rattle.g1_claim.proofs.Steps.{offers, found_word, found_least, found_floor, found_beaten}
 use Rattle.g1_claim.proofs.claims.Claims.offer.Goals as goal
 
 pub fetch_min-found-requires : goal.fetch_min-found-requires
@@ -20,3 +21,20 @@ returns-clause-least c all =
     let word = subst (λ (h : Hand). IsWordOf c.args.place c.fetch_min-found.result h.offers) is
     (found_word c.seat.inside.seat.me.0 c.args.place c.fetch_min-found.result c.fetch_min-found.ensures.2.1 (ap (λ (h : Hand). h.shares) is ∙ all)) in
     ((λ t. subst (λ (k : ℕ). c.args.rank < k) word.0 (ltb-true _ _ t)), λ lt. lt-ltb _ _ (subst (λ (k : ℕ). c.args.rank < k) (sym word.0) lt))
+
+pub returns-clause-so_far : goal.returns-clause-so_far
+returns-clause-so_far c =
+    let is = ap (λ (s : SeatView). s.hand) c.seat.view_is in
+    (c.fetch_min-found.result, subst (λ (h : Hand). LeastBy h c.args.place c.fetch_min-found.result) is (found_least c.seat.inside.seat.me.0 c.args.place c.fetch_min-found.result c.fetch_min-found.ensures.2.1), refl)
+
+pub returns-clause-below_known : goal.returns-clause-below_known
+returns-clause-below_known c t =
+    let is = ap (λ (s : SeatView). s.hand) c.seat.view_is in
+    let floor = subst (λ (h : Hand). c.fetch_min-found.result ≤ least_value c.args.place h.known) is (found_floor c.seat.inside.seat.me.0 c.args.place c.fetch_min-found.result c.fetch_min-found.ensures.2.1) in
+    let below : c.args.rank < c.fetch_min-found.result = ltb-true _ _ t in omega arith
+
+pub returns-clause-beaten : goal.returns-clause-beaten
+returns-clause-beaten c f =
+    let is = ap (λ (s : SeatView). s.hand) c.seat.view_is in
+    subst (λ (h : Hand). Beaten h c.args.place c.args.rank) is
+    (found_beaten c.seat.inside.seat.me.0 c.args.place c.fetch_min-found.result c.args.rank c.fetch_min-found.ensures.2.1 (grind arith) c.requires.rank)

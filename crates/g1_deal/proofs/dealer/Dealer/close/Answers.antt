@@ -1,6 +1,6 @@
 use Rattle.std.proofs.Common.{ap, subst, ◌∙◌}
 use Rattle.g1_deal.specs.Dealer.{SeatView}
-use Rattle.g1_deal.proofs.Steps.{closes}
+use Rattle.g1_deal.proofs.Moves.{closes}
 use Rattle.g1_deal.proofs.Known.{IsKnownSeat, closed}
 use Rattle.g1_deal.proofs.dealer.Dealer.close.Goals as goal
 

@@ -1,6 +1,6 @@
 use Rattle.std.proofs.Common.{◌≡◌, ◌<◌, ◌+◌, arith, ap, get_or, length, sym, subst, OnOk}
 use Rattle.g1_words.specs.Valid.{IsReference}
-use Rattle.g1_frontier.specs.Items.{IsItem, AreRanks}
+use Rattle.g1_frontier.specs.Items.{IsItem, AreRanks, item_slots}
 use Rattle.g1_frontier.proofs.Names.{root_reference}
 use Rattle.g1_frontier.specs.Scope.{place_in, aims_in, pairs_in}
 use Rattle.g1_frontier.specs.Offering.{HasTried}
@@ -79,3 +79,6 @@ offer_object-requires-clause-places c = c.requires.places
 
 pub offer_object-requires-clause-seat : goal.offer_object-requires-clause-seat
 offer_object-requires-clause-seat c = c.requires.seat
+
+pub offer_object-requires-clause-slots : goal.offer_object-requires-clause-slots
+offer_object-requires-clause-slots c = subst (λ x. c.args.slots ≡ item_slots c.args.self.now.scope.now.heap.now x) c.in-Object.is c.requires.slots

@@ -1,40 +1,57 @@
-use Rattle.std.proofs.Common.{◌<◌, ◌^◌, ◌∙◌, get_or, arith, subst}
-use Rattle.std.proofs.lemmas.List.{take_all}
-use Rattle.g1_frontier.specs.declared.item.Item.TheVariants.{Root}
+use Rattle.std.proofs.Common.{◌-◌, ◌<◌, ◌^◌, ◌∙◌, take, drop, arith, subst}
+use Rattle.std.proofs.lemmas.List.Elements.{All-take, All-drop}
+use Rattle.g1_frontier.specs.Items.{IsItem}
 use Rattle.g1_frontier.specs.Offering.{HasTried}
 use Rattle.g1_frontier.specs.Scope.{place_in, pairs_in, all_pairs_in}
-use Rattle.g1_frontier.proofs.Offerings.{tried_none, tried_more}
-use Rattle.g1_frontier.proofs.Scopes.{In-get, all_part}
+use Rattle.g1_frontier.proofs.Offerings.{tried_none, tried_next}
+use Rattle.g1_frontier.proofs.Scopes.{In-take, In-drop, all_some}
+use Rattle.std.proofs.lemmas.List.{take_all}
 use Rattle.g1_frontier.proofs.offering.Offers.offer_items.Goals as goal
 
-pub loop-item-init : goal.loop-item-init
-loop-item-init c = tried_none (place_in c.args.self.now.scope.now) c.args.holder.now
+pub loop-from-init : goal.loop-from-init
+loop-from-init c = record { tried = tried_none (place_in c.args.self.now.scope.now) c.args.holder.now; within = omega arith }
 
-pub offer_item-requires-clause-ranks : goal.offer_item-requires-clause-ranks
-offer_item-requires-clause-ranks c =
+pub read_counts-requires : goal.read_counts-requires
+read_counts-requires c =
+    let h = c.args.self.now.scope.now.heap.now in
+    let xs = c.args.items.now in
+    All-take (IsItem h) (c.min-to.result - c.loop-from.from) (drop c.loop-from.from xs) (All-drop (IsItem h) c.loop-from.from xs c.requires.items)
+
+pub offer_batch-requires-clause-items : goal.offer_batch-requires-clause-items
+offer_batch-requires-clause-items c =
+    let h = c.args.self.now.scope.now.heap.now in
+    let xs = c.args.items.now in
+    All-take (IsItem h) (c.min-to.result - c.loop-from.from) (drop c.loop-from.from xs) (All-drop (IsItem h) c.loop-from.from xs c.requires.items)
+
+pub offer_batch-requires-clause-ranks : goal.offer_batch-requires-clause-ranks
+offer_batch-requires-clause-ranks c =
     let s = c.args.self.now.scope.now in
     let xs = c.args.items.now in
-    all_part (λ q. q.0 < 2 ^ 32) (pairs_in s) xs (get_or xs c.loop-item.item-index (Root 0)) c.requires.ranks (In-get xs c.loop-item.item-index (Root 0) c.loop-item-test.true)
+    let n = c.min-to.result - c.loop-from.from in
+    all_some (λ q. q.0 < 2 ^ 32) (pairs_in s) xs (take n (drop c.loop-from.from xs)) (λ x i. In-drop c.loop-from.from xs x (In-take n (drop c.loop-from.from xs) x i)) c.requires.ranks
 
-pub loop-item-preserved : goal.loop-item-preserved
-loop-item-preserved c =
+pub offer_batch-requires-clause-places : goal.offer_batch-requires-clause-places
+offer_batch-requires-clause-places c = c.requires.places
+
+pub offer_batch-requires-clause-seat : goal.offer_batch-requires-clause-seat
+offer_batch-requires-clause-seat c = c.loop-from.invariant.tried.table ∙ c.requires.seat
+
+pub offer_batch-requires-clause-counts : goal.offer_batch-requires-clause-counts
+offer_batch-requires-clause-counts c = c.as_slice.ensures.value ∙ c.in_ok-read_counts.ensures
+
+pub loop-from-preserved : goal.loop-from-preserved
+loop-from-preserved c =
     let s = c.args.self.now.scope.now in
-    tried_more (place_in s) (pairs_in s) c.args.items.now c.loop-item.item-index (Root 0) c.args.holder.now c.loop-item.holder c.offer_item.new.holder
-    c.loop-item-test.true c.loop-item.invariant c.in_ok-offer_item.ensures
+    let inv = c.loop-from.invariant in record {
+      tried = tried_next (place_in s) (pairs_in s) c.args.items.now c.loop-from.from c.min-to.result (omega (arith, c.min-to.ensures, inv.within)) c.args.holder.now c.loop-from.holder c.offer_batch.new.holder
+          inv.tried c.in_ok-offer_batch.ensures;
+      within = omega (arith, c.min-to.ensures);
+    }
 
-pub loop-item-smaller : goal.loop-item-smaller
-loop-item-smaller c = omega (arith, c.loop-item-test.true)
-
-pub offer_item-requires-clause-places : goal.offer_item-requires-clause-places
-offer_item-requires-clause-places c = c.requires.places
-
-pub offer_item-requires-clause-seat : goal.offer_item-requires-clause-seat
-offer_item-requires-clause-seat c = c.loop-item.invariant.table ∙ c.requires.seat
-
-pub offer_item-requires-clause-item : goal.offer_item-requires-clause-item
-offer_item-requires-clause-item c = c.requires.items c.loop-item.item-index (Root 0) c.loop-item-test.true
+pub loop-from-smaller : goal.loop-from-smaller
+loop-from-smaller c = omega (arith, c.min-to.ensures, c.loop-from-test.true)
 
 pub returns : goal.returns
 returns c =
     let s = c.args.self.now.scope.now in
-    subst (λ l. HasTried (place_in s) (all_pairs_in s l) c.args.holder.now c.loop-item.holder) (take_all c.loop-item.item-index c.args.items.now c.loop-item-test.false) c.loop-item.invariant
+    subst (λ l. HasTried (place_in s) (all_pairs_in s l) c.args.holder.now c.loop-from.holder) (take_all c.loop-from.from c.args.items.now c.loop-from-test.false) c.loop-from.invariant.tried

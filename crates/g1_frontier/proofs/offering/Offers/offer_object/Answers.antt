@@ -21,7 +21,7 @@ overflow_add-first c =
 pub overflow_add-slot-end : goal.overflow_add-slot-end
 overflow_add-slot-end c =
     let b = object_in_words c.args.self.now.scope.now.heap.now c.requires.places.scope.valid c.args.at c.requires.object in
-    let refs : c.object-refs.result.refs ≡ word c.args.self.now.scope.now.heap.now c.args.at % 2 ^ 32 = ap (λ o. o.refs) c.object-refs.ensures.value in
+    let refs : c.args.refs ≡ word c.args.self.now.scope.now.heap.now c.args.at % 2 ^ 32 = c.requires.slots in
     omega (arith, b.1, refs, c.requires.places.scope.valid.word_count, c.requires.places.scope.valid.limits.words_most)
 
 pub loop-slot-init : goal.loop-slot-init
@@ -34,14 +34,14 @@ loop-slot-init c =
 pub bounds-words-slot : goal.bounds-words-slot
 bounds-words-slot c =
     let b = object_in_words c.args.self.now.scope.now.heap.now c.requires.places.scope.valid c.args.at c.requires.object in
-    let refs : c.object-refs.result.refs ≡ word c.args.self.now.scope.now.heap.now c.args.at % 2 ^ 32 = ap (λ o. o.refs) c.object-refs.ensures.value in
+    let refs : c.args.refs ≡ word c.args.self.now.scope.now.heap.now c.args.at % 2 ^ 32 = c.requires.slots in
     omega (arith, b.1, refs, c.loop-slot-test.true, ap length c.words-words.ensures)
 
 pub offer_named-requires-clause-reference : goal.offer_named-requires-clause-reference
 offer_named-requires-clause-reference c =
     let s = c.args.self.now.scope.now in
     let p : ℕ = c.loop-slot.slot in
-    let refs : c.object-refs.result.refs ≡ word s.heap.now c.args.at % 2 ^ 32 = ap (λ o. o.refs) c.object-refs.ensures.value in
+    let refs : c.args.refs ≡ word s.heap.now c.args.at % 2 ^ 32 = c.requires.slots in
     let there : In (slots (object_at s.heap.now c.args.at)) p = In-range (c.args.at + 1) (word s.heap.now c.args.at % 2 ^ 32) p c.loop-slot.auto.slot (omega (arith, refs, c.loop-slot-test.true)) in
     subst (λ l. IsReference s.heap.now (get_or l p 0)) (sym c.words-words.ensures) (object_reference s.heap.now c.requires.places.scope.valid c.args.at p c.requires.object there)
 
@@ -50,7 +50,7 @@ offer_named-requires-clause-ranks c =
     let s = c.args.self.now.scope.now in
     let p : ℕ = c.loop-slot.slot in
     let first : ℕ = c.args.at + 1 in
-    let refs : c.object-refs.result.refs ≡ word s.heap.now c.args.at % 2 ^ 32 = ap (λ o. o.refs) c.object-refs.ensures.value in
+    let refs : c.args.refs ≡ word s.heap.now c.args.at % 2 ^ 32 = c.requires.slots in
     let there : In (slots (object_at s.heap.now c.args.at)) p = In-range first (word s.heap.now c.args.at % 2 ^ 32) p c.loop-slot.auto.slot (omega (arith, refs, c.loop-slot-test.true)) in
     subst (λ l. AreRanks (aims_in s (c.args.base + (p - first)) (get_or l p 0))) (sym c.words-words.ensures)
     (all_part (λ q. q.0 < 2 ^ 32) (λ p. aims_in s (c.args.base + (p - first)) (word s.heap.now p)) (slots (object_at s.heap.now c.args.at)) p c.requires.ranks there)
@@ -71,7 +71,7 @@ pub returns : goal.returns
 returns c =
     let s = c.args.self.now.scope.now in
     let first : ℕ = c.args.at + 1 in
-    let refs : c.object-refs.result.refs ≡ word s.heap.now c.args.at % 2 ^ 32 = ap (λ o. o.refs) c.object-refs.ensures.value in
+    let refs : c.args.refs ≡ word s.heap.now c.args.at % 2 ^ 32 = c.requires.slots in
     let all : c.loop-slot.slot - first ≡ word s.heap.now c.args.at % 2 ^ 32 = let e = c.loop-slot.auto.slot-end (omega arith) in omega (arith, e, refs, c.loop-slot-test.false) in
     subst (λ n. HasTried (place_in s) (flat_map (λ p. aims_in s (c.args.base + (p - first)) (word s.heap.now p)) (range_with_len first n))
     c.args.holder.now c.loop-slot.holder) all c.loop-slot.invariant

@@ -29,3 +29,8 @@ returns-else-not-is_good_heading-clause-ok c =
       c.if-not-is_good_heading.ensures.0 refl,
       c.in_ok-version.ensures.ok ∙ ap (λ l. magic c.in_ok-version.version ++ l) found.1,
     )
+
+pub returns-in_err-version-clause-stage : goal.returns-in_err-version-clause-stage
+returns-in_err-version-clause-stage c =
+    let left = err_from_is_err_and c.from_residual.result c.from_residual.ensures.1 in
+    rw (left.1, left.2) (c.in_err-version.ensures.stage)
