@@ -14,7 +14,6 @@ status is 75. With --loop it reads lines `IMAGE OUT R,R` and replies `ok` or `ro
 import argparse
 import pathlib
 import random
-import struct
 import sys
 
 sys.path.insert(0, str(pathlib.Path(__file__).resolve().parent / "lib"))
@@ -154,8 +153,8 @@ def image_of(file):
         return from_bytes(pathlib.Path(file).read_bytes())
     except OSError as error:
         sys.exit(f"{file}: {error.strerror}")
-    except (IndexError, struct.error):
-        sys.exit(f"{file} is no image")
+    except ValueError as error:
+        sys.exit(f"{file}: {error}")
 
 
 def answer(image, out, chosen, options):
