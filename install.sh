@@ -1,13 +1,14 @@
 #!/bin/sh
 usage() {
     cat <<'END'
-PREFIX=FOLDER ./install.sh
+PREFIX=FOLDER ./install.sh [--unproved]
 
 Installs below FOLDER (/usr/local) what is beside this file. In a release: the programs in bin, the headers and the
-library, if there are any, in include and lib, and manual pages, completion for bash, pages and examples in share.
-Before, it compares each file with its sum in SHA256SUMS. In a checkout: the programs of out/ alone, if tools/build.py
-proved them. Files of an earlier install that are not in this one are taken away. FOLDER/share/g1pause/uninstall.sh
-takes away what was installed.
+library, if there are any, in include and lib, and manual pages, completion for bash, zsh and fish, pages, examples and
+the scripts of the pages in share. Before, it compares each file with its sum in SHA256SUMS. In a checkout: the programs
+of out/ alone, if tools/build.py proved them, or with --unproved those that tools/build.py --unproved built. Files of an
+earlier install that are not in this one are taken away. FOLDER/share/g1pause/uninstall.sh takes away what was
+installed.
 Statuses: 0 done; 1 a file is not there, is not as it was made, or can't be written; 2 usage.
 END
 }
@@ -22,7 +23,7 @@ umask 022 # what root installs is for all users
 start=$PWD
 cd "$(dirname "$0")"
 case "${1:-}" in
-    '') ;;
+    '' | --unproved) built=${1:-} ;;
     --help) usage; exit 0 ;;
     *) usage >&2; exit 2 ;;
 esac
@@ -35,9 +36,14 @@ trap 'rm -rf "$room"' EXIT
 
 # What tools/build.py made, in the order of a release.
 if [ ! -f SHA256SUMS ]; then
-    [ -f out/PROVED ] || refuse "out/ has no proved programs: call tools/build.py, or unpack a release"
+    stamp=out/PROVED
+    if [ ! -f out/PROVED ]; then
+        [ -f out/UNPROVED ] || refuse "out/ has no programs: call tools/build.py, or unpack a release"
+        [ -n "$built" ] || refuse "out/ has no proved programs: call tools/build.py, or unpack a release, or ./install.sh --unproved"
+        stamp=out/UNPROVED
+    fi
     mkdir -p "$room/release/bin" "$room/release/share/g1pause"
-    sed -n 's/^\(g1[a-z]*\) \([0-9a-f]*\)$/\2  bin\/\1/p' out/PROVED >"$room/release/SHA256SUMS"
+    sed -n 's/^\(g1[a-z]*\) \([0-9a-f]*\)$/\2  bin\/\1/p' "$stamp" >"$room/release/SHA256SUMS"
     cp out/g1pause out/g1heap "$room/release/bin"
     cp uninstall.sh "$room/release/share/g1pause"
     cd "$room/release"
@@ -47,6 +53,7 @@ if [ ! -f SHA256SUMS ]; then
 fi
 
 sha256sum --check --quiet SHA256SUMS || refuse "a file is not as it was made: fetch or build it anew"
+[ -d "$prefix" ] || echo . >"$room/made"
 if ! mkdir -p "$prefix" 2>/dev/null || [ ! -w "$prefix" ]; then
     refuse "$prefix can't be written: call it as a user who may, or name a folder: PREFIX=\$HOME/.local ./install.sh"
 fi
@@ -59,6 +66,7 @@ make_folder() {
     printf '%s\n' "$1" >>"$room/folders"
 }
 touch "$room/folders"
+[ ! -f "$room/made" ] || cat "$room/made" >>"$room/folders"
 list=$prefix/share/g1pause
 [ ! -f "$list/folders" ] || cat "$list/folders" >>"$room/folders"
 # The list of an earlier install is written over: its files that are not in this one would be in no list.
@@ -73,6 +81,7 @@ while read -r name; do
 done <share/g1pause/files
 cp "$room/folders" "$list/folders"
 echo "installed below $prefix: $(ls bin | tr '\n' ' ')"
+[ "${stamp:-}" != out/UNPROVED ] || echo "nothing is proved of them: tools/build.py proves them"
 case ":$PATH:" in
     *":$prefix/bin:"*) ;;
     *) echo "$prefix/bin is not on the path: PATH=$prefix/bin:\$PATH" ;;

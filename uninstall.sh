@@ -4,7 +4,7 @@ usage() {
 PREFIX=FOLDER uninstall.sh
 
 Takes away what install.sh installed below FOLDER (/usr/local, or where this file was installed): each file of the
-release, and each folder that install.sh made and that is empty now.
+release, and each folder that install.sh made and that is empty now, FOLDER itself too.
 Statuses: 0 done; 1 nothing is installed there; 2 usage.
 END
 }
@@ -36,6 +36,7 @@ for name in $names share/g1pause/folders; do
     rm -f "$prefix/$name"
 done
 for folder in $folders; do
-    rmdir "$prefix/$folder" 2>/dev/null || true
+    [ "$folder" = . ] || rmdir "$prefix/$folder" 2>/dev/null || true
 done
+! printf '%s\n' "$folders" | grep -qx '[.]' || rmdir "$prefix" 2>/dev/null || true
 echo "taken away from $prefix"

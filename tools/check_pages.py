@@ -1,6 +1,8 @@
 #!/usr/bin/env python3
 """Reads the pages as a reader does: runs their command lines, and follows their links: check_pages.py [PAGE ..]
 
+With --release FOLDER it reads the pages of an unpacked release, as described at the end.
+
 Without pages: README.md and those of docs/, examples/, examples/*/ and bench/, and all scripts beside them. It needs
 the built programs, and takes those of out/, which tools/build.py builds, or those that --program and --heap name.
 
@@ -22,6 +24,9 @@ makes a picture which is in the repository has to make the same one again.
 Of each page it also looks at the links, to pages, to headings and to files; at the files that sentences name in the
 way of `tools/build.py`; and at the scripts that are called, in a block or in a sentence: each is an executable file
 that answers --help. Of the scripts, whether each .py file in tools/ is such a script, and none in tools/lib/ is.
+
+The pages of a release run in share/doc/g1pause of a copy of it, with its bin/ on the path. What pages name of the sources
+alone, as crates/, need not be there.
 The last line is 'N passed, M failed', and the status 0 only if none failed and one passed.
 """
 import argparse
@@ -38,6 +43,7 @@ sys.path.insert(0, str(pathlib.Path(__file__).resolve().parent / "lib"))
 
 import pages  # noqa: E402 (it is in lib/)
 import progress  # noqa: E402
+from programs import IN_RELEASE  # noqa: E402
 import stamp  # noqa: E402
 
 TOP = stamp.TOP
@@ -45,6 +51,7 @@ PAGES = ("README.md", "*.md", "docs/*.md", "examples/*.md", "examples/*/*.md", "
 SECONDS = 900  # for one page
 SCRIPT = (".py", ".sh")
 MODULES = "tools/lib/"
+OF_SOURCES = ("crates/", "judge/", "include/", "tools/", "bench/", ".ci/")  # folders of which a release has a part or nothing
 
 
 def shell_text(steps, folder):
@@ -86,8 +93,16 @@ def files_of(checkout):
             if path.is_file() and "out" not in path.relative_to(checkout).parts]
 
 
+def is_release(folder):
+    """Whether the folder is that of a release's pages."""
+    return folder.parts[-3:] == IN_RELEASE
+
+
 def copy_of(checkout, target, programs):
-    """A fresh checkout in which the programs were built."""
+    """A fresh checkout in which the programs were built, or a release."""
+    if is_release(checkout):
+        shutil.copytree(checkout.parents[2], target.parents[2], dirs_exist_ok=True)
+        return
     for name in files_of(checkout):
         (target / name).parent.mkdir(parents=True, exist_ok=True)
         shutil.copy2(checkout / name, target / name)
@@ -121,16 +136,21 @@ def bare_path(checkout):
     return ":".join(folder for folder in folders if not pathlib.Path(folder).resolve().is_relative_to(checkout))
 
 
+def path_in(copy, checkout):
+    """The path of the shell that runs a page in this copy of the checkout or of the release."""
+    return f"{copy.parents[2] / 'bin'}:{bare_path(checkout.parents[2])}" if is_release(copy) else bare_path(checkout)
+
+
 def run_steps(name, steps, checkout, programs):
     """What is wrong with the commands of a page."""
     wrong = []
     with tempfile.TemporaryDirectory() as room:
-        copy, folder = pathlib.Path(room) / "checkout", pathlib.Path(room) / "answers"
+        copy, folder = pathlib.Path(room, "checkout", *(IN_RELEASE if is_release(checkout) else ())), pathlib.Path(room) / "answers"
         folder.mkdir()
-        copy.mkdir()
+        copy.mkdir(parents=True)
         copy_of(checkout, copy, programs)
         before = contents(copy)
-        environment = dict(os.environ, PATH=bare_path(checkout), PYTHONDONTWRITEBYTECODE="1")
+        environment = dict(os.environ, PATH=path_in(copy, checkout), PYTHONDONTWRITEBYTECODE="1")
         try:
             subprocess.run(["bash", "-c", shell_text(steps, folder)], cwd=copy, env=environment, check=False,
                            timeout=SECONDS)
@@ -168,14 +188,20 @@ def wrong_link(page, target):
     return None
 
 
+def is_of_sources(page, target, checkout):
+    """Whether what a page of a release links to or names is in a folder of the sources."""
+    path = os.path.relpath(page.parent / target.partition("#")[0], checkout)
+    return is_release(checkout) and f"{path}/".startswith(OF_SOURCES)
+
+
 def check_names(name, page, text, checkout):
     """How many links and names of files a page has, and what is wrong with them."""
     wrong = [f"{name}:{number}: link to {target}: {wrong_link(page, target)}"
-             for number, target in pages.links(text) if wrong_link(page, target)]
+             for number, target in pages.links(text) if wrong_link(page, target) and not is_of_sources(page, target, checkout)]
     names = [(number, match.group()) for number, code in pages.words_in(text)
              for match in [pages.OURS.fullmatch(code.split(" ")[0])] if match]
     for number, path in names:
-        if "out" not in path.split("/") and not (checkout / path).exists():
+        if "out" not in path.split("/") and not (checkout / path).exists() and not (is_release(checkout) and path.startswith(OF_SOURCES)):
             wrong.append(f"{name}:{number}: there is no {path}")
     return len(pages.links(text)) + len(names), wrong
 
@@ -216,19 +242,19 @@ def missing(text, programs):
     return next((name for name in pages.needed(text) if name not in programs and not shutil.which(name)), None)
 
 
-def check_all(files, programs):
+def check_all(files, programs, top=TOP):
     """How many things of these pages are right, and what is wrong."""
     ran, wrong, scripts = 0, [], set()
     for page in progress.over(files, "pages"):
-        name = str(page.relative_to(TOP)) if TOP in page.parents else str(page)
+        name = str(page.relative_to(top)) if top in page.parents else str(page)
         text = page.read_text()
         scripts |= {script for _, script in pages.scripts_in(text)
                     if script.endswith(SCRIPT) and not script.startswith(MODULES)}
-        found = [check_names(name, page, text, TOP)]
+        found = [check_names(name, page, text, top)]
         if missing(text, programs):
             print(f"{name}: not run, there is no {missing(text, programs)}")
         else:
-            found.append(check_page(name, text, TOP, programs))
+            found.append(check_page(name, text, top, programs))
         ran += sum(count for count, _ in found)
         problems = [problem for _, wrong_ones in found for problem in wrong_ones]
         for problem in problems:
@@ -236,7 +262,7 @@ def check_all(files, programs):
         commands = found[1][0] if len(found) > 1 else 0
         print(f"{name}: {commands} commands, {found[0][0]} links and names, {len(problems)} wrong")
         wrong += problems
-    count, problems = check_scripts(sorted(scripts), TOP)
+    count, problems = check_scripts(sorted(scripts), top)
     for problem in problems:
         print(problem)
     print(f"{count} scripts that pages call, {len(problems)} wrong")
@@ -244,9 +270,9 @@ def check_all(files, programs):
 
 
 def given(options):
-    """The programs: those that are named, else those of out/."""
-    named = {"g1pause": options.program, "g1heap": options.heap}
-    found = {name: pathlib.Path(named[name] or TOP / "out" / name).resolve() for name in stamp.PROGRAMS}
+    """The programs: those that are named, else those of out/ or of the release."""
+    named, built = {"g1pause": options.program, "g1heap": options.heap}, options.release / "bin" if options.release else TOP / "out"
+    found = {name: pathlib.Path(named[name] or built / name).resolve() for name in stamp.PROGRAMS}
     return {name: program for name, program in found.items() if program.exists()}
 
 
@@ -255,7 +281,11 @@ def main():
     parser.add_argument("pages", metavar="PAGE", nargs="*", help="the pages (default: all, and the scripts)")
     parser.add_argument("--program", metavar="FILE", help="g1pause (default: out/g1pause)")
     parser.add_argument("--heap", metavar="FILE", help="g1heap (default: out/g1heap)")
+    parser.add_argument("--release", metavar="FOLDER", type=pathlib.Path, help="the pages of this unpacked release")
     options = parser.parse_args()
+    top = options.release.resolve().joinpath(*IN_RELEASE) if options.release else TOP
+    if not top.is_dir():
+        parser.error(f"{options.release} is no unpacked release: there is no {'/'.join(IN_RELEASE)} in it")
     programs = given(options)
     for name in stamp.PROGRAMS:
         if name not in programs:
@@ -263,9 +293,9 @@ def main():
         if shutil.which(name, path=bare_path(TOP)):
             parser.error(f"{name} is on the path, so a page that does not say where it is would pass: take it off")
     files = [pathlib.Path(page).resolve() for page in options.pages] or sorted(
-        {page for pattern in PAGES for page in TOP.glob(pattern)})
-    passed, wrong = check_all(files, programs)
-    if not options.pages:
+        {page for pattern in PAGES for page in top.glob(pattern)})
+    passed, wrong = check_all(files, programs, top)
+    if not options.pages and not options.release:
         problems = list(modules(TOP))
         for problem in problems:
             print(problem)

@@ -14,12 +14,12 @@ status is 75. With --loop it reads lines `IMAGE OUT R,R` and replies `ok` or `ro
 import argparse
 import pathlib
 import random
-import struct
 import sys
 
 sys.path.insert(0, str(pathlib.Path(__file__).resolve().parent / "lib"))
 
 from heap_image import FREE, NULL, ORDINARY, from_bytes  # noqa: E402
+from programs import regions  # noqa: E402
 
 NO_ROOM = 75  # the status if the free regions do not suffice
 
@@ -153,8 +153,8 @@ def image_of(file):
         return from_bytes(pathlib.Path(file).read_bytes())
     except OSError as error:
         sys.exit(f"{file}: {error.strerror}")
-    except (IndexError, struct.error):
-        sys.exit(f"{file} is no image")
+    except ValueError as error:
+        sys.exit(f"{file}: {error}")
 
 
 def answer(image, out, chosen, options):
@@ -176,21 +176,22 @@ def answer(image, out, chosen, options):
 def loop(options):
     """Replies to each line until the input ends."""
     for line in sys.stdin:
-        image, out, regions = line.split()
-        print("ok" if answer(image, out, [int(word) for word in regions.split(",")], options) else "room", flush=True)
+        image, out, chosen = line.split()
+        print("ok" if answer(image, out, regions(chosen), options) else "room", flush=True)
 
 
 def main():
     parser = argparse.ArgumentParser(description=__doc__, formatter_class=argparse.RawDescriptionHelpFormatter)
     parser.add_argument("image", nargs="?")
     parser.add_argument("out", nargs="?")
-    parser.add_argument("--set", type=int, nargs="+", metavar="R")
+    parser.add_argument("--set", type=regions, nargs="+", default=[], metavar="R")
     parser.add_argument("--seed", type=int, default=1, metavar="S")
     parser.add_argument("--threads", type=int, default=3, metavar="T")
     parser.add_argument("--buffer", type=int, default=12, metavar="WORDS")
     parser.add_argument("--fill", action="store_true")
     parser.add_argument("--loop", action="store_true")
     options = parser.parse_args()
+    options.set = [region for some in options.set for region in some]
     if options.loop:
         return loop(options)
     if not options.out or not options.set:

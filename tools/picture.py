@@ -28,7 +28,6 @@ import objects  # noqa: E402 (it is in lib/)
 import programs  # noqa: E402
 import stepping  # noqa: E402
 
-PROGRAM = pathlib.Path(__file__).resolve().parent.parent / "out" / "g1pause"
 COSTS = ("fixed", "dirty", "card", "byte")
 # Up to so many regions: columns, and the pixels from one cell to the next.
 GRIDS = ((8, 4, 72), (32, 8, 56), (256, 16, 32), (1024, 32, 20), (4096, 64, 13))
@@ -436,13 +435,12 @@ def options_of(words):
     form.add_argument("--objects", action="store_true", help="draws words, objects and references")
     form.add_argument("--steps", action="store_true", help="a page that steps through the pause")
     parser.add_argument("--title", metavar="TEXT", help="the title of a page")
-    parser.add_argument("--set", metavar="R,R", type=lambda text: [int(word) for word in text.split(",")],
-                        help="the regions of the collection set, with commas between them")
+    parser.add_argument("--set", metavar="R", type=programs.regions, help="the regions of the collection set, as in 1,2,5-9")
     parser.add_argument("--budget", metavar="N", help="frames what g1pause choose takes for this budget")
     for name in COSTS:
         parser.add_argument(f"--{name}", metavar="N", help="handed to g1pause choose, or to g1heap explain")
-    parser.add_argument("--program", metavar="FILE", default=str(PROGRAM), help="g1pause (default: out/g1pause)")
-    parser.add_argument("--g1heap", metavar="FILE", default=str(PROGRAM.with_name("g1heap")), help="g1heap (default: out/g1heap)")
+    parser.add_argument("--program", metavar="FILE", default=programs.find("g1pause"), help="g1pause (default: out/g1pause)")
+    parser.add_argument("--g1heap", metavar="FILE", default=programs.find("g1heap"), help="g1heap (default: out/g1heap)")
     options = parser.parse_args(words)
     if options.set is not None and options.budget is not None:
         parser.error("--set and --budget exclude each other")

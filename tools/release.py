@@ -4,22 +4,25 @@
 It writes FOLDER/g1pause-VERSION-x86_64-linux.tar.gz and the same name with .sha256. In the tar:
   bin/            the programs, stripped
   include/, lib/  the headers and the library of the judge, if the repository has them; in lib/debug/ the symbols
-  share/          manual pages, completion for bash, the pages and the examples
+  share/          manual pages, completion for bash, zsh and fish; in share/doc/g1pause the pages, the examples, and the
+                  scripts that the pages call, except those that build or test the sources
   install.sh, uninstall.sh   PREFIX=FOLDER ./install.sh installs all this
   RELEASE         the version, the commit, the kit, and the sums of the programs as rt built them
   SHA256SUMS      the sums of all other files
 
 It refuses programs that are not proved. Those of out/ are, if out/PROVED says so of the sources and of the kit that
 are here, if the checkout is that of a commit, without changes, and if rt itself says that its programs are those of
-the sources and are these. The same commit, kit and programs give the same bytes.
+the sources and are these. It refuses a library of the judge that was made without a proof. The same commit, kit and
+programs give the same bytes.
 
-It needs rt, git and help2man (Debian: apt-get install help2man). Statuses: 0 done; 1 refused; 2 usage.
+It needs rt and git. Statuses: 0 done; 1 refused; 2 usage.
 """
 import argparse
 import gzip
 import hashlib
 import io
 import pathlib
+import re
 import shutil
 import subprocess
 import sys
@@ -29,7 +32,10 @@ import tempfile
 sys.path.insert(0, str(pathlib.Path(__file__).resolve().parent / "lib"))
 
 import build_judge  # noqa: E402
-import manual  # noqa: E402 (it is in lib/)
+import completion  # noqa: E402 (it is in lib/)
+import manual  # noqa: E402
+import pages as page_text  # noqa: E402
+import progress  # noqa: E402
 import stamp  # noqa: E402
 import unproved  # noqa: E402
 
@@ -38,6 +44,9 @@ OUT = TOP / "out"
 NOTHING_CHANGED = "nothing has changed since the last proved build"
 SECONDS = 120  # that rt may take to say so
 SYSTEM = "x86_64-linux"
+DOC = "share/doc/g1pause"
+OF_SOURCES = {"tools/build.py", "tools/build_judge.py", "tools/release.py"}  # scripts that a release has no use for
+IMPORT = re.compile(r"^ *(?:import|from) (\w+)", re.M)
 
 
 class Refused(Exception):
@@ -102,7 +111,7 @@ def programs(version, seconds, room):
         files[f"bin/{name}"], files[f"lib/debug/{name}.debug"] = split(kit, name, room)
         for page, text in manual.pages(OUT / name, version, seconds).items():
             files[f"share/man/man1/{page}"] = text.encode()
-        files[f"share/bash-completion/completions/{name}"] = manual.completion(OUT / name).encode()
+        files.update((path, text.encode()) for path, text in completion.files(OUT / name).items())
     return files
 
 
@@ -130,7 +139,25 @@ def pages():
     """The pages and the examples, as they are in the repository."""
     names = git("ls-files", "-z", "*.md", "*.cff", "docs", "examples").split("\0")
     kept = sorted({name for name in names if name and not name.startswith(("crates/", "tools/"))})
-    return {f"share/doc/g1pause/{name}": (TOP / name).read_bytes() for name in kept}
+    return {f"{DOC}/{name}": (TOP / name).read_bytes() for name in [*kept, *scripts(kept)]}
+
+
+def scripts(names):
+    """The scripts of tools/ and bench/ that the pages among these files call, with all modules that they are made of."""
+    texts = [(TOP / name).read_text(encoding="utf-8") for name in names if name.endswith(".md")]
+    called = {script for text in texts for step in page_text.all_steps(text) for script in page_text.called(step.command)}
+    called |= {name for name in names if name.endswith(".py")}
+    left, found = [TOP / name for name in called - OF_SOURCES if (TOP / name).suffix == ".py" and (TOP / name).is_file()], set()
+    while left:
+        path = left.pop()
+        if path in found:
+            continue
+        found.add(path)
+        beside = [folder / f"{name}.py" for name in IMPORT.findall(path.read_text(encoding="utf-8"))
+                  for folder in (path.parent, TOP / "tools", TOP / "tools/lib")]
+        left += [module for module in beside if module.is_file()]
+    data = {other for path in found for other in (path.with_suffix(".html"), path.with_suffix(".js")) if other.is_file()}
+    return sorted(str(path.relative_to(TOP)) for path in found | data if not path.is_relative_to(TOP / "examples"))
 
 
 def about(version, commit):
@@ -169,10 +196,10 @@ def release(target):
     """Makes the release, and gives the file's path."""
     commit, seconds = commit_of()
     ask_stamp()
-    for name in stamp.PROGRAMS:
+    for name in progress.over(stamp.PROGRAMS, "asking rt whether the programs are proved"):
         ask_rt(name)
     version = manual.said([OUT / "g1pause", "--version"]).split()[1]
-    with tempfile.TemporaryDirectory() as folder:
+    with tempfile.TemporaryDirectory() as folder, progress.doing("packing"):
         room = pathlib.Path(folder)
         files = {**programs(version, seconds, room), **judge(room), **pages()}
     for name in ("install.sh", "uninstall.sh"):
@@ -190,7 +217,7 @@ def main():
     parser = argparse.ArgumentParser(description=__doc__, formatter_class=argparse.RawDescriptionHelpFormatter)
     parser.add_argument("folder", metavar="FOLDER", type=pathlib.Path, help="where the release is written")
     options = parser.parse_args()
-    for tool, where in (("rt", "the Rattle kit"), ("git", "git"), ("help2man", "Debian's package help2man")):
+    for tool, where in (("rt", "the Rattle kit"), ("git", "git")):
         if not shutil.which(tool):
             parser.error(f"there is no {tool} on the path: it comes with {where}")
     try:

@@ -571,6 +571,38 @@ class Heaps(unittest.TestCase):
         self.image.make_exact()
         self.assertEqual(self.image.sets, [[], [0, 2], [], [], []])
 
+    def test_objects_by_name_are_laid_out_end_to_end(self):
+        objects = {"a": (["b", "c", None], [-1]), "b": (["a"], []), "c": ([], [7] * 20), "d": ([], [1] * 9)}
+        image, places = heap_image.laid_out(["b", None], objects, 16, 4)
+        # a has 5 words and b 2; d's 10 do not fit behind them; c has 21, more than 12, and so a run of two regions
+        self.assertEqual(places, {"a": 0, "b": 5, "c": 32, "d": 16})
+        self.assertEqual((image.kinds, image.tops), ([1, 1, 2, 3], [7, 10, 16, 5]))
+        self.assertEqual(image.words[:7], [5 << 32 | 3, 6, 33, 0, (1 << 64) - 1, 2 << 32 | 1, 1])
+        self.assertEqual(image.words[16:26], [10 << 32] + [1] * 9)
+        self.assertEqual((image.words[32], image.words[33:53], image.roots), (21 << 32, [7] * 20, [6, 0]))
+        self.assertEqual(image.sets, [[], [], [0], []])
+        self.assertIsNone(image_text.fault_of(image.to_bytes(), True))
+
+    def test_a_name_of_no_object_is_refused_or_behind_the_heap(self):
+        objects = {"a": (["x", "y", "x"], [])}
+        with self.assertRaises(KeyError):
+            heap_image.laid_out(["a"], objects)
+        image, _ = heap_image.laid_out(["a", "y"], objects, 16, 4, stale=True)
+        self.assertEqual((image.words[1:4], image.roots), ([17, 18, 17], [1, 18]))
+
+    def test_objects_that_no_image_holds_are_refused(self):
+        with self.assertRaisesRegex(ValueError, "the objects take 4097 regions of 16 words"):
+            heap_image.laid_out([], {number: ([], [0] * 11) for number in range(4097)}, 16, 4)
+
+    def test_bytes_that_are_no_image_are_refused(self):
+        whole = heap_image.Image(16, 4, 2).to_bytes()
+        self.assertEqual(heap_image.from_bytes(whole).to_bytes(), whole)
+        for data, text in ((b"", "it begins with"), (b"G1IMAGE3" + whole[8:], "it begins with"), (whole + b"\0", "1 bytes are behind it"),
+                           (whole[:8] + struct.pack("<I", 16_777_216) + whole[12:], "2 regions of 16777216 words"),
+                           *((whole[:end], "it is cut short") for end in range(8, len(whole)))):
+            with self.assertRaisesRegex(ValueError, text):
+                heap_image.from_bytes(data)
+
     def test_what_no_pause_collects_is_refused(self):
         self.image.kinds[3:], self.image.tops[3:] = [2, 3], [16, 4]
         self.image.words[48] = header(20, 0)

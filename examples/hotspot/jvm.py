@@ -11,7 +11,8 @@ HERE = pathlib.Path(__file__).resolve().parent
 TOP = HERE.parent.parent
 sys.path.insert(0, str(TOP / "tools" / "lib"))
 
-import progress  # noqa: E402 (it is in tools/lib/)
+import programs  # noqa: E402 (it is in tools/lib/)
+import progress  # noqa: E402
 
 CONVERTER, PATHS = TOP / "tools" / "hprof2image.py", TOP / "tools" / "hprof_path.py"
 ROOT = "Judge.root"
@@ -64,15 +65,14 @@ def failure_of(text):
 
 
 def heap_program():
-    """The built g1heap: that of G1HEAP, or where it is built, or on the path."""
+    """The built g1heap: that of G1HEAP, or of the checkout or the release, or on the path."""
     named = os.environ.get("G1HEAP")
     if named:
         if not shutil.which(named):
             raise Problem(f"G1HEAP={named}: there is no such program")
         return named
-    built = TOP / "out" / "g1heap"
-    found = str(built) if built.exists() else shutil.which("g1heap")
-    if not found:
+    found = programs.find("g1heap")
+    if not os.access(found, os.X_OK):
         raise Problem("there is no g1heap: tools/build.py --unproved builds it, or name it by G1HEAP=FILE")
     return found
 

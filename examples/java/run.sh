@@ -12,7 +12,8 @@ the program. Last it makes a page with the pictures of the heap before and after
 
 The images and the page are kept in FOLDER, if one is named. With --image it begins at this image, and so it does
 with the small one that lies here where there is no java, javac or jcmd. The
-programs are those of out/, which tools/build.py --unproved builds, or of the variables G1PAUSE and G1HEAP.
+programs are those of out/, which tools/build.py --unproved builds, or of the release, or of the variables G1PAUSE and
+G1HEAP.
 Statuses: 0 done; 1 something was not as it must be; 2 usage.
 END
 }
@@ -20,8 +21,10 @@ END
 set -eu
 here=$(cd "$(dirname "$0")" && pwd)
 top=$(cd "$here/../.." && pwd)
-program=${G1PAUSE:-$top/out/g1pause}
-heap=${G1HEAP:-$top/out/g1heap}
+bin=$top/out
+[ -x "$bin/g1pause" ] || [ ! -x "$top/../../../bin/g1pause" ] || bin=$top/../../../bin # in a release
+program=${G1PAUSE:-$bin/g1pause}
+heap=${G1HEAP:-$bin/g1heap}
 
 image=
 case "${1:-}" in

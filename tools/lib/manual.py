@@ -1,25 +1,13 @@
-"""What a program's --help says, as manual pages and as a completion file: a module of tools/release.py."""
-import os
+"""What a program's --help says, by its parts, and as manual pages: a module of tools/release.py and of completion.py."""
+import datetime
 import re
 import subprocess
 
-OPTION = re.compile(r"^ +(?:-\w, )?(--[\w-]+)")
-SHORT = re.compile(r"^ +(-\w)\b")
-COMPLETION = """\
-# bash completion of {name}, made of what its --help says
-_{name}() {{
-    local words=
-    if [ "$COMP_CWORD" -eq 1 ]; then
-        words='{commands}'
-    else
-        case ${{COMP_WORDS[1]}} in
-{cases}
-        esac
-    fi
-    COMPREPLY=($(compgen -W "$words" -- "${{COMP_WORDS[COMP_CWORD]}}"))
-}}
-complete -o default -F _{name} {name}
-"""
+ENTRY = re.compile(r"^ +(\S.*?)(?:  +(\S.*))?$")
+FOLDER = "share/doc/g1pause/docs"
+# The page on each command, in that folder. Those that are not named here are in COMMANDS.md.
+PAGES = {"g1heap": "COMPARE.md", "same": "COMPARE.md", "print": "HEAP_TEXT.md", "make": "HEAP_TEXT.md", "explain": "EXPLAIN.md",
+         "why": "EXPLAIN.md", "trace": "TRACE.md", "pause": "PAUSE.md", "run": "TRACE.md"}
 
 
 def said(words):
@@ -28,52 +16,78 @@ def said(words):
     return done.stdout
 
 
-def section(text, name):
-    """The lines below a heading of a help text."""
-    return text.partition(f"\n{name}:\n")[2].partition("\n\n")[0].splitlines()
+class Help:
+    """A help text: what the program or the command does, how it is called, its lists and its example. A list has pairs of
+    what stands there and what it means."""
+
+    def __init__(self, text):
+        self.about = text.splitlines()[0]
+        self.usage = self.line(text, "Usage")
+        self.example = self.line(text, "Example")
+        self.commands, self.arguments, self.options, self.statuses = (
+            self.entries(text, name) for name in ("Commands", "Arguments", "Options", "Statuses"))
+
+    @staticmethod
+    def line(text, name):
+        found = re.search(rf"^{name}: (.*)$", text, re.M)
+        return found[1] if found else ""
+
+    @staticmethod
+    def entries(text, name):
+        lines = text.partition(f"\n{name}:\n")[2].partition("\n\n")[0].splitlines()
+        return [(match[1], match[2] or "") for match in map(ENTRY.match, lines) if match]
 
 
-def commands_of(program):
-    """The commands of a program, except `help`."""
-    names = [line.split()[0] for line in section(said([program, "--help"]), "Commands")]
-    return [name for name in names if name != "help"]
+def helps(program):
+    """The help of a program, and that of each of its commands by its name, except `help`."""
+    whole = Help(said([program, "--help"]))
+    names = [name for name, _ in whole.commands if name != "help"]
+    return whole, {name: Help(said([program, name, "--help"])) for name in names}
 
 
-def options_in(text):
-    lines = section(text, "Options")
-    found = [match.group(1) for line in lines for match in (OPTION.match(line), SHORT.match(line)) if match]
-    return sorted(set(found))
+def roff(text):
+    """A text as a line of a manual page."""
+    text = text.replace("\\", "\\e").replace("-", "\\-")
+    return f"\\&{text}" if text.startswith((".", "'")) else text
 
 
-def completion(program):
-    """A file that has bash complete the program's commands and options, and else files."""
-    commands = commands_of(program)
-    cases = [f"            {name}) words='{' '.join(options_in(said([program, name, '--help'])))}' ;;"
-             for name in commands]
-    first = [*commands, "help", *options_in(said([program, "--help"]))]
-    cases.append(f"            help) words='{' '.join(commands)}' ;;")
-    return COMPLETION.format(name=program.name, commands=" ".join(first), cases="\n".join(cases))
+def listed(heading, entries):
+    """The lines of a section that is a list, if there is anything in it."""
+    lines = [f".SH {heading}"] if entries else []
+    for word, meaning in entries:
+        lines += [".TP", f"\\fB{roff(word)}\\fR", roff(meaning)]
+    return lines
 
 
-def page(program, command, version, seconds):
-    """The manual page of a program or of one of its commands, by help2man."""
-    # (help2man gives this to a shell, for which a path may have spaces)
-    called = f"./{program.name} {command}" if command else f"./{program.name}"
-    about = said([program, *([command] if command else []), "--help"]).splitlines()[0]
-    words = ["help2man", "--no-info", "--section=1", f"--name={about}", f"--version-string={version}",
-             f"--manual={program.name} {version}", called]
-    environment = dict(os.environ, SOURCE_DATE_EPOCH=str(seconds), LC_ALL="C", TZ="UTC")
-    done = subprocess.run(words, cwd=program.parent, capture_output=True, text=True, check=True, env=environment)
-    if not command:
-        return done.stdout
-    title, joined = program.name.upper(), f"{program.name}\\-{command}"
-    text = done.stdout.replace(f".TH {title} ", f".TH {title}\\-{command.upper()} ", 1)
-    return text.replace(f"\n{program.name} {command} \\- ", f"\n{joined} \\- ", 1)
+def see_also(program, command, others):
+    """Where to read on: the pages of the commands or of the program, the other program, and a page of the release."""
+    if command:
+        named = [program, *(f"{program}-{name}" for name in others if name != command)]
+    else:
+        named = [f"{program}-{name}" for name in others] + [name for name in ("g1heap", "g1pause") if name != program]
+    page = PAGES.get(command or program, "COMMANDS.md")
+    return [".SH SEE ALSO", ",\n".join(f".BR {roff(name)} (1)" for name in named),
+            ".PP", f"{roff(FOLDER)}/{roff(page)}, below the folder that the programs were installed in."]
+
+
+def page(name, help_text, command, others, version, seconds):
+    """The manual page of a program or of one of its commands. Its date is that of the seconds."""
+    title = f"{name}-{command}" if command else name
+    day = datetime.datetime.fromtimestamp(seconds, datetime.timezone.utc).strftime("%Y-%m-%d")
+    lines = [f'.TH "{roff(title.upper())}" 1 "{day}" "{name} {version}" "User Commands"',
+             ".SH NAME", f"{roff(title)} \\- {roff(help_text.about)}",
+             ".SH SYNOPSIS", f"\\fB{roff(help_text.usage)}\\fR"]
+    lines += listed("COMMANDS", help_text.commands) + listed("ARGUMENTS", help_text.arguments)
+    lines += listed("OPTIONS", help_text.options) + listed("EXIT STATUS", help_text.statuses)
+    if help_text.example:
+        lines += [".SH EXAMPLES", ".nf", f"    {roff(help_text.example)}", ".fi"]
+    return "\n".join(lines + see_also(name, command, others)) + "\n"
 
 
 def pages(program, version, seconds):
     """The manual pages of a program and of its commands, by the names of their files."""
-    made = {f"{program.name}.1": page(program, None, version, seconds)}
-    for command in commands_of(program):
-        made[f"{program.name}-{command}.1"] = page(program, command, version, seconds)
+    whole, commands = helps(program)
+    made = {f"{program.name}.1": page(program.name, whole, None, commands, version, seconds)}
+    for name, help_text in commands.items():
+        made[f"{program.name}-{name}.1"] = page(program.name, help_text, name, commands, version, seconds)
     return made

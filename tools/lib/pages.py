@@ -14,6 +14,7 @@ HERE = re.compile(r"<<['\"]?(\w+)")
 LINK = re.compile(r"\]\(([^()\s]+)\)")
 CODE = re.compile(r"`([^`\n]+)`")
 OURS = re.compile(r"(?:tools|bench|examples|docs|crates|\.ci)/[\w./-]+")
+CALLED = re.compile(r"(?:^|[ (;|$])((?:tools|bench|examples|\.ci)/[\w./-]*\w)")
 PROGRAM = re.compile(r"(?<![\w/.-])(?:g1pause|g1heap) |out/g1(?:pause|heap)\b")
 
 
@@ -102,6 +103,17 @@ def steps_of(text):
     return steps, left_out
 
 
+def all_steps(text):
+    """The commands of a page, with those that are left out."""
+    steps, left_out = steps_of(text)
+    return [*steps, *(step for step, _ in left_out)]
+
+
+def called(command):
+    """The scripts that a command calls."""
+    return [script for line in command.splitlines() for script in CALLED.findall(line)]
+
+
 def anchors(text):
     """What a link can lead to in a page: its headings, written as in a link."""
     found = set()
@@ -124,11 +136,7 @@ def words_in(text):
 
 def scripts_in(text):
     """The scripts that a page calls, in blocks or in sentences, with the numbers of their lines."""
-    steps, left_out = steps_of(text)
-    lines = [(step.number, line) for step in [*steps, *(step for step, _ in left_out)]
-             for line in step.command.splitlines()]
-    called = re.compile(r"(?:^|[ (;|$])((?:tools|bench|examples|\.ci)/[\w./-]*\w)")
-    found = [(number, script) for number, line in lines for script in called.findall(line)]
+    found = [(step.number, script) for step in all_steps(text) for script in called(step.command)]
     return found + [(number, code.split(" ")[0]) for number, code in words_in(text) if OURS.match(code)]
 
 
@@ -139,5 +147,4 @@ def needed(text):
 
 def calls_programs(text):
     """Whether a command of the page calls one of the repository's programs."""
-    steps, left_out = steps_of(text)
-    return any(PROGRAM.search(step.command) for step in [*steps, *(step for step, _ in left_out)])
+    return any(PROGRAM.search(step.command) for step in all_steps(text))
