@@ -371,6 +371,11 @@ within (z ∷ zs) (suc i) y e = let r = within zs i y e in omega arith
 own : (n : ℕ) (words : List ℕ) (hands : List Hand) (log : History) (k : ℕ) (v : Hand) → Leads n words hands log → get_elem? hands k ≡ some v → AreSeen v.offers log
 own n words hands log k v leads at p r = let t = total_le (λ u. times_in p r (bids u.offers)) hands k v at in let all = (leads_told n words hands log leads).all p r in omega arith
 
+-- the word at a moment is the least rank that all seats have offered there
+least_at : (words : List ℕ) (vs : List Hand) (log : History) (k : ℕ) (v : Hand) (p x : ℕ) → Leads (length words) words vs log → get_elem? vs k ≡ some v → p < length words → get_or words p 0 ≡ x
+    → LeastBy v p x log
+least_at words vs log k v p x leads at inside is = (words, vs, leads, (k, at), inside, sym is ∙ ((leads_keeps (length words) words vs log leads).1.words_least p inside).0)
+
 pub offers : (n slots id : ℕ) (me : Sat) (i r : ℕ) → 0 < me.0.hand.shares → i < n → r < 2 ^ 32
     → Allows (Claimed n) slots id me i (λ x. min x r) (lowered (step slots i r 0 none) me)
 offers n slots id me i r share place small s ruled _ at _ =
@@ -399,6 +404,7 @@ offers n slots id me i r share place small s ruled _ at _ =
         known w.hand (set s.words i (min x r)) (set vs id w.hand) (leads_keeps n (set s.words i (min x r)) (set vs id w.hand) later after).1 id now,
         (mine.0.0, ap (λ (l : History). l ++ (i, r) ∷ []) mine.0.1, ap (ltb r) (was ∙ ap (least_in i) mine.0.1)),
         own n (set s.words i (min x r)) (set vs id w.hand) later id w.hand after now,
+        (log, least_at s.words vs log id v i x here stood inside refl, refl),
       ),
     )
 
@@ -428,6 +434,7 @@ looks n slots id me i share place s ruled _ at _ =
         known w.hand s.words (set vs id w.hand) (leads_keeps n s.words (set vs id w.hand) log after).1 id now,
         (mine.0, (leads_told n s.words vs log ruled.1.1).least i place),
         own n s.words (set vs id w.hand) log id w.hand after now,
+        least_at s.words vs log id v i x here stood inside refl,
       ),
     )
 
@@ -526,9 +533,6 @@ found_won v p n f = let w : IsWord p n f.1 = subst (λ (k : ℕ). IsWord p k f.1
 
 pub found_beaten : (v : Hand) (p n r : ℕ) → Found v p n → n ≤ r → r < 2 ^ 32 → Beaten v p r
 found_beaten v p n r f le small = (n, le, ⊎_elim (λ (e : n ≡ empty). absurd (omega arith)) (λ (w : Won v p n). w) (found_won v p n f))
-
-pub found_least : (v : Hand) (p n : ℕ) → Found v p n → LeastBy v p n
-found_least v p n f = (f.0, f.1, f.2, f.3, sym f.4 ∙ ((leads_keeps (length f.0) f.0 f.1 f.2.0.0 f.2.0.1).1.words_least p f.3).0)
 
 pub read_word : (l : List ℕ) (i n : ℕ) → get_elem? l i ≡ some n → get_or l i 0 ≡ n
 read_word [] i n e = absurd (some-ne-none n (sym e))

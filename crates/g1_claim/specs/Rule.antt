@@ -136,9 +136,13 @@ Moment v words views = ((log : History) × Leads (length words) words views log)
 abbrev pub Found : Hand → ℕ → ℕ → Type 0
 Found v p n = (words : List ℕ) × (views : List Hand) × Moment v words views × (p < length words) × (slice_index words p ≡ n)
 
--- n is the least rank that all seats have offered at the place so far, or empty, at a moment that some interleaving leads to
-abbrev pub LeastBy : Hand → ℕ → ℕ → Type 0
-LeastBy v p n = (words : List ℕ) × (views : List Hand) × Moment v words views × (p < length words) × (n ≡ least_offered p views)
+-- n is the least rank that all seats have offered at the place so far, or empty, at a moment that some interleaving leads to, with this hand among all and with this history
+abbrev pub LeastBy : Hand → ℕ → ℕ → History → Type 0
+LeastBy v p n log = (words : List ℕ) × (views : List Hand) × Leads (length words) words views log × ((k : ℕ) × (get_elem? views k ≡ some v)) × (p < length words) × (n ≡ least_offered p views)
+
+-- an offer of r at the place that found n: it stands last in what is seen then, and all before it was offered so far
+abbrev pub Lowers : Hand → ℕ → ℕ → ℕ → History → Type 0
+Lowers v p r n seen = (log : History) × LeastBy v p n log × (seen ≡ log ++ (p, r) ∷ [])
 
 -- an offer of r at the place, by some seat, had answered true
 abbrev pub Won : Hand → ℕ → ℕ → Type 0
@@ -156,12 +160,12 @@ IsKnown v = (v.shares ≤ all_shares) × IsWonOnce v.offers × (v.shares ≡ all
 -- an offer that found the word `found`
 abbrev pub lowered : Step (Unit {0}) → Sat → ℕ → Sat → Type 0
 lowered st m found m' = ((m'.0.hand ≡ after_offer m.0.hand st.word st.first (ltb st.first found)) × (m'.1 ≡ m.1)) × Found m.0.hand st.word found × IsKnown m'.0.hand
-    × IsOffer m.0.seen st.word st.first (ltb st.first found) m'.0.seen × AreSeen m'.0.hand.offers m'.0.seen
+    × IsOffer m.0.seen st.word st.first (ltb st.first found) m'.0.seen × AreSeen m'.0.hand.offers m'.0.seen × Lowers m.0.hand st.word st.first found m'.0.seen
 
 -- a load that found the word `found`
 abbrev pub saw : Step (Unit {0}) → Sat → ℕ → Sat → Type 0
 saw st m found m' = ((m'.0.hand ≡ after_sight m.0.hand st.word found) × (m'.1 ≡ m.1)) × Found m.0.hand st.word found × IsKnown m'.0.hand
-    × (Begins m'.0.seen m.0.seen × (found ≡ least_in st.word m'.0.seen)) × AreSeen m'.0.hand.offers m'.0.seen
+    × (Begins m'.0.seen m.0.seen × (found ≡ least_in st.word m'.0.seen)) × AreSeen m'.0.hand.offers m'.0.seen × LeastBy m.0.hand st.word found m'.0.seen
 
 -- a load that changes no hand, and sees the history
 abbrev pub looked : Step (Unit {0}) → Sat → ℕ → Sat → Type 0

@@ -3,7 +3,7 @@ ghost use Rattle.g1_words.specs.declared.fault.Fault.TheVariants.{Memory};
 ghost use Rattle.g1_words.specs.Geometry.{most_words};
 ghost use Rattle.g1_claim.specs.Claims.{all_shares, IsSeatOf, least_rank, least_value, IsWordOf, IsSettled, IsWonOnce, AreWon};
 ghost use Rattle.g1_claim.specs.History.{History, Begins, least_in, IsOffer, AreSeen, AreAll};
-ghost use Rattle.g1_claim.specs.Rule.{first_hand, after_offer, after_sight, left_hand, right_hand, both_hands, Found, LeastBy, Won, Beaten};
+ghost use Rattle.g1_claim.specs.Rule.{first_hand, after_offer, after_sight, left_hand, right_hand, both_hands, Found, LeastBy, Lowers, Won, Beaten};
 
 use crate::rule::{BothHands, LeastWins, Look, Lower, OneShare, See};
 use crate::witness::Witness;
@@ -100,7 +100,7 @@ impl Claims {
         ensures table { IsSeatOf self.now seat.new }
         ensures offered { seat.new.hand ≡ after_offer seat.old.hand place rank result }
         ensures lowered { (n : ℕ) × Found seat.old.hand place n × (result ≡ ltb rank n) }
-        ensures so_far { (n : ℕ) × LeastBy seat.old.hand place n × (result ≡ ltb rank n) }
+        ensures so_far { (n : ℕ) × Lowers seat.old.hand place rank n seat.new.seen × (result ≡ ltb rank n) }
         ensures history { IsOffer seat.old.seen place rank result seat.new.seen }
         ensures own { AreSeen seat.new.hand.offers seat.new.seen }
         ensures below_known { IsTrue result → rank < least_value place seat.old.hand.known }
@@ -126,7 +126,7 @@ impl Claims {
         ensures table { IsSeatOf self.now seat.new }
         ensures seen { seat.new.hand ≡ after_sight seat.old.hand place result }
         ensures found { Found seat.old.hand place result }
-        ensures so_far { LeastBy seat.old.hand place result }
+        ensures so_far { LeastBy seat.old.hand place result seat.new.seen }
         ensures history { Begins seat.new.seen seat.old.seen × (result ≡ least_in place seat.new.seen) }
         ensures own { AreSeen seat.new.hand.offers seat.new.seen }
         ensures won { (result ≡ EMPTY) ⊎ Won seat.old.hand place result }

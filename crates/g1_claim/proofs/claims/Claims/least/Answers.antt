@@ -2,7 +2,7 @@ use Rattle.std.proofs.Common.{◌≡◌, ◌≤◌, ◌⊎◌, sym, ap, ◌∙�
 use Rattle.g1_claim.specs.Claims.{SeatView, TableView, IsWordOf, empty, least_value}
 use Rattle.g1_claim.specs.declared.rule.Hand.{Hand}
 use Rattle.g1_claim.specs.Rule.{LeastBy, Won}
-use Rattle.g1_claim.proofs.Steps.{looks, found_word, found_least, found_won, found_floor}
+use Rattle.g1_claim.proofs.Steps.{looks, found_word, found_won, found_floor}
 use Rattle.g1_claim.proofs.claims.Claims.least.Goals as goal
 
 pub load-requires : goal.load-requires
@@ -23,7 +23,7 @@ returns-clause-least c all =
 pub returns-clause-so_far : goal.returns-clause-so_far
 returns-clause-so_far c =
     let is = ap (λ (s : SeatView). s.hand) c.seat.view_is in
-    subst (λ (h : Hand). LeastBy h c.args.place c.load.result) is (found_least c.seat.inside.seat.me.0.hand c.args.place c.load.result c.load.ensures.2.1)
+    subst (λ (h : Hand). LeastBy h c.args.place c.load.result c.load.new.seat.me.0.seen) is c.load.ensures.2.5
 
 pub returns-clause-won : goal.returns-clause-won
 returns-clause-won c =

@@ -1,8 +1,8 @@
 use Rattle.std.proofs.Common.{refl, ℕ, ◌≡◌, ◌<◌, ◌≤◌, sym, ap, ◌∙◌, arith, subst, ltb-true, lt-ltb}
 use Rattle.g1_claim.specs.Claims.{SeatView, TableView, IsWordOf, least_value}
 use Rattle.g1_claim.specs.declared.rule.Hand.{Hand}
-use Rattle.g1_claim.specs.Rule.{LeastBy, Beaten}
-use Rattle.g1_claim.proofs.Steps.{offers, found_word, found_least, found_floor, found_beaten}
+use Rattle.g1_claim.specs.Rule.{Lowers, Beaten}
+use Rattle.g1_claim.proofs.Steps.{offers, found_word, found_floor, found_beaten}
 use Rattle.g1_claim.proofs.claims.Claims.offer.Goals as goal
 
 pub fetch_min-found-requires : goal.fetch_min-found-requires
@@ -25,7 +25,7 @@ returns-clause-least c all =
 pub returns-clause-so_far : goal.returns-clause-so_far
 returns-clause-so_far c =
     let is = ap (λ (s : SeatView). s.hand) c.seat.view_is in
-    (c.fetch_min-found.result, subst (λ (h : Hand). LeastBy h c.args.place c.fetch_min-found.result) is (found_least c.seat.inside.seat.me.0.hand c.args.place c.fetch_min-found.result c.fetch_min-found.ensures.2.1), refl)
+    (c.fetch_min-found.result, subst (λ (h : Hand). Lowers h c.args.place c.args.rank c.fetch_min-found.result c.fetch_min-found.new.seat.me.0.seen) is c.fetch_min-found.ensures.2.5, refl)
 
 pub returns-clause-below_known : goal.returns-clause-below_known
 returns-clause-below_known c t =
