@@ -277,6 +277,10 @@ class Bad(Case):
         for text in ('mkfifo "$2"', 'mkdir "$2"', 'ln -s "$1" "$2"', "exit 0"):
             self.is_wrong("it wrote no file after", "--heaps", 1, "--", self.script(text), *FILES)
 
+    def test_changes_the_heap_before(self):
+        for text in (': > "$1"', 'rm "$1"', 'cp "$1" "$2"; printf x >> "$1"', 'rm "$1"; mkdir "$1"', 'rm "$1"; mkfifo "$1"'):
+            self.is_wrong("it changed the file before", "--", self.script(text), *FILES)
+
     def test_wrong_replies(self):
         for text, said in (("while read line; do echo well; done", "the reply 'well', which is neither ok nor room"),
                            (r"while read line; do printf 'ok\nok\n'; sleep 1; done", "a reply of more than one line"),
@@ -513,9 +517,12 @@ def main():
     parser = argparse.ArgumentParser(description=__doc__, formatter_class=argparse.RawDescriptionHelpFormatter)
     add_program(parser, "g1heap")
     add_program(parser, "g1pause")
-    options, words = parser.parse_known_args()
+    parser.add_argument("-v", "--verbose", action="store_const", const=2, default=1)
+    parser.add_argument("-k", metavar="PATTERN", action="append", help="only tests with this in their name")
+    options = parser.parse_args()
     G1HEAP, G1PAUSE = options.g1heap, options.g1pause
-    unittest.main(argv=[sys.argv[0], *words])
+    patterns = [word for pattern in options.k or () for word in ("-k", pattern)]
+    unittest.main(argv=[sys.argv[0], *patterns], verbosity=options.verbose)
 
 
 if __name__ == "__main__":
