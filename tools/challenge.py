@@ -25,7 +25,6 @@ import re
 import shlex
 import shutil
 import signal
-import subprocess
 import sys
 import tempfile
 import time
@@ -45,6 +44,7 @@ from random_heaps import PROFILES  # noqa: E402
 HEAPS = 1000
 TRIES = 500
 NO_ROOM = 75
+SIGNALS = (signal.SIGINT, signal.SIGTERM, signal.SIGHUP)
 
 
 class Usage(Exception):
@@ -190,6 +190,8 @@ class Challenge:
         return made, room
 
     def close(self):
+        for number in SIGNALS:
+            signal.signal(number, signal.SIG_IGN)
         for collector in self.collectors:
             collector.kill()
             collector.renew()
@@ -295,7 +297,7 @@ class Challenge:
               f"again: {self.again(chosen)}")
 
     def heap_lines(self, *words):
-        done = subprocess.run([self.options.g1heap, *words], capture_output=True, text=True, check=False)
+        done = challenging.ask([self.options.g1heap, *words])
         return done.stdout + done.stderr
 
     def traces(self):
@@ -352,7 +354,7 @@ def main():
         for profile in PROFILES:
             print(f"{profile.__name__}: {profile.__doc__.splitlines()[0]}")
         return 0
-    for number in (signal.SIGINT, signal.SIGTERM, signal.SIGHUP):
+    for number in SIGNALS:
         signal.signal(number, interrupted)
     running.limit_files(file_limit(options))
     with tempfile.TemporaryDirectory(prefix="challenge-") as folder:

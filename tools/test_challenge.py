@@ -1,11 +1,12 @@
 #!/usr/bin/env python3
-"""Tests tools/challenge.py: test_challenge.py [-v]
+"""Tests tools/challenge.py: test_challenge.py [G1HEAP [G1PAUSE]] [-v] [-k PATTERN]
 
 It challenges collectors that are right, that are wrong in one way or on one heap, and commands that fail in every other way:
 they are not there, can't be run, never end, fill the disk, flood their streams, crash. After each call no process and no
 temporary file may be left. The reducer may not lose the error, wherever it is stopped. Each kind of heaps at random has to give
-images that are covered, by the reading of tools/lib/image_text.py. It needs the built programs of out/.
+images that are covered, by the reading of tools/lib/image_text.py. Those for examples/loop need a C compiler.
 """
+import argparse
 import hashlib
 import os
 import pathlib
@@ -32,7 +33,7 @@ from challenge_strength import InProcess  # noqa: E402
 from heap_image import FIRST, NULL, ORDINARY, Image, from_bytes  # noqa: E402
 from image_text import fault_of  # noqa: E402
 from likeness import Likeness  # noqa: E402
-from programs import BUILD, OUT  # noqa: E402
+from programs import OUT, add_program  # noqa: E402
 from reducible import take_apart  # noqa: E402
 from reducing import Reducer  # noqa: E402
 
@@ -88,7 +89,8 @@ class Case(unittest.TestCase):
     def start(self, *words):
         """Starts a challenge of the words behind --."""
         environment = {**os.environ, MARK: str(os.getpid()), "TMPDIR": str(self.temporary)}
-        return subprocess.Popen([CHALLENGE, "--out", "out", *map(str, words)], cwd=self.room, env=environment, text=True,
+        programs = ["--g1heap", str(G1HEAP), "--g1pause", str(G1PAUSE)]
+        return subprocess.Popen([CHALLENGE, *programs, "--out", "out", *map(str, words)], cwd=self.room, env=environment, text=True,
                                 stdin=subprocess.DEVNULL, stdout=subprocess.PIPE, stderr=subprocess.PIPE)
 
     def end(self, process):
@@ -274,6 +276,10 @@ class Bad(Case):
         self.is_wrong("fault 1: magic", "--", self.script('echo something longer > "$2"'), *FILES)
         for text in ('mkfifo "$2"', 'mkdir "$2"', 'ln -s "$1" "$2"', "exit 0"):
             self.is_wrong("it wrote no file after", "--heaps", 1, "--", self.script(text), *FILES)
+
+    def test_changes_the_heap_before(self):
+        for text in (': > "$1"', 'rm "$1"', 'cp "$1" "$2"; printf x >> "$1"', 'rm "$1"; mkdir "$1"', 'rm "$1"; mkfifo "$1"'):
+            self.is_wrong("it changed the file before", "--", self.script(text), *FILES)
 
     def test_wrong_replies(self):
         for text, said in (("while read line; do echo well; done", "the reply 'well', which is neither ok nor room"),
@@ -506,7 +512,18 @@ class Traces(Case):
         self.assertGreater(found, 10)
 
 
+def main():
+    global G1HEAP, G1PAUSE
+    parser = argparse.ArgumentParser(description=__doc__, formatter_class=argparse.RawDescriptionHelpFormatter)
+    add_program(parser, "g1heap")
+    add_program(parser, "g1pause")
+    parser.add_argument("-v", "--verbose", action="store_const", const=2, default=1)
+    parser.add_argument("-k", metavar="PATTERN", action="append", help="only tests with this in their name")
+    options = parser.parse_args()
+    G1HEAP, G1PAUSE = options.g1heap, options.g1pause
+    patterns = [word for pattern in options.k or () for word in ("-k", pattern)]
+    unittest.main(argv=[sys.argv[0], *patterns], verbosity=options.verbose)
+
+
 if __name__ == "__main__":
-    if not G1HEAP.is_file() or not G1PAUSE.is_file():
-        sys.exit(f"out/g1heap and out/g1pause are not there: {BUILD}")
-    unittest.main()
+    main()

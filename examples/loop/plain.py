@@ -4,6 +4,7 @@
 It copies what survives of the regions into free ones, in the order in which it finds it, and writes the heap after. If the
 free regions do not suffice, the status is 75.
 """
+import argparse
 import pathlib
 import sys
 
@@ -67,10 +68,14 @@ class Collector:
 
 
 def main():
-    before, after, regions = sys.argv[1:]
-    heap = from_bytes(pathlib.Path(before).read_bytes())
-    Collector(heap, [int(word) for word in regions.split(",")]).collect()
-    pathlib.Path(after).write_bytes(heap.to_bytes())
+    parser = argparse.ArgumentParser(description=__doc__, formatter_class=argparse.RawDescriptionHelpFormatter)
+    parser.add_argument("before", metavar="BEFORE", type=pathlib.Path)
+    parser.add_argument("after", metavar="AFTER", type=pathlib.Path)
+    parser.add_argument("set", metavar="R,R", type=lambda text: [int(word) for word in text.split(",")])
+    options = parser.parse_args()
+    heap = from_bytes(options.before.read_bytes())
+    Collector(heap, options.set).collect()
+    options.after.write_bytes(heap.to_bytes())
 
 
 if __name__ == "__main__":

@@ -45,8 +45,7 @@ class Asked:
         """What is wrong with the file after: the lines of the judge. None if it is right."""
         if not is_file(after):
             return "it wrote no file after"
-        done = subprocess.run(self.words(before, after, chosen), capture_output=True, text=True, errors="replace",
-                              timeout=JUDGE_SECONDS, check=False)
+        done = ask(self.words(before, after, chosen))
         if done.returncode not in (0, 1, 3, 4):
             raise Failed(f"g1heap same: status {done.returncode}: {done.stderr.strip()}")
         if done.returncode:
@@ -56,14 +55,14 @@ class Asked:
     def has_room(self, before, chosen):
         """Whether our own pause finds room."""
         words = [self.g1heap, "explain", str(before), "--set", ",".join(map(str, chosen))]
-        return subprocess.run(words, capture_output=True, timeout=JUDGE_SECONDS, check=False).returncode == 0
+        return ask(words).returncode == 0
 
     def answer(self, before, chosen):
         """The bytes of our own pause. None if it finds no room."""
-        done = subprocess.run([self.g1pause, "pause", *map(str, chosen)], input=pathlib.Path(before).read_bytes(),
-                              capture_output=True, timeout=JUDGE_SECONDS, check=False)
+        data = pathlib.Path(before).read_bytes()
+        done = ask([self.g1pause, "pause", *map(str, chosen)], input=data, text=False, errors=None)
         if done.returncode not in (0, ROOM):
-            raise Failed(f"g1pause pause: status {done.returncode}: {done.stderr.decode().strip()}")
+            raise Failed(f"g1pause pause: status {done.returncode}: {done.stderr.decode(errors='replace').strip()}")
         return None if done.returncode else done.stdout
 
     def differs(self, before, after, chosen):
@@ -75,6 +74,15 @@ class Asked:
             return None
         at = next((i for i, (x, y) in enumerate(zip(ours, theirs)) if x != y), min(len(ours), len(theirs)))
         return f"differ bytes: byte {at} is not that of our own pause"
+
+
+def ask(words, **options):
+    """Runs a program of ours."""
+    options = {"text": True, "errors": "replace", **options}
+    try:
+        return subprocess.run(words, capture_output=True, timeout=JUDGE_SECONDS, check=False, **options)
+    except subprocess.TimeoutExpired:
+        raise Failed(f"{' '.join(words[:2])} took more than {JUDGE_SECONDS} seconds") from None
 
 
 def is_file(path):
@@ -107,16 +115,22 @@ class Trial:
     def __init__(self, collector, asked, folder):
         self.collector, self.asked, self.folder = collector, asked, pathlib.Path(folder)
         self.before, self.after = self.folder / "before.img", self.folder / "after.img"
+        self.data = b""  # the heap that is being collected
         self.runs = self.rooms = self.right = 0
 
     def once(self, chosen):
         """What is wrong with one answer; None if it is right, or if there is no room."""
         self.runs += 1
+        self.before.write_bytes(self.data)
         remove(self.after)
         try:
             found = self.collector.run(self.before, self.after, chosen)
         except Ended as ended:
             return str(ended)
+        if not is_file(self.before) or self.before.read_bytes() != self.data:
+            remove(self.before)
+            self.before.write_bytes(self.data)
+            return "it changed the file before"
         if found:
             said = self.asked.judge(self.before, self.after, chosen)
             self.right += said is None
@@ -128,7 +142,7 @@ class Trial:
 
     def heap(self, image, chosen, times=1, wanted=None, is_first_enough=True):
         """Wrong, if one of so many runs on a heap is wrong, and wrong in the wanted way. None else."""
-        self.before.write_bytes(image.to_bytes())
+        self.data = image.to_bytes()
         found, text = 0, None
         for run in range(1, times + 1):
             said = self.once(chosen)

@@ -40,7 +40,8 @@ def how_it_ended(status, errors=""):
             name = signal.Signals(-status).name
         except ValueError:
             name = f"signal {-status}"
-        more = f", since it wrote a file of more than {MOST_BYTES >> 20} MiB" if name == "SIGXFSZ" else ""
+        most = resource.getrlimit(resource.RLIMIT_FSIZE)[0] >> 20
+        more = f", since it wrote a file of more than {most} MiB" if name == "SIGXFSZ" else ""
         return f"killed by {name}{more}"
     return f"status {status}" + (f": {errors}" if errors else "")
 
