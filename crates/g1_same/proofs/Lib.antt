@@ -13,3 +13,4 @@ pub mod First
 pub mod Made
 pub mod Meets
 pub mod Always
+pub mod Following

@@ -1,4 +1,5 @@
 pub mod Path
 pub mod Same
 pub mod Walk
+pub mod Ends
 pub mod Laws

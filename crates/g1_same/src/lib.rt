@@ -19,12 +19,16 @@
 //!    order, no path that comes before leads to a difference.
 //! 5. If no slot is left, the pairs are the renaming.
 //!
+//! `ends_of` follows the path to a difference in both heaps: the words that it leads to, and of two data
+//! words that differ their values.
+//!
 //! Each reached object, slot and data word is looked at once. The tables have 4 bytes for each word of
 //! their heap, and the list of pairs 24 bytes for each.
 #![tactic(auto)]
 
 mod comparing;
 mod difference;
+mod ending;
 pub mod laws;
 mod meeting;
 mod renaming;
@@ -32,5 +36,6 @@ mod walk;
 
 pub use comparing::compare;
 pub use difference::{Difference, How};
+pub use ending::{Ends, ends_of};
 pub use meeting::first_other;
 pub use renaming::Renaming;

@@ -1,4 +1,3 @@
 pub mod Reached
-pub mod Following
 pub mod Statuses
 pub mod Texts

@@ -12,7 +12,7 @@ use Rattle.g1_same.specs.declared.difference.Difference.TheVariants.{Roots, At}
 use Rattle.g1_kept.specs.declared.lost.Lost.{Lost}
 use Rattle.g1_kept.specs.declared.lost.Lost.TheVariants as lost
 use Rattle.g1judge.specs.declared.answer.Answer.{Answer}
-use Rattle.g1judge.specs.declared.verdict.Ends.{Ends}
+use Rattle.g1_same.specs.declared.ending.Ends.{Ends}
 use Rattle.g1judge.specs.declared.verdict.Verdict.{Verdict}
 use Rattle.g1judge.specs.declared.verdict.Verdict.TheVariants.{Good, Same, Differ, NoImage, Uncovered, Loss, NoSet, Memory}
 

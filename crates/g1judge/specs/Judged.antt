@@ -1,52 +1,27 @@
 -- What bytes are found to be.
-use Rattle.std.specs.Prelude.{◌≡◌, ◌≢◌, ◌<◌, ℕ, zero, suc, ◌+◌, ◌⊎◌, List, length, slice_index, ◌∷◌, sum_by, Contains, false}
+use Rattle.std.specs.Prelude.{◌≡◌, ◌≢◌, ℕ, ◌⊎◌, List, length, slice_index, ◌∷◌, sum_by, false}
 use Rattle.g1_words.specs.declared.fault.Fault.{Fault}
 use Rattle.g1_words.specs.declared.fault.Fault.TheVariants as fault
-use Rattle.g1_words.specs.Heap.{Heap, word, object_at, objects}
+use Rattle.g1_words.specs.Heap.{Heap, object_at}
 use Rattle.g1_words.specs.Graph.{SameGraph}
 use Rattle.g1_image.specs.Image.{Image, IsTextOf, IsImageText}
 use Rattle.g1_image.specs.Faults.{FaultOf}
 use Rattle.g1_image.specs.Cards.{Covered, uncovered}
 use Rattle.g1_choose.specs.Named.{AreTakeable, IsFirstBad}
-use Rattle.g1_same.specs.declared.difference.How.{How}
-use Rattle.g1_same.specs.declared.difference.How.TheVariants.{Data}
 use Rattle.g1_same.specs.declared.difference.Difference.{Difference}
-use Rattle.g1_same.specs.declared.difference.Difference.TheVariants.{Roots, At}
-use Rattle.g1_same.specs.Path.{Together}
 use Rattle.g1_same.specs.Same.{IsFirstDifference, IsRenaming}
 use Rattle.g1_kept.specs.declared.lost.Lost.{Lost}
 use Rattle.g1_kept.specs.Keeps.{Keeps}
 use Rattle.g1_kept.specs.Lost.{IsLoss}
 use Rattle.g1_kept.specs.Order.{IsEarliestLoss}
-use Rattle.g1judge.specs.declared.verdict.Ends.{Ends}
+use Rattle.g1_same.specs.declared.ending.Ends.{Ends}
+use Rattle.g1_same.specs.Ends.{AreEnds}
 use Rattle.g1judge.specs.declared.verdict.Verdict.{Verdict}
 use Rattle.g1judge.specs.declared.verdict.Verdict.TheVariants.{Good, Same, Differ, NoImage, Uncovered, Loss, NoSet, Memory}
 
 -- the words of the objects at these addresses, together
 abbrev pub words_of : Heap → List ℕ → ℕ
 words_of h l = sum_by (λ a. (object_at h a).size) l
-
--- the data word of this number of the object that a reference word names
-abbrev pub data_word : Heap → ℕ → ℕ → ℕ
-data_word h zero k = 0
-data_word h (suc a) k = word h (a + 1 + (object_at h a).refs + k)
-
--- the reference word names an object that has a data word of this number
-pub record HasDataWord (h : Heap) (x k : ℕ) : Type 0 where
-  pub address : ℕ
-  pub is : x ≡ suc address
-  pub object : Contains (objects h) (object_at h address)
-  pub within : (object_at h address).refs + 1 + k < (object_at h address).size
-
--- the values of two data words that differ; of another difference, none
-abbrev pub AreValues : Heap → Heap → How → ℕ → ℕ → ℕ → ℕ → Type 0
-AreValues g h (Data k) x y u v = (u ≡ data_word g x k) × (v ≡ data_word h y k)
-AreValues g h _ x y u v = (u ≡ 0) × (v ≡ 0)
-
--- the reference words that the path leads to in both heaps, and the values; another number of roots has no path
-abbrev pub AreEnds : Heap → Heap → Difference → Ends → Type 0
-AreEnds g h (Roots m n) e = (e.before ≡ 0) × (e.after ≡ 0) × (e.word_before ≡ 0) × (e.word_after ≡ 0)
-AreEnds g h (At k ss how) e = Together g h (k ∷ ss.items) e.before e.after × AreValues g h how e.before e.after e.word_before e.word_after
 
 -- two heaps show one graph, and the roots reach so many objects and words
 abbrev pub ShowSame : Heap → Heap → ℕ → ℕ → Type 0

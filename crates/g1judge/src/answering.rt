@@ -2,9 +2,9 @@ ghost use Rattle.std.specs.Prelude.{◌≡◌};
 ghost use Rattle.g1judge.specs.Answered.{status_of, place_of, at_of, nothing, answer_fault, numbers, answer_how, answer_difference, answer_loss, answer_of, path_of, written};
 
 use crate::answer::Answer;
-use crate::verdict::{Ends, Verdict};
+use crate::verdict::Verdict;
 use g1_kept::Lost;
-use g1_same::{Difference, How};
+use g1_same::{Difference, Ends, How};
 use g1_words::{Fault, Place, Stand};
 
 // The status of a verdict.

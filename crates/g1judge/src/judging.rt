@@ -2,13 +2,13 @@ ghost use Rattle.std.specs.Prelude.{IfOk, IfErr};
 ghost use Rattle.g1_image.specs.Image.{IsTextOf};
 ghost use Rattle.g1judge.specs.Judged.{JudgesPair, JudgesImage, JudgesCover, JudgesKept, JudgesImages, JudgesSlots, JudgesLoss, JudgesSet, IsUnread, AreUnread};
 
-use crate::ends::{ends, words};
+use crate::counting::words;
 use crate::verdict::Verdict;
 use g1_choose::given;
 use g1_image::{Image, decode};
 use g1_kept::kept;
 use g1_rem::first_uncovered;
-use g1_same::compare;
+use g1_same::{compare, ends_of};
 use g1_words::{Fault, Heap};
 use std::alloc::Global;
 
@@ -49,7 +49,7 @@ fn judge_images(alloc: Global, before: &Image, after: &Image) -> Verdict
             words: words(old, renaming.before.as_slice()),
         },
         Ok(Err(difference)) => {
-            let ends = ends(old, new, &difference);
+            let ends = ends_of(old, new, &difference);
             Verdict::Differ { difference, ends }
         }
     }

@@ -22,7 +22,7 @@
 
 mod answer;
 mod answering;
-mod ends;
+mod counting;
 mod exports;
 mod judging;
 pub mod laws;

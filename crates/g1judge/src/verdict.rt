@@ -1,15 +1,6 @@
 use g1_kept::Lost;
-use g1_same::Difference;
+use g1_same::{Difference, Ends};
 use g1_words::Fault;
-
-/// What stands where a path ends: the reference words, and of two data words that differ both values.
-#[derive(Clone, Copy, Drop)]
-pub struct Ends {
-    pub before: u64,
-    pub after: u64,
-    pub word_before: u64,
-    pub word_after: u64,
-}
 
 /// What bytes are found to be.
 #[derive(Drop)]

@@ -7,7 +7,7 @@ use Rattle.g1_same.specs.Path.{Leads, LeadsTo}
 use Rattle.g1_same.specs.declared.difference.How.{How}
 use Rattle.g1_same.specs.declared.difference.How.TheVariants.{Data}
 use Rattle.g1_same.specs.Same.{IsClash, ClashAt}
-use Rattle.g1judge.specs.Judged.{HasDataWord}
+use Rattle.g1_same.specs.Ends.{HasDataWord}
 use Rattle.g1_words.proofs.Sound.{object_in}
 use Rattle.g1_same.proofs.Heaps.{object_named, root_names, slot_names}
 

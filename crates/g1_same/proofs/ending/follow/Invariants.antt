@@ -1,5 +1,5 @@
-use Rattle.g1judge.proofs.Following.{IsOn}
-use Rattle.g1judge.proofs.ends.follow.Given as goal
+use Rattle.g1_same.proofs.Following.{IsOn}
+use Rattle.g1_same.proofs.ending.follow.Given as goal
 
 abbrev pub invariant-loop-slot : goal.invariant-loop-slot
 invariant-loop-slot l = IsOn l.heap l.root l.slots l.slot-index l.reference

@@ -1,24 +1,23 @@
+//! What stands where the path to a difference ends.
 ghost use Rattle.std.specs.Prelude.{◌≡◌, ◌∷◌, ℕ, List};
-ghost use Rattle.g1_words.specs.Heap.{Heap};
 ghost use Rattle.g1_same.specs.Path.{LeadsTo};
-ghost use Rattle.g1_same.specs.Same.{IsClash, IsFirstDifference, IsRenaming};
-ghost use Rattle.g1judge.specs.Judged.{AreEnds, AreValues, HasDataWord, words_of, data_word};
+ghost use Rattle.g1_same.specs.Same.{IsClash, IsDifference};
+ghost use Rattle.g1_same.specs.Ends.{AreEnds, AreValues, HasDataWord, data_word};
 
-use crate::verdict::Ends;
-use g1_same::{Difference, How};
-use g1_words::{Heap, header, size_at};
+use crate::difference::{Difference, How};
+use g1_words::{Heap, header};
 
-/// The words of all objects that are renamed.
-pub fn words(heap: &Heap, renamed: &[u64]) -> u64
-    requires { (h : Heap) × (news : List ℕ) × IsRenaming heap.now h renamed.now news }
-    ensures { result ≡ words_of heap.now renamed.now }
-{
-    g1_words::laws::valid(heap);
-    let mut words = 0;
-    for address in renamed {
-        words += size_at(heap, *address);
-    }
-    words
+/// The words that a path leads to in two heaps, null if there is no path.
+#[derive(Debug, Clone, Copy, PartialEq, Eq, Drop)]
+pub struct Ends {
+    /// The reference word before.
+    pub before: u64,
+    /// The reference word after.
+    pub after: u64,
+    /// Of two data words that differ the one before, else 0.
+    pub word_before: u64,
+    /// Of two data words that differ the one after, else 0.
+    pub word_after: u64,
 }
 
 // The reference word that a path leads to.
@@ -57,9 +56,9 @@ fn values(before: &Heap, after: &Heap, how: &How, old: u64, new: u64) -> (u64, u
     }
 }
 
-/// What stands where the path to the first difference of two heaps ends.
-pub fn ends(before: &Heap, after: &Heap, difference: &Difference) -> Ends
-    requires { IsFirstDifference before.now after.now difference.now }
+/// What stands where the path to a difference of two heaps ends.
+pub fn ends_of(before: &Heap, after: &Heap, difference: &Difference) -> Ends
+    requires { IsDifference before.now after.now difference.now }
     ensures { AreEnds before.now after.now difference.now result }
 {
     match difference {

@@ -2,8 +2,8 @@ use Rattle.std.proofs.Common.{◌≡◌, ◌+◌, ◌-◌, ◌%◌, ◌^◌, len
 use Rattle.g1_words.specs.declared.object.Object.{Object}
 use Rattle.g1_words.specs.Heap.{word, object_at}
 use Rattle.g1_words.proofs.Sound.{object_in}
-use Rattle.g1judge.specs.Judged.{data_word}
-use Rattle.g1judge.proofs.ends.value.Goals as goal
+use Rattle.g1_same.specs.Ends.{data_word}
+use Rattle.g1_same.proofs.ending.value.Goals as goal
 
 pub bounds-words-reference : goal.bounds-words-reference
 bounds-words-reference c =

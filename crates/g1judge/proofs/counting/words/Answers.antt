@@ -3,7 +3,7 @@ use Rattle.std.proofs.lemmas.List.Elements.{Contains-get_or}
 use Rattle.std.proofs.lemmas.List.Sums.{sum_by_more_le}
 use Rattle.g1_words.specs.Heap.{object_at}
 use Rattle.g1judge.proofs.Reached.{within, words_fit}
-use Rattle.g1judge.proofs.ends.words.Goals as goal
+use Rattle.g1judge.proofs.counting.words.Goals as goal
 
 pub size_at-words-requires : goal.size_at-words-requires
 size_at-words-requires c =

@@ -1,7 +1,7 @@
 use Rattle.std.proofs.Common.{subst}
 use Rattle.g1_same.specs.Same.{IsClash}
-use Rattle.g1judge.proofs.Following.{value_before, value_after}
-use Rattle.g1judge.proofs.ends.values.Goals as goal
+use Rattle.g1_same.proofs.Following.{value_before, value_after}
+use Rattle.g1_same.proofs.ending.values.Goals as goal
 
 pub value-requires : goal.value-requires
 value-requires c =

@@ -1,6 +1,6 @@
 use Rattle.std.proofs.Common.{◌≡◌, ◌+◌, length, ap, sym, subst, get_or, arith, slice_index}
-use Rattle.g1judge.proofs.Following.{IsOn, on_start, on_within, on_step}
-use Rattle.g1judge.proofs.ends.follow.Goals as goal
+use Rattle.g1_same.proofs.Following.{IsOn, on_start, on_within, on_step}
+use Rattle.g1_same.proofs.ending.follow.Goals as goal
 
 pub loop-slot-init : goal.loop-slot-init
 loop-slot-init c =

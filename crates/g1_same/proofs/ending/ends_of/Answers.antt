@@ -1,10 +1,10 @@
 use Rattle.std.proofs.Common.{◌∷◌, subst, sym}
 use Rattle.g1_same.specs.Path.{LeadsTo}
 use Rattle.g1_same.specs.Same.{IsDifference}
-use Rattle.g1judge.specs.declared.verdict.Ends.{Ends}
-use Rattle.g1judge.specs.Judged.{AreEnds}
-use Rattle.g1judge.proofs.Following.{clash_here}
-use Rattle.g1judge.proofs.ends.ends.Goals as goal
+use Rattle.g1_same.specs.declared.ending.Ends.{Ends}
+use Rattle.g1_same.specs.Ends.{AreEnds}
+use Rattle.g1_same.proofs.Following.{clash_here}
+use Rattle.g1_same.proofs.ending.ends_of.Goals as goal
 
 pub values-word_before-requires : goal.values-word_before-requires
 values-word_before-requires c =
@@ -15,7 +15,7 @@ values-word_before-requires c =
     let p = c.in-At.root ∷ c.in-At.slots.items in
     let left : LeadsTo g p old = subst (λ ss. LeadsTo g (c.in-At.root ∷ ss) old) c.as_slice.ensures.value c.follow-old.ensures in
     let right : LeadsTo h p new = subst (λ ss. LeadsTo h (c.in-At.root ∷ ss) new) c.as_slice-in-At.ensures.value c.follow-new.ensures in
-    (p, left, right, clash_here g h p old new left right c.in-At.how (subst (IsDifference g h) c.in-At.is c.requires.is))
+    (p, left, right, clash_here g h p old new left right c.in-At.how (subst (IsDifference g h) c.in-At.is c.requires))
 
 pub returns-in-At : goal.returns-in-At
 returns-in-At c =
