@@ -15,7 +15,7 @@ use Rattle.g1_words.proofs.Members.{In}
 use Rattle.g1_words.proofs.Tiling.{Tiles-le}
 use Rattle.g1_image.specs.Image.{Image, IsImage, remembered_of}
 use Rattle.g1_text.specs.Lines.{reference_word, slot_values, data_values, object_line}
-use Rattle.g1_text.specs.Content.{Content, Counts, Line, Holds, Takes, Adds, HasRoom, size_with, words_of, top_behind, beyond_behind}
+use Rattle.g1_text.specs.Content.{Content, Counts, Line, Holds, Takes, Adds, HasSpace, size_with, words_of, top_behind, beyond_behind}
 use Rattle.g1_text.proofs.Splitting.{Small}
 use Rattle.g1_text.proofs.OneImage.{IsPlain}
 
@@ -109,7 +109,7 @@ module _ (i : Image) (good : IsImage i) (r : ℕ) (below : r < i.heap.geometry.n
   regions_below = length-take-le r i.heap.regions (omega (arith, below, good.heap.region_count))
 
   -- ONE OBJECT adds its words
-  pub object_adds : (k : Kind) (words : List ℕ) (beyond t found : ℕ) (o : Object) → IsPlain i.heap.words o → o.at ≡ r * i.heap.geometry.w + t → HasRoom k i.heap.geometry r t o.size
+  pub object_adds : (k : Kind) (words : List ℕ) (beyond t found : ℕ) (o : Object) → IsPlain i.heap.words o → o.at ≡ r * i.heap.geometry.w + t → HasSpace k i.heap.geometry r t o.size
       → found + 1 < 2 ^ 64
       → Takes (within_region i r p remembered k words beyond t found) (said_object i.heap.words o)
       (within_region i r p remembered k (words ++ take o.size (drop o.at i.heap.words)) (beyond_behind k i.heap.geometry beyond o.size) (top_behind k i.heap.geometry t o.size) (found + 1))
@@ -126,7 +126,7 @@ module _ (i : Image) (good : IsImage i) (r : ℕ) (below : r < i.heap.geometry.n
         omega (arith, regions_below, below),
         at ∙ ap (λ x. x + t) here,
         plain.at,
-        subst (λ x. HasRoom k i.heap.geometry x t (size_with (slot_values i.heap.words o) (data_values i.heap.words o))) (sym regions_below) (subst (HasRoom k i.heap.geometry r t) (sym size) room),
+        subst (λ x. HasSpace k i.heap.geometry x t (size_with (slot_values i.heap.words o) (data_values i.heap.words o))) (sym regions_below) (subst (HasSpace k i.heap.geometry r t) (sym size) room),
         omega (arith, size, plain.object.size_fits),
         each_small (slot_values i.heap.words o) plain.slots,
         each_small (data_values i.heap.words o) plain.data_words,

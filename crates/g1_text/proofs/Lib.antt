@@ -22,6 +22,7 @@ pub mod Statements
 pub mod FullText
 pub mod OneSaid
 pub mod Counted
-pub mod Known
+pub mod Formed
 pub mod Comments
 pub mod GraphLines
+pub mod Fronts

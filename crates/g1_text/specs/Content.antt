@@ -89,10 +89,10 @@ abbrev pub with_region : Content → Kind → Content
 with_region c k = record c { regions = c.regions ++ record { kind = k; top = words_beyond c k; pinned = false } ∷ []; beyond = c.beyond - words_beyond c k }
 
 -- region r, of this kind and with this top, has room for an object of this size
-abbrev pub HasRoom : Kind → Geometry → ℕ → ℕ → ℕ → Type 0
-HasRoom Ordinary g r t size = (4 * size ≤ 3 * g.w) × (t + size ≤ g.w)
-HasRoom HumongousFirst g r t size = (t ≡ 0) × (3 * g.w < 4 * size) × (r * g.w + size ≤ g.n * g.w)
-HasRoom _ g r t size = ⊥
+abbrev pub HasSpace : Kind → Geometry → ℕ → ℕ → ℕ → Type 0
+HasSpace Ordinary g r t size = (4 * size ≤ 3 * g.w) × (t + size ≤ g.w)
+HasSpace HumongousFirst g r t size = (t ≡ 0) × (3 * g.w < 4 * size) × (r * g.w + size ≤ g.n * g.w)
+HasSpace _ g r t size = ⊥
 
 -- its top behind the object
 abbrev pub top_behind : Kind → Geometry → ℕ → ℕ → ℕ
@@ -124,7 +124,7 @@ Takes c (Remembered r cards) d =
 Takes c (Holds at slots values) d =
     (below : List Region) × (q : Region) × (earlier : List Counts) × (last : Counts)
     × (c.regions ≡ below ++ q ∷ []) × (c.counts ≡ earlier ++ last ∷ []) × (length below < c.geometry.n)
-    × (at ≡ length below * c.geometry.w + q.top) × (at < 2 ^ 64) × HasRoom q.kind c.geometry (length below) q.top (size_with slots values)
+    × (at ≡ length below * c.geometry.w + q.top) × (at < 2 ^ 64) × HasSpace q.kind c.geometry (length below) q.top (size_with slots values)
     × (size_with slots values < 2 ^ 32) × All (λ x. x < 2 ^ 64) slots × All (λ x. x < 2 ^ 64) values × (last.found + 1 < 2 ^ 64)
     × (d ≡ record c {
       regions = below ++ record q { top = top_behind q.kind c.geometry q.top (size_with slots values) } ∷ [];

@@ -5,7 +5,7 @@ use Rattle.g1_text.specs.declared.expected.Refusal.TheVariants.{Memory}
 use Rattle.g1_text.specs.declared.draft.Draft.{Draft}
 use Rattle.g1_text.specs.declared.named.Lines.{Lines}
 use Rattle.g1_text.specs.declared.draft.Told.{Told}
-use Rattle.g1_text.specs.Reading.{IsOfKind}
+use Rattle.g1_text.specs.Forms.{Form}
 use Rattle.g1_text.specs.Content.{Content, Counts}
 
 -- what a region's line said
@@ -43,15 +43,15 @@ abbrev pub is_begun : Lines → Bool
 is_begun l = not (l.heading == 0)
 
 -- what a line may be, by whether the heading was read
-abbrev pub kinds_after : List (List ℕ) → List (List ℕ) → Bool → List (List ℕ)
-kinds_after heading below false = heading
-kinds_after heading below true = below
+abbrev pub form_after : Form → Form → Bool → Form
+form_after heading below false = heading
+form_after heading below true = below
 
--- the line is of a kind that may come next, and the heading is read now
-abbrev pub IsTaken : List (List ℕ) → List (List ℕ) → Bool → List (List ℕ) → Bool → Type 0
-IsTaken heading below before line after = IsOfKind (kinds_after heading below before) line × (after ≡ true)
+-- the line has the form of one that may come next, and the heading is read now
+abbrev pub IsTaken : Form → Form → Bool → List (List ℕ) → Bool → Type 0
+IsTaken heading below before line after = form_after heading below before line × (after ≡ true)
 
 -- so are lines, one after the other
-abbrev pub AreTaken : List (List ℕ) → List (List ℕ) → Bool → List (List (List ℕ)) → Bool → Type 0
+abbrev pub AreTaken : Form → Form → Bool → List (List (List ℕ)) → Bool → Type 0
 AreTaken heading below before [] after = before ≡ after
-AreTaken heading below before (line ∷ lines) after = IsOfKind (kinds_after heading below before) line × AreTaken heading below true lines after
+AreTaken heading below before (line ∷ lines) after = form_after heading below before line × AreTaken heading below true lines after

@@ -5,3 +5,4 @@ pub mod Drafts
 pub mod Laws
 pub mod Counted
 pub mod Refused
+pub mod Forms

@@ -35,29 +35,9 @@ abbrev pub IsOfKind : List (List ℕ) → List (List ℕ) → Type 0
 IsOfKind kinds [] = ⊥
 IsOfKind kinds (word ∷ words) = Contains kinds word
 
--- ALL LINES ARE KNOWN: the heading is of one of these kinds, and each line below it of one of those
-abbrev pub AreKnown : List (List ℕ) → List (List ℕ) → List (List (List ℕ)) → Type 0
-AreKnown heading below [] = ⊥
-AreKnown heading below (line ∷ lines) = IsOfKind heading line × All (IsOfKind below) lines
-
--- the kinds of the lines of an image
-abbrev pub image_heading : List (List ℕ)
-image_heading = codes "heap" ∷ []
-
-abbrev pub image_kinds : List (List ℕ)
-image_kinds = codes "root" ∷ codes "dirty" ∷ codes "covered" ∷ codes "region" ∷ codes "remembered" ∷ codes "object" ∷ []
-
--- the kinds of lines of objects by name
+-- the kinds of a heading of objects by name
 abbrev pub graph_heading : List (List ℕ)
 graph_heading = codes "graph" ∷ []
-
-abbrev pub graph_kinds : List (List ℕ)
-graph_kinds = codes "root" ∷ codes "object" ∷ []
-
--- a text has lines, all known
-pub record HasKnownLines (heading below : List (List ℕ)) (text : List ℕ) : Type 0 where
-  pub utf8 : All IsUtf8 (parts_of text)
-  pub known : AreKnown heading below (lines_in text)
 
 -- parts of a text are lines of objects by name: up to the first one that says something all are UTF-8, and that one is the heading
 abbrev pub AreGraphLines : List (List ℕ) → Type 0

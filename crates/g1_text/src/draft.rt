@@ -1,7 +1,7 @@
 ghost use Rattle.std.specs.Prelude.{◌≡◌, ◌≤◌, ◌<◌, ◌^◌, ◌*◌, ◌+◌, ◌-◌, ◌++◌, [], ◌∷◌, List, Ok, map, length, replicate, IfOk};
 ghost use Rattle.g1_words.specs.declared.region.Region.{Region as RegionOf};
 ghost use Rattle.g1_words.specs.Geometry.{IsWithinLimits};
-ghost use Rattle.g1_text.specs.Content.{HasRoom, top_behind, beyond_behind};
+ghost use Rattle.g1_text.specs.Content.{HasSpace, top_behind, beyond_behind};
 
 use crate::expected::{Expected, Refusal};
 use g1_words::{Geometry, Kind, Region};
@@ -73,7 +73,7 @@ impl Draft {
     ghost use Rattle.std.specs.Prelude.{◌≡◌, ◌≤◌, ◌<◌, ◌^◌, ◌+◌, ◌-◌, ◌*◌, ◌++◌, [], ◌∷◌, List, Some, Ok, false, length, min, IfOk, OnOk, MatchResult};
     ghost use Rattle.g1_words.specs.declared.region.Region.{Region as RegionOf};
     ghost use Rattle.g1_words.specs.declared.region.Kind.TheVariants.{Continuation};
-    ghost use Rattle.g1_text.specs.Content.{begun, HasRoom, top_behind, beyond_behind};
+    ghost use Rattle.g1_text.specs.Content.{begun, HasSpace, top_behind, beyond_behind};
     ghost use Rattle.g1_text.specs.Drafts.{content, Becomes};
 
     /// A heap of these sizes with nothing in it.
@@ -204,7 +204,7 @@ impl Draft {
     /// Takes room for an object of this many words behind the last one.
     pub(crate) fn take_room(&mut self, size: u64) -> Result<(), Expected>
         ensures small { IfOk result (λ _. size < 2 ^ 32) }
-        ensures room { (below : List RegionOf) (q : RegionOf) → (content self.old).regions ≡ below ++ q ∷ [] → length below < self.old.geometry.n → size < 2 ^ 32 → HasRoom q.kind self.old.geometry (length below) q.top size → (result ≡ Ok tt) × (content self.new ≡ record (content self.old) { regions = below ++ record q { top = top_behind q.kind self.old.geometry q.top size } ∷ []; beyond = beyond_behind q.kind self.old.geometry self.old.beyond size }) }
+        ensures room { (below : List RegionOf) (q : RegionOf) → (content self.old).regions ≡ below ++ q ∷ [] → length below < self.old.geometry.n → size < 2 ^ 32 → HasSpace q.kind self.old.geometry (length below) q.top size → (result ≡ Ok tt) × (content self.new ≡ record (content self.old) { regions = below ++ record q { top = top_behind q.kind self.old.geometry q.top size } ∷ []; beyond = beyond_behind q.kind self.old.geometry self.old.beyond size }) }
     {
         let Some((last, below)) = self.regions.split_last() else {
             return Err(Expected::NoObject);
@@ -252,7 +252,7 @@ fn room(
     size: u64,
 ) -> Result<(u32, u64), Expected>
     ensures small { IfOk result (λ _. size < 2 ^ 32) }
-    ensures room { below < geometry.n → size < 2 ^ 32 → HasRoom last.kind geometry below last.top size → result ≡ Ok (top_behind last.kind geometry last.top size, beyond_behind last.kind geometry beyond size) }
+    ensures room { below < geometry.n → size < 2 ^ 32 → HasSpace last.kind geometry below last.top size → result ≡ Ok (top_behind last.kind geometry last.top size, beyond_behind last.kind geometry beyond size) }
 {
     match last.kind {
         Kind::Ordinary => Ok((grow(geometry, last.top, size)?, beyond)),

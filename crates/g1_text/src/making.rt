@@ -1,9 +1,10 @@
-ghost use Rattle.std.specs.Prelude.{◌≡◌, ℕ, List, None, Some, false, IfOk, IfErr, MatchResult};
+ghost use Rattle.std.specs.Prelude.{◌≡◌, ℕ, List, None, Some, false, IfOk, IfErr, OnOk, MatchResult};
 ghost use Rattle.g1_image.specs.Image.{Image as ImageOf, IsImage, IsImageText, IsTextIn};
 ghost use Rattle.g1_image.specs.declared.cursor.Version.TheVariants.{Two};
 ghost use Rattle.g1_image.specs.Parts.{CountsFit};
 ghost use Rattle.g1_text.specs.Lines.{image_text};
-ghost use Rattle.g1_text.specs.Reading.{image_heading, image_kinds, HasLines, HasKnownLines};
+ghost use Rattle.g1_text.specs.Reading.{HasLines};
+ghost use Rattle.g1_text.specs.Forms.{ImageHeading, ImageLine, HasMeaning};
 ghost use Rattle.g1_text.specs.Content.{Content, IsClosed, IsContentOf, SaysAll, SaysImage, file_with};
 ghost use Rattle.g1_text.specs.Counted.{IsMadeOf};
 ghost use Rattle.g1_text.specs.Drafts.{content};
@@ -31,7 +32,7 @@ pub fn make(alloc: Global, text: &[u8]) -> Result<Vec<u8>, Wrong>
     ensures whole { (i : ImageOf) → IsImage i → text.now ≡ image_text i → MatchResult result (λ v. IsTextIn Two v.items i) (λ e. e ≡ Wrong.Fault Fault.Memory) }
     ensures says { (i : ImageOf) → SaysImage text.now i → MatchResult result (λ v. IsTextIn Two v.items i) (λ e. e ≡ Wrong.Fault Fault.Memory) }
     ensures only { (lines : List (List (List ℕ))) (c : Content) → HasLines text.now lines → SaysAll None lines (Some c) → IsClosed c → CountsFit (file_with c) → IfOk result (λ v. IsMadeOf c v.items) }
-    ensures known { IfOk result (λ _. HasKnownLines image_heading image_kinds text.now) }
+    ensures known { OnOk result (HasMeaning ImageHeading ImageLine text.now) }
 {
     let mut draft = read(alloc, text)?;
     finish(alloc, &mut draft)

@@ -1,7 +1,8 @@
 //! Lines of objects by name, without regions and addresses.
-ghost use Rattle.std.specs.Prelude.{◌≡◌, ◌<◌, ◌↔◌, true, false, IsUtf8, map, codes, All, IsTrue, IfErr, IfOk, OnOk};
+ghost use Rattle.std.specs.Prelude.{◌≡◌, ◌<◌, ◌↔◌, ◌-◌, ◌^◌, [], ◌∷◌, true, false, IsUtf8, map, codes, All, IsTrue, IfErr, IfOk, OnOk};
 ghost use Rattle.g1_image.specs.Image.{IsImageText};
-ghost use Rattle.g1_text.specs.Reading.{words_in, says_something, parts_of, lines_in, graph_heading, graph_kinds, AreGraphLines, HasKnownLines};
+ghost use Rattle.g1_text.specs.Reading.{words_in, says_something, parts_of, lines_in, AreGraphLines};
+ghost use Rattle.g1_text.specs.Forms.{GraphHeading, GraphLine, NamedRootLine, NamedObjectLine, HasMeaning, HasSize, IsTarget, IsName, IsBelow, Sizes, Maybe, Many, Holding, HasFront};
 ghost use Rattle.g1_text.specs.Drafts.{is_begun, IsTaken, AreTaken};
 ghost use Rattle.g1_text.specs.Refused.{IsLineOrMemory};
 
@@ -10,7 +11,9 @@ use crate::draft::{Draft, Heading, Placed};
 use crate::expected::{Expected, Refusal, Wrong};
 use crate::packing::{check_bytes, pack};
 use crate::placing::{Entry, choose_sizes, place, regions_needed};
-use crate::reading::{HeapSizes, add_data, add_zeros, first_line, given_words, sizes};
+use crate::reading::{
+    HeapSizes, add_data, add_zeros, first_line, given_words, sizes, within_limits,
+};
 use crate::words::{Words, cut_words, size_and_slots};
 use g1_words::{Fault, Geometry, MOST_ROOTS, header_word};
 use std::alloc::{AllocError, Global};
@@ -54,11 +57,11 @@ pub fn is_graph(text: &[u8]) -> bool
 ///
 /// # Errors
 ///
-/// The number of a line that is not what is expected there, and what is expected. The names and the sizes of all lines
-/// are read first, then the words of the roots, and those of the objects by address. `Fault::Memory` else.
+/// The number of the first line that is not what is expected there, and what is expected; the heading's, if the objects
+/// do not fit into a heap. `Fault::Memory` else.
 pub fn read_graph<'a>(alloc: Global, text: &'a [u8]) -> Result<Graph<'a>, Wrong>
     ensures fault { IfErr result IsLineOrMemory }
-    ensures known { IfOk result (λ _. HasKnownLines graph_heading graph_kinds text.now) }
+    ensures known { OnOk result (HasMeaning GraphHeading GraphLine text.now) }
 {
     let mut lines = read_lines(alloc, text)?;
     place_and_fill(alloc, &mut lines)
@@ -96,11 +99,11 @@ fn fill<'a>(alloc: Global, draft: &mut Draft, lines: &Lines<'a>) -> Result<Graph
 ///
 /// # Errors
 ///
-/// As of `read_graph`. A name that no object has is not expected.
+/// As of `read_graph`, and then the number of the first line with a name that no object has.
 pub fn make_graph(alloc: Global, text: &[u8]) -> Result<Vec<u8>, Wrong>
     ensures image { IfOk result (λ v. IsImageText v.items) }
     ensures fault { IfErr result IsLineOrMemory }
-    ensures known { IfOk result (λ _. HasKnownLines graph_heading graph_kinds text.now) }
+    ensures known { OnOk result (HasMeaning GraphHeading GraphLine text.now) }
 {
     let mut lines = read_lines(alloc, text)?;
     let Graph {
@@ -134,7 +137,7 @@ struct Lines<'a> {
 
 fn read_lines<'a>(alloc: Global, text: &'a [u8]) -> Result<Lines<'a>, Wrong>
     ensures fault { IfErr result IsLineOrMemory }
-    ensures known { IfOk result (λ l. All IsUtf8 (parts_of text.now) × AreTaken graph_heading graph_kinds false (lines_in text.now) (is_begun l)) }
+    ensures known { IfOk result (λ l. All IsUtf8 (parts_of text.now) × AreTaken GraphHeading GraphLine false (lines_in text.now) (is_begun l)) }
 {
     let mut lines = Lines {
         heading: 0,
@@ -161,7 +164,7 @@ fn read_lines<'a>(alloc: Global, text: &'a [u8]) -> Result<Lines<'a>, Wrong>
 impl<'a> Lines<'a> {
     fn read(&mut self, words: &mut Vec<&'a str>, number: u64, line: &'a [u8]) -> Result<(), Refusal>
         ensures utf8 { OnOk result (IsUtf8 line.now) }
-        ensures known { 0 < number → says_something (words_in line.now) ≡ true → OnOk result (IsTaken graph_heading graph_kinds (is_begun self.old) (words_in line.now) (is_begun self.new)) }
+        ensures known { 0 < number → says_something (words_in line.now) ≡ true → OnOk result (IsTaken GraphHeading GraphLine (is_begun self.old) (words_in line.now) (is_begun self.new)) }
         ensures nothing { says_something (words_in line.now) ≡ false → OnOk result (is_begun self.new ≡ is_begun self.old) }
     {
         let Ok(line) = str::from_utf8(line) else {
@@ -173,7 +176,7 @@ impl<'a> Lines<'a> {
 
     // The words of a line.
     fn read_words(&mut self, number: u64, line: &'a str, words: &[&'a str]) -> Result<(), Refusal>
-        ensures known { 0 < number → says_something (map (λ t. t.now) words.now) ≡ true → OnOk result (IsTaken graph_heading graph_kinds (is_begun self.old) (map (λ t. t.now) words.now) (is_begun self.new)) }
+        ensures known { 0 < number → says_something (map (λ t. t.now) words.now) ≡ true → OnOk result (IsTaken GraphHeading GraphLine (is_begun self.old) (map (λ t. t.now) words.now) (is_begun self.new)) }
         ensures nothing { says_something (map (λ t. t.now) words.now) ≡ false → OnOk result (is_begun self.new ≡ is_begun self.old) }
     {
         let Some((first, rest)) = words.split_first() else {
@@ -186,66 +189,59 @@ impl<'a> Lines<'a> {
             return self.begin(number, first, rest);
         }
         match *first {
-            "root" => match rest {
-                [name] => self.add_root(number, name),
-                _ => Err(Refusal::Expected(Expected::NamedRoot)),
-            },
-            "object" => match rest {
-                [name, size, ..] => self.add_object(number, line, name, size),
-                [_] => Err(Refusal::Expected(Expected::Size)),
-                [] => Err(Refusal::Expected(Expected::Name)),
-            },
+            "root" => self.add_root(number, rest),
+            "object" => self.add_object(number, line, rest),
             _ => Err(Refusal::Expected(Expected::GraphLine)),
         }
     }
 
     // graph [W K N]
     fn begin(&mut self, number: u64, first: &str, told: &[&str]) -> Result<(), Refusal>
-        ensures graph { OnOk result (first.now ≡ codes "graph") }
+        ensures form { OnOk result (GraphHeading (first.now ∷ map (λ t. t.now) told.now)) }
         ensures number { OnOk result (self.new.heading ≡ number) }
     {
         if first != "graph" {
             return Err(Refusal::Expected(Expected::Graph));
         }
         self.heading = number;
-        if !told.is_empty() {
-            self.sizes = Some(all_sizes(told)?);
-        }
+        self.sizes = all_sizes(told)?;
         Ok(())
     }
 
     // root NAME
-    fn add_root(&mut self, number: u64, name: &'a str) -> Result<(), Refusal>
-        ensures { OnOk result (self.new.heading ≡ self.old.heading) }
+    fn add_root(&mut self, number: u64, words: &[&'a str]) -> Result<(), Refusal>
+        ensures form { OnOk result (NamedRootLine (codes "root" ∷ map (λ t. t.now) words.now)) }
+        ensures heading { OnOk result (self.new.heading ≡ self.old.heading) }
     {
         let most = u64::from(MOST_ROOTS);
         if self.roots.len() as u64 >= most {
             return Err(Refusal::Expected(Expected::Roots(most)));
         }
+        let name = root_name(words)?;
         self.roots.push((number, name))?;
         Ok(())
     }
 
     // object NAME SIZE/SLOTS NAME .. WORD .. [..]
-    fn add_object(
-        &mut self,
-        number: u64,
-        line: &'a str,
-        name: &'a str,
-        size: &str,
-    ) -> Result<(), Refusal>
-        ensures { OnOk result (self.new.heading ≡ self.old.heading) }
+    fn add_object(&mut self, number: u64, line: &'a str, words: &[&'a str]) -> Result<(), Refusal>
+        ensures form { OnOk result (NamedObjectLine (codes "object" ∷ map (λ t. t.now) words.now)) }
+        ensures heading { OnOk result (self.new.heading ≡ self.old.heading) }
     {
-        if matches!(name, "-" | "..") {
+        let Some((name, rest)) = words.split_first() else {
             return Err(Refusal::Expected(Expected::Name));
-        }
+        };
+        check_name(name)?;
+        let Some((size, content)) = rest.split_first() else {
+            return Err(Refusal::Expected(Expected::Size));
+        };
         let (size, slots) = short_size(size)?;
         let place = self.entries.len() as u64;
-        if self.places.insert(name, place)?.is_some() {
+        if self.places.insert(*name, place)?.is_some() {
             return Err(Refusal::Expected(Expected::NewName));
         }
+        check_content(content, size, slots)?;
         self.entries.push(Entry {
-            name,
+            name: *name,
             size,
             slots,
             number,
@@ -266,16 +262,50 @@ impl<'a> Lines<'a> {
     }
 }
 
-// W K N and no further word
-fn all_sizes(told: &[&str]) -> Result<HeapSizes, Expected> {
+// [W K N]
+fn all_sizes(told: &[&str]) -> Result<Option<HeapSizes>, Expected>
+    ensures { OnOk result (Maybe Sizes (map (λ t. t.now) told.now)) }
+{
     let mut words = Words::new(told);
+    if words.len() == 0 {
+        return Ok(None);
+    }
     let told = sizes(&mut words)?;
     words.end()?;
-    Ok(told)
+    match Geometry::new(told.w, told.k, told.n) {
+        Ok(geometry) => {
+            within_limits(&geometry);
+            Ok(Some(told))
+        }
+        Err(_) => Err(Expected::Sizes),
+    }
+}
+
+// NAME
+fn root_name<'a>(words: &[&'a str]) -> Result<&'a str, Expected>
+    ensures { IfOk result (λ name. (map (λ t. t.now) words.now ≡ name.now ∷ []) × IsTarget name.now) }
+{
+    match words.split_first() {
+        Some((name, [])) if *name != ".." => Ok(*name),
+        _ => Err(Expected::NamedRoot),
+    }
+}
+
+fn check_name(name: &str) -> Result<(), Expected>
+    ensures { OnOk result (IsName name.now) }
+{
+    if name == "-" || name == ".." {
+        Err(Expected::Name)
+    } else {
+        Ok(())
+    }
 }
 
 // SIZE/SLOTS, of an object that fits into a heap
-fn short_size(text: &str) -> Result<(u32, u32), Expected> {
+fn short_size(text: &str) -> Result<(u32, u32), Expected>
+    ensures within { IfOk result (λ p. (p.1 < p.0) × (p.0 < 2 ^ 32)) }
+    ensures form { IfOk result (λ p. HasSize p.0 p.1 text.now) }
+{
     let Some((size, slots)) = size_and_slots(text) else {
         return Err(Expected::Size);
     };
@@ -286,6 +316,42 @@ fn short_size(text: &str) -> Result<(u32, u32), Expected> {
         Ok(size) => Ok((size, slots as u32)),
         Err(_) => Err(Expected::Smaller),
     }
+}
+
+// NAME .. WORD .. [..]
+fn check_content(content: &[&str], size: u32, slots: u32) -> Result<(), Expected>
+    ensures { slots < size → OnOk result (Holding IsTarget slots (size - slots - 1) (map (λ t. t.now) content.now)) }
+{
+    let mut words = Words::new(content);
+    let slots = u64::from(slots);
+    let data = u64::from(size).saturating_sub(slots).saturating_sub(1);
+    let (given, _) = given_words(&mut words, slots, data)?;
+    let names = slots.min(given);
+    check_names(&mut words, names)?;
+    check_data(&mut words, given - names)
+}
+
+fn check_names(words: &mut Words<'_>, count: u64) -> Result<(), Expected>
+    ensures { OnOk result (HasFront (Many IsTarget count) words.old words.new) }
+{
+    for slot in 0..count {
+        let Some(name) = words.next() else {
+            return Err(Expected::NamedSlot(slot));
+        };
+        if name == ".." {
+            return Err(Expected::NamedSlot(slot));
+        }
+    }
+    Ok(())
+}
+
+fn check_data(words: &mut Words<'_>, count: u64) -> Result<(), Expected>
+    ensures { OnOk result (HasFront (Many (IsBelow (2 ^ 64)) count) words.old words.new) }
+{
+    for _ in 0..count {
+        words.number("data word")?;
+    }
+    Ok(())
 }
 
 // A heap of the sizes that the first line has, or of chosen ones, in which each object has an address.

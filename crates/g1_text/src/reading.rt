@@ -1,10 +1,12 @@
-ghost use Rattle.std.specs.Prelude.{◌≡◌, ◌<◌, ◌+◌, ◌^◌, ℕ, Bool, List, [], ◌∷◌, ◌++◌, Option, None, Some, Ok, true, false, IsUtf8, length, map, replicate, decimal, codes, All, Contains, IsTrue, IfSome, IfOk, IfErr, OnOk, MatchOption, MatchResult};
+ghost use Rattle.std.specs.Prelude.{◌≡◌, ◌⊎◌, ◌<◌, ◌+◌, ◌^◌, ℕ, Bool, List, [], ◌∷◌, ◌++◌, Option, None, Some, Ok, true, false, IsUtf8, length, map, replicate, decimal, codes, All, IsTrue, IfSome, IfOk, IfErr, OnOk, MatchOption, MatchResult};
 ghost use Rattle.g1_words.specs.declared.region.Kind.{Kind as KindOf};
 ghost use Rattle.g1_words.specs.declared.region.Region.{Region as RegionOf};
+ghost use Rattle.g1_words.specs.Geometry.{IsWithinLimits};
 ghost use Rattle.g1_words.specs.Kind.{kind_word};
 ghost use Rattle.g1_text.specs.Lines.{reference_word, current_word, cards_words, pinned_words};
 ghost use Rattle.std.specs.Option.{is_some};
-ghost use Rattle.g1_text.specs.Reading.{words_in, says_something, parts_of, lines_in, image_heading, image_kinds, HasLines, HasKnownLines};
+ghost use Rattle.g1_text.specs.Reading.{words_in, says_something, parts_of, lines_in, HasLines};
+ghost use Rattle.g1_text.specs.Forms.{ImageHeading, ImageLine, RootLine, DirtyLine, CoveredLine, RegionLine, RememberedLine, ObjectLine, HasMeaning, Form, Spells, IsBelow, HasSize, IsReferenceWord, Number, Single, Many, Maybe, Labelled, Current, Cards, Holding, Pinned, ◌▸◌, HasFront, HasFirst};
 ghost use Rattle.g1_text.specs.Content.{Content, Counts, Line, Root, Dirty, Numbers, Remembered, Holds, words_of, Takes, MayFollow, with_region, one_found, Begins, Says, SaysAll, IsClosed};
 ghost use Rattle.g1_text.specs.Drafts.{content, counts_of, Becomes, said, IsTaken, AreTaken};
 ghost use Rattle.g1_text.specs.Refused.{IsLineOrMemory};
@@ -21,7 +23,7 @@ use std::str;
 pub(crate) fn read(alloc: Global, text: &[u8]) -> Result<Draft, Wrong>
     ensures fault { IfErr result IsLineOrMemory }
     ensures says { (lines : List (List (List ℕ))) (c : Content) → HasLines text.now lines → SaysAll None lines (Some c) → IsClosed c → MatchResult result (λ d. content d ≡ c) (λ e. e ≡ Wrong.Fault Fault.Memory) }
-    ensures known { IfOk result (λ _. HasKnownLines image_heading image_kinds text.now) }
+    ensures known { OnOk result (HasMeaning ImageHeading ImageLine text.now) }
 {
     let mut draft = None;
     let parts = read_lines(alloc, &mut draft, text)?;
@@ -36,7 +38,7 @@ pub(crate) fn read(alloc: Global, text: &[u8]) -> Result<Draft, Wrong>
 fn read_lines(alloc: Global, draft: &mut Option<Draft>, text: &[u8]) -> Result<u64, Wrong>
     ensures fault { IfErr result IsLineOrMemory }
     ensures says { (lines : List (List (List ℕ))) (c : Content) → HasLines text.now lines → SaysAll (said draft.old) lines (Some c) → MatchResult result (λ _. said draft.new ≡ Some c) (λ e. e ≡ Wrong.Fault Fault.Memory) }
-    ensures known { IfOk result (λ _. All IsUtf8 (parts_of text.now) × AreTaken image_heading image_kinds (is_some (said draft.old)) (lines_in text.now) (is_some (said draft.new))) }
+    ensures known { OnOk result (All IsUtf8 (parts_of text.now) × AreTaken ImageHeading ImageLine (is_some (said draft.old)) (lines_in text.now) (is_some (said draft.new))) }
 {
     let mut number = 0u64;
     let mut words = Vec::new(alloc);
@@ -86,7 +88,7 @@ fn read_line<'a>(
     ensures says { (c : Content) → IsUtf8 line.now → says_something (words_in line.now) ≡ true → Says (said draft.old) (words_in line.now) c → MatchResult result (λ _. said draft.new ≡ Some c) (λ e. e ≡ Refusal.Memory) }
     ensures nothing { IsUtf8 line.now → says_something (words_in line.now) ≡ false → MatchResult result (λ _. said draft.new ≡ said draft.old) (λ e. e ≡ Refusal.Memory) }
     ensures utf8 { OnOk result (IsUtf8 line.now) }
-    ensures known { says_something (words_in line.now) ≡ true → OnOk result (IsTaken image_heading image_kinds (is_some (said draft.old)) (words_in line.now) (is_some (said draft.new))) }
+    ensures known { says_something (words_in line.now) ≡ true → OnOk result (IsTaken ImageHeading ImageLine (is_some (said draft.old)) (words_in line.now) (is_some (said draft.new))) }
 {
     let Ok(line) = str::from_utf8(line) else {
         return Err(Refusal::Expected(Expected::Text));
@@ -104,7 +106,7 @@ fn read_words(
 ) -> Result<(), Refusal>
     ensures says { (c : Content) → says_something words.entry ≡ true → Says (said draft.old) words.entry c → MatchResult result (λ _. said draft.new ≡ Some c) (λ e. e ≡ Refusal.Memory) }
     ensures nothing { says_something words.entry ≡ false → MatchResult result (λ _. said draft.new ≡ said draft.old) (λ e. e ≡ Refusal.Memory) }
-    ensures known { says_something words.entry ≡ true → OnOk result (IsTaken image_heading image_kinds (is_some (said draft.old)) words.entry (is_some (said draft.new))) }
+    ensures known { says_something words.entry ≡ true → OnOk result (IsTaken ImageHeading ImageLine (is_some (said draft.old)) words.entry (is_some (said draft.new))) }
 {
     let Some(first) = words.next() else {
         return Ok(());
@@ -124,7 +126,7 @@ fn begin_or_add(
     words: Words<'_>,
 ) -> Result<(), Refusal>
     ensures says { (c : Content) → Says (said draft.old) (first.now ∷ words.entry) c → MatchResult result (λ _. said draft.new ≡ Some c) (λ e. e ≡ Refusal.Memory) }
-    ensures known { OnOk result (IsTaken image_heading image_kinds (is_some (said draft.old)) (first.now ∷ words.entry) (is_some (said draft.new))) }
+    ensures known { OnOk result (IsTaken ImageHeading ImageLine (is_some (said draft.old)) (first.now ∷ words.entry) (is_some (said draft.new))) }
 {
     match draft {
         Some(draft) => draft.add(first, words, number),
@@ -138,7 +140,7 @@ fn begin_or_add(
 // heap W K N [roots R] [dirty D] [current none|C]
 fn begin(alloc: Global, first: &str, mut words: Words<'_>, line: u64) -> Result<Draft, Refusal>
     ensures says { (c : Content) → Begins (first.now ∷ words.entry) c → MatchResult result (λ d. content d ≡ c) (λ e. e ≡ Refusal.Memory) }
-    ensures known { IfOk result (λ _. first.now ≡ codes "heap") }
+    ensures form { OnOk result (ImageHeading (first.now ∷ words.entry)) }
 {
     if first != "heap" {
         return Err(Refusal::Expected(Expected::Heading));
@@ -148,7 +150,15 @@ fn begin(alloc: Global, first: &str, mut words: Words<'_>, line: u64) -> Result<
     let Ok(geometry) = Geometry::new(told.w, told.k, told.n) else {
         return Err(Refusal::Expected(Expected::Sizes));
     };
+    within_limits(&geometry);
     Draft::new(alloc, geometry, current, heading)
+}
+
+// The sizes of a heap are within its limits.
+pub(crate) fn within_limits(geometry: &Geometry)
+    ensures { IsWithinLimits geometry.now.w geometry.now.k geometry.now.n }
+{
+    let _ = geometry.region_words();
 }
 
 /// The words of a region and of a card, and the number of regions.
@@ -161,7 +171,8 @@ pub(crate) struct HeapSizes {
 
 // W K N
 pub(crate) fn sizes(words: &mut Words<'_>) -> Result<HeapSizes, Expected>
-    ensures { (w k n : ℕ) (rest : List (List ℕ)) → w < 2 ^ 64 → k < 2 ^ 64 → n < 2 ^ 64 → words.old ≡ decimal w ∷ decimal k ∷ decimal n ∷ rest → (result ≡ Ok (record { w = w; k = k; n = n })) × (words.new ≡ rest) }
+    ensures digits { IfOk result (λ s. HasFront (Single (Spells (2 ^ 64) s.w) ▸ Single (Spells (2 ^ 64) s.k) ▸ Single (Spells (2 ^ 64) s.n)) words.old words.new) }
+    ensures full { (w k n : ℕ) (rest : List (List ℕ)) → w < 2 ^ 64 → k < 2 ^ 64 → n < 2 ^ 64 → words.old ≡ decimal w ∷ decimal k ∷ decimal n ∷ rest → (result ≡ Ok (record { w = w; k = k; n = n })) × (words.new ≡ rest) }
 {
     let w = words.number("W")?;
     let k = words.number("K")?;
@@ -171,7 +182,8 @@ pub(crate) fn sizes(words: &mut Words<'_>) -> Result<HeapSizes, Expected>
 
 // [roots R] [dirty D] [current none|C]
 fn heading(mut words: Words<'_>, line: u64) -> Result<(Heading, Option<u32>), Expected>
-    ensures { (roots dirty : ℕ) (c : Option ℕ) → roots < 2 ^ 64 → dirty < 2 ^ 64 → IfSome c (λ r. r < 2 ^ 32) → words.entry ≡ codes "roots" ∷ decimal roots ∷ codes "dirty" ∷ decimal dirty ∷ codes "current" ∷ current_word c ∷ [] → result ≡ Ok (record { line = line; roots = Some roots; dirty = Some dirty }, c) }
+    ensures form { OnOk result ((Labelled (codes "roots") ▸ Labelled (codes "dirty") ▸ Current) words.entry) }
+    ensures full { (roots dirty : ℕ) (c : Option ℕ) → roots < 2 ^ 64 → dirty < 2 ^ 64 → IfSome c (λ r. r < 2 ^ 32) → words.entry ≡ codes "roots" ∷ decimal roots ∷ codes "dirty" ∷ decimal dirty ∷ codes "current" ∷ current_word c ∷ [] → result ≡ Ok (record { line = line; roots = Some roots; dirty = Some dirty }, c) }
 {
     let roots = words.take_named("roots")?;
     let dirty = words.take_named("dirty")?;
@@ -182,7 +194,8 @@ fn heading(mut words: Words<'_>, line: u64) -> Result<(Heading, Option<u32>), Ex
 }
 
 fn current(words: &mut Words<'_>) -> Result<Option<u32>, Expected>
-    ensures { (c : Option ℕ) → IfSome c (λ r. r < 2 ^ 32) → words.old ≡ codes "current" ∷ current_word c ∷ [] → (result ≡ Ok c) × (words.new ≡ []) }
+    ensures form { OnOk result (HasFront Current words.old words.new) }
+    ensures full { (c : Option ℕ) → IfSome c (λ r. r < 2 ^ 32) → words.old ≡ codes "current" ∷ current_word c ∷ [] → (result ≡ Ok c) × (words.new ≡ []) }
 {
     if !words.take("current") {
         return Ok(None);
@@ -207,7 +220,7 @@ impl Draft {
     // Reads the words behind the first word of a line.
     fn add(&mut self, first: &str, words: Words<'_>, line: u64) -> Result<(), Refusal>
         ensures says { (l : Line) (c : Content) → first.now ∷ words.entry ≡ words_of l → Takes (content self.old) l c → Becomes result (content self.new) c }
-        ensures known { OnOk result (Contains image_kinds first.now) }
+        ensures form { OnOk result (ImageLine (first.now ∷ words.entry)) }
     {
         match first {
             "root" => self.add_root(words, line),
@@ -222,7 +235,8 @@ impl Draft {
 
     // root [NUMBER] REFERENCE
     fn add_root(&mut self, words: Words<'_>, line: u64) -> Result<(), Refusal>
-        ensures { (m x : ℕ) (c : Content) → codes "root" ∷ words.entry ≡ words_of (Root m x) → Takes (content self.old) (Root m x) c → Becomes result (content self.new) c }
+        ensures form { OnOk result (RootLine (codes "root" ∷ words.entry)) }
+        ensures full { (m x : ℕ) (c : Content) → codes "root" ∷ words.entry ≡ words_of (Root m x) → Takes (content self.old) (Root m x) c → Becomes result (content self.new) c }
     {
         let next = self.roots.len() as u64;
         let most = u64::from(MOST_ROOTS);
@@ -237,7 +251,8 @@ impl Draft {
 
     // dirty cards CARD ..
     fn add_dirty(&mut self, words: Words<'_>, line: u64) -> Result<(), Refusal>
-        ensures { (cards : List ℕ) (c : Content) → codes "dirty" ∷ words.entry ≡ words_of (Dirty cards) → Takes (content self.old) (Dirty cards) c → Becomes result (content self.new) c }
+        ensures form { OnOk result (DirtyLine (codes "dirty" ∷ words.entry)) }
+        ensures full { (cards : List ℕ) (c : Content) → codes "dirty" ∷ words.entry ≡ words_of (Dirty cards) → Takes (content self.old) (Dirty cards) c → Becomes result (content self.new) c }
     {
         add_cards(words, &mut self.log)?;
         self.lines.log.resize(self.log.len(), line)?;
@@ -245,7 +260,9 @@ impl Draft {
     }
 
     // covered
-    fn cover(&mut self, words: Words<'_>) -> Result<(), Refusal> {
+    fn cover(&mut self, words: Words<'_>) -> Result<(), Refusal>
+        ensures form { OnOk result (CoveredLine (codes "covered" ∷ words.entry)) }
+    {
         words.end()?;
         self.covered = true;
         Ok(())
@@ -253,7 +270,8 @@ impl Draft {
 
     // remembered REGION cards CARD ..
     fn add_remembered(&mut self, mut words: Words<'_>, line: u64) -> Result<(), Refusal>
-        ensures { (r : ℕ) (cards : List ℕ) (c : Content) → codes "remembered" ∷ words.entry ≡ words_of (Remembered r cards) → Takes (content self.old) (Remembered r cards) c → Becomes result (content self.new) c }
+        ensures form { OnOk result (RememberedLine (codes "remembered" ∷ words.entry)) }
+        ensures full { (r : ℕ) (cards : List ℕ) (c : Content) → codes "remembered" ∷ words.entry ≡ words_of (Remembered r cards) → Takes (content self.old) (Remembered r cards) c → Becomes result (content self.new) c }
     {
         let region = words.number("region")?;
         let last = self.geometry.regions().saturating_sub(1);
@@ -267,7 +285,8 @@ impl Draft {
 
     // region [NUMBER] KIND [top WORDS] [objects COUNT] [cards COUNT] [pinned]
     fn add_region(&mut self, mut words: Words<'_>, line: u64) -> Result<(), Refusal>
-        ensures { (r : ℕ) (k : KindOf) (t o m : ℕ) (p : Bool) (c : Content) → codes "region" ∷ words.entry ≡ words_of (Numbers r k t o m p) → Takes (content self.old) (Numbers r k t o m p) c → Becomes result (content self.new) c }
+        ensures form { OnOk result (RegionLine (codes "region" ∷ words.entry)) }
+        ensures full { (r : ℕ) (k : KindOf) (t o m : ℕ) (p : Bool) (c : Content) → codes "region" ∷ words.entry ≡ words_of (Numbers r k t o m p) → Takes (content self.old) (Numbers r k t o m p) c → Becomes result (content self.new) c }
     {
         let told = words.take_number();
         let kind = region_kind(&mut words)?;
@@ -308,7 +327,8 @@ impl Draft {
 
     // object [ADDRESS] SIZE/SLOTS SLOT .. WORD .. [..]
     fn add_object(&mut self, mut words: Words<'_>, line: u64) -> Result<(), Refusal>
-        ensures { (at : ℕ) (slots values : List ℕ) (c : Content) → codes "object" ∷ words.entry ≡ words_of (Holds at slots values) → Takes (content self.old) (Holds at slots values) c → Becomes result (content self.new) c }
+        ensures form { OnOk result (ObjectLine (codes "object" ∷ words.entry)) }
+        ensures full { (at : ℕ) (slots values : List ℕ) (c : Content) → codes "object" ∷ words.entry ≡ words_of (Holds at slots values) → Takes (content self.old) (Holds at slots values) c → Becomes result (content self.new) c }
     {
         let told = words.take_number();
         let (size, slots) = size(&mut words)?;
@@ -359,7 +379,8 @@ fn add_content(
     slots: u64,
     count: u64,
 ) -> Result<(), Refusal>
-    ensures { (refs values : List ℕ) → slots ≡ length refs → count ≡ length values → slots + count < 2 ^ 64 → All (λ x. x < 2 ^ 64) refs → All (λ x. x < 2 ^ 64) values → words.entry ≡ map reference_word refs ++ map decimal values → MatchResult result (λ _. content.new.items ≡ content.old.items ++ (refs ++ values)) (λ e. e ≡ Refusal.Memory) }
+    ensures form { slots + count < 2 ^ 64 → OnOk result (Holding IsReferenceWord slots count words.entry) }
+    ensures full { (refs values : List ℕ) → slots ≡ length refs → count ≡ length values → slots + count < 2 ^ 64 → All (λ x. x < 2 ^ 64) refs → All (λ x. x < 2 ^ 64) values → words.entry ≡ map reference_word refs ++ map decimal values → MatchResult result (λ _. content.new.items ≡ content.old.items ++ (refs ++ values)) (λ e. e ≡ Refusal.Memory) }
 {
     let (given, missing) = given_words(&mut words, slots, count)?;
     let references = slots.min(given);
@@ -375,7 +396,8 @@ pub(crate) fn given_words(
     slots: u64,
     count: u64,
 ) -> Result<(u64, u64), Expected>
-    ensures { (refs values : List ℕ) → slots ≡ length refs → count ≡ length values → slots + count < 2 ^ 64 → All (λ x. x < 2 ^ 64) refs → All (λ x. x < 2 ^ 64) values → words.old ≡ map reference_word refs ++ map decimal values → (result ≡ Ok (slots + count, 0)) × (words.new ≡ map reference_word refs ++ map decimal values) }
+    ensures form { slots + count < 2 ^ 64 → IfOk result (λ p. (p.0 ≡ length words.new) × (p.0 + p.1 ≡ slots + count) × (((p.1 ≡ 0) × (words.old ≡ words.new)) ⊎ (words.old ≡ words.new ++ codes ".." ∷ []))) }
+    ensures full { (refs values : List ℕ) → slots ≡ length refs → count ≡ length values → slots + count < 2 ^ 64 → All (λ x. x < 2 ^ 64) refs → All (λ x. x < 2 ^ 64) values → words.old ≡ map reference_word refs ++ map decimal values → (result ≡ Ok (slots + count, 0)) × (words.new ≡ map reference_word refs ++ map decimal values) }
 {
     let whole = slots.saturating_add(count);
     let open = words.take_last("..");
@@ -390,7 +412,8 @@ pub(crate) fn given_words(
 }
 
 fn add_references(words: &mut Words<'_>, content: &mut Vec<u64>, count: u64) -> Result<(), Refusal>
-    ensures { (xs : List ℕ) (rest : List (List ℕ)) → count ≡ length xs → All (λ x. x < 2 ^ 64) xs → words.old ≡ map reference_word xs ++ rest → MatchResult result (λ _. (words.new ≡ rest) × (content.new.items ≡ content.old.items ++ xs)) (λ e. e ≡ Refusal.Memory) }
+    ensures form { OnOk result (HasFront (Many IsReferenceWord count) words.old words.new) }
+    ensures full { (xs : List ℕ) (rest : List (List ℕ)) → count ≡ length xs → All (λ x. x < 2 ^ 64) xs → words.old ≡ map reference_word xs ++ rest → MatchResult result (λ _. (words.new ≡ rest) × (content.new.items ≡ content.old.items ++ xs)) (λ e. e ≡ Refusal.Memory) }
 {
     for _ in 0..count {
         let reference = words.reference()?;
@@ -404,7 +427,8 @@ pub(crate) fn add_data(
     content: &mut Vec<u64>,
     count: u64,
 ) -> Result<(), Refusal>
-    ensures { (xs : List ℕ) (rest : List (List ℕ)) → count ≡ length xs → All (λ x. x < 2 ^ 64) xs → words.old ≡ map decimal xs ++ rest → MatchResult result (λ _. (words.new ≡ rest) × (content.new.items ≡ content.old.items ++ xs)) (λ e. e ≡ Refusal.Memory) }
+    ensures form { OnOk result (HasFront (Many (IsBelow (2 ^ 64)) count) words.old words.new) }
+    ensures full { (xs : List ℕ) (rest : List (List ℕ)) → count ≡ length xs → All (λ x. x < 2 ^ 64) xs → words.old ≡ map decimal xs ++ rest → MatchResult result (λ _. (words.new ≡ rest) × (content.new.items ≡ content.old.items ++ xs)) (λ e. e ≡ Refusal.Memory) }
 {
     for _ in 0..count {
         let word = words.number("data word")?;
@@ -424,7 +448,8 @@ pub(crate) fn add_zeros(content: &mut Vec<u64>, count: u64) -> Result<(), AllocE
 
 // [NUMBER] REFERENCE
 fn root(mut words: Words<'_>, next: u64) -> Result<u64, Expected>
-    ensures { (x : ℕ) → x < 2 ^ 64 → words.entry ≡ decimal next ∷ reference_word x ∷ [] → result ≡ Ok x }
+    ensures form { OnOk result ((Maybe Number ▸ Single IsReferenceWord) words.entry) }
+    ensures full { (x : ℕ) → x < 2 ^ 64 → words.entry ≡ decimal next ∷ reference_word x ∷ [] → result ≡ Ok x }
 {
     if words.len() > 1 {
         let told = words.take_number();
@@ -437,7 +462,8 @@ fn root(mut words: Words<'_>, next: u64) -> Result<u64, Expected>
 
 // cards CARD ..
 fn add_cards(mut words: Words<'_>, cards: &mut Vec<u32>) -> Result<(), Refusal>
-    ensures { (xs : List ℕ) → All (λ x. x < 2 ^ 32) xs → words.entry ≡ cards_words xs → MatchResult result (λ _. cards.new.items ≡ cards.old.items ++ xs) (λ e. e ≡ Refusal.Memory) }
+    ensures form { OnOk result (Cards words.entry) }
+    ensures full { (xs : List ℕ) → All (λ x. x < 2 ^ 32) xs → words.entry ≡ cards_words xs → MatchResult result (λ _. cards.new.items ≡ cards.old.items ++ xs) (λ e. e ≡ Refusal.Memory) }
 {
     words.word("cards")?;
     for _ in 0..words.len() {
@@ -449,7 +475,8 @@ fn add_cards(mut words: Words<'_>, cards: &mut Vec<u32>) -> Result<(), Refusal>
 
 // [top WORDS] [objects COUNT] [cards COUNT]
 fn read_counts(region: usize, words: &mut Words<'_>, line: u64) -> Result<Told, Expected>
-    ensures { (top objects cards : ℕ) (rest : List (List ℕ)) → top < 2 ^ 64 → objects < 2 ^ 64 → cards < 2 ^ 64 → words.old ≡ codes "top" ∷ decimal top ∷ codes "objects" ∷ decimal objects ∷ codes "cards" ∷ decimal cards ∷ rest → (result ≡ Ok (record { line = line; region = region; top = Some top; objects = Some objects; cards = Some cards; found = 0 })) × (words.new ≡ rest) }
+    ensures form { OnOk result (HasFront (Labelled (codes "top") ▸ Labelled (codes "objects") ▸ Labelled (codes "cards")) words.old words.new) }
+    ensures full { (top objects cards : ℕ) (rest : List (List ℕ)) → top < 2 ^ 64 → objects < 2 ^ 64 → cards < 2 ^ 64 → words.old ≡ codes "top" ∷ decimal top ∷ codes "objects" ∷ decimal objects ∷ codes "cards" ∷ decimal cards ∷ rest → (result ≡ Ok (record { line = line; region = region; top = Some top; objects = Some objects; cards = Some cards; found = 0 })) × (words.new ≡ rest) }
 {
     let top = words.take_named("top")?;
     let objects = words.take_named("objects")?;
@@ -467,9 +494,13 @@ fn read_counts(region: usize, words: &mut Words<'_>, line: u64) -> Result<Told, 
 // SIZE/SLOTS
 fn size(words: &mut Words<'_>) -> Result<(u64, u64), Expected>
     ensures within { IfOk result (λ p. p.1 < p.0) }
+    ensures form { IfOk result (λ p. HasFirst (HasSize p.0 p.1) words.old words.new) }
     ensures full { (size slots : ℕ) (rest : List (List ℕ)) → slots < size → size < 2 ^ 64 → words.old ≡ (decimal size ++ 47 ∷ decimal slots) ∷ rest → (result ≡ Ok (size, slots)) × (words.new ≡ rest) }
 {
-    match size_and_slots(words.next().unwrap_or("")) {
+    let Some(word) = words.next() else {
+        return Err(Expected::Size);
+    };
+    match size_and_slots(word) {
         Some((size, slots)) if slots < size => Ok((size, slots)),
         _ => Err(Expected::Size),
     }
@@ -477,7 +508,8 @@ fn size(words: &mut Words<'_>) -> Result<(u64, u64), Expected>
 
 // [pinned]
 fn is_pinned(kind: Kind, mut words: Words<'_>) -> Result<bool, Expected>
-    ensures { (p : Bool) → (IsTrue p → kind ≡ Kind.Ordinary) → words.entry ≡ pinned_words p → result ≡ Ok p }
+    ensures form { OnOk result (Pinned kind words.entry) }
+    ensures full { (p : Bool) → (IsTrue p → kind ≡ Kind.Ordinary) → words.entry ≡ pinned_words p → result ≡ Ok p }
 {
     let pinned = kind.is_ordinary() && words.take("pinned");
     words.end()?;
@@ -499,9 +531,13 @@ fn check_number(number: u64, next: u64, regions: u64) -> Result<(), Expected>
 
 // KIND
 fn region_kind(words: &mut Words<'_>) -> Result<Kind, Expected>
-    ensures { (k : KindOf) (rest : List (List ℕ)) → words.old ≡ kind_word k ∷ rest → (result ≡ Ok k) × (words.new ≡ rest) }
+    ensures form { IfOk result (λ k. words.old ≡ kind_word k ∷ words.new) }
+    ensures full { (k : KindOf) (rest : List (List ℕ)) → words.old ≡ kind_word k ∷ rest → (result ≡ Ok k) × (words.new ≡ rest) }
 {
-    match words.next().unwrap_or("") {
+    let Some(word) = words.next() else {
+        return Err(Expected::Kind);
+    };
+    match word {
         "free" => Ok(Kind::Free),
         "ordinary" => Ok(Kind::Ordinary),
         "humongous" => Ok(Kind::HumongousFirst),

@@ -1,5 +1,6 @@
-ghost use Rattle.std.specs.Prelude.{◌≡◌, ◌<◌, ◌^◌, ℕ, ◌∷◌, ◌++◌, Some, map, decimal, OnOk};
+ghost use Rattle.std.specs.Prelude.{◌≡◌, ◌<◌, ◌^◌, ℕ, ◌∷◌, ◌++◌, Some, map, decimal, OnOk, MatchOption};
 ghost use Rattle.g1_text.specs.Reading.{words_in};
+ghost use Rattle.g1_text.specs.Forms.{Spells, IsBelow, HasSize};
 
 use crate::expected::Expected;
 use std::alloc::AllocError;
@@ -32,8 +33,9 @@ impl<'a> Model for Words<'a> {
 }
 
 impl<'a> Words<'a> {
-    ghost use Rattle.std.specs.Prelude.{◌≡◌, ◌≢◌, ◌<◌, ◌^◌, ℕ, List, [], ◌∷◌, ◌++◌, Some, Ok, length, map, decimal, MatchOption, MatchBool, MatchResult};
+    ghost use Rattle.std.specs.Prelude.{◌≡◌, ◌≢◌, ◌<◌, ◌^◌, ℕ, List, [], ◌∷◌, ◌++◌, Some, Ok, length, map, decimal, OnOk, IfOk, MatchOption, MatchBool, MatchResult};
     ghost use Rattle.g1_text.specs.Lines.{reference_word};
+    ghost use Rattle.g1_text.specs.Forms.{Spells, IsBelow, IsReferenceWord, Denotes, Word, Single, Labelled, ◌▸◌, HasFront, HasFirst, HasNoFirst};
 
     pub(crate) fn new(words: &'a [&'a str]) -> Words<'a>
         ensures { result ≡ map (λ t. t.now) words.now }
@@ -104,7 +106,8 @@ impl<'a> Words<'a> {
 
     /// Reads the next word if it is a number.
     pub(crate) fn take_number(&mut self) -> Option<u64>
-        ensures { (n : ℕ) (rest : List (List ℕ)) → n < 2 ^ 64 → self.old ≡ decimal n ∷ rest → (result ≡ Some n) × (self.new ≡ rest) }
+        ensures digits { MatchOption result ((self.new ≡ self.old) × HasNoFirst (IsBelow (2 ^ 64)) self.old) (λ n. HasFirst (Spells (2 ^ 64) n) self.old self.new) }
+        ensures full { (n : ℕ) (rest : List (List ℕ)) → n < 2 ^ 64 → self.old ≡ decimal n ∷ rest → (result ≡ Some n) × (self.new ≡ rest) }
     {
         if self.from == self.to {
             return None;
@@ -116,14 +119,16 @@ impl<'a> Words<'a> {
 
     /// Reads a number of this.
     pub(crate) fn number(&mut self, what: &'static str) -> Result<u64, Expected>
-        ensures { (n : ℕ) (rest : List (List ℕ)) → n < 2 ^ 64 → self.old ≡ decimal n ∷ rest → (result ≡ Ok n) × (self.new ≡ rest) }
+        ensures digits { MatchResult result (λ n. HasFirst (Spells (2 ^ 64) n) self.old self.new) (λ _. HasNoFirst (IsBelow (2 ^ 64)) self.old) }
+        ensures full { (n : ℕ) (rest : List (List ℕ)) → n < 2 ^ 64 → self.old ≡ decimal n ∷ rest → (result ≡ Ok n) × (self.new ≡ rest) }
     {
         self.take_number().ok_or(Expected::Number(what))
     }
 
     /// Reads the number of a region or of a card.
     pub(crate) fn short_number(&mut self, what: &'static str) -> Result<u32, Expected>
-        ensures { (n : ℕ) (rest : List (List ℕ)) → n < 2 ^ 32 → self.old ≡ decimal n ∷ rest → (result ≡ Ok n) × (self.new ≡ rest) }
+        ensures digits { MatchResult result (λ n. HasFirst (Spells (2 ^ 32) n) self.old self.new) (λ _. HasNoFirst (IsBelow (2 ^ 32)) self.old) }
+        ensures full { (n : ℕ) (rest : List (List ℕ)) → n < 2 ^ 32 → self.old ≡ decimal n ∷ rest → (result ≡ Ok n) × (self.new ≡ rest) }
     {
         let Some(number) = self.take_number() else {
             return Err(Expected::Number(what));
@@ -136,7 +141,9 @@ impl<'a> Words<'a> {
 
     /// Reads a word and the number behind it, if this word is the next.
     pub(crate) fn take_named(&mut self, word: &'static str) -> Result<Option<u64>, Expected>
-        ensures { (n : ℕ) (rest : List (List ℕ)) → n < 2 ^ 64 → self.old ≡ word.now ∷ decimal n ∷ rest → (result ≡ Ok (Some n)) × (self.new ≡ rest) }
+        ensures digits { IfOk result (λ r. MatchOption r (self.new ≡ self.old) (λ n. HasFront (Word word.now ▸ Single (Spells (2 ^ 64) n)) self.old self.new)) }
+        ensures form { OnOk result (HasFront (Labelled word.now) self.old self.new) }
+        ensures full { (n : ℕ) (rest : List (List ℕ)) → n < 2 ^ 64 → self.old ≡ word.now ∷ decimal n ∷ rest → (result ≡ Ok (Some n)) × (self.new ≡ rest) }
     {
         if !self.take(word) {
             return Ok(None);
@@ -149,7 +156,8 @@ impl<'a> Words<'a> {
 
     /// Reads a dash or the address of an object, as a reference word.
     pub(crate) fn reference(&mut self) -> Result<u64, Expected>
-        ensures { (x : ℕ) (rest : List (List ℕ)) → x < 2 ^ 64 → self.old ≡ reference_word x ∷ rest → (result ≡ Ok x) × (self.new ≡ rest) }
+        ensures digits { MatchResult result (λ x. HasFirst (Denotes x) self.old self.new) (λ _. HasNoFirst IsReferenceWord self.old) }
+        ensures full { (x : ℕ) (rest : List (List ℕ)) → x < 2 ^ 64 → self.old ≡ reference_word x ∷ rest → (result ≡ Ok x) × (self.new ≡ rest) }
     {
         if self.take("-") {
             return Ok(0);
@@ -174,7 +182,8 @@ impl<'a> Words<'a> {
 
 // A whole number in decimal digits alone. `parse` takes a plus in front of them, too.
 fn whole(text: &str) -> Option<u64>
-    ensures { (n : ℕ) → n < 2 ^ 64 → text.now ≡ decimal n → result ≡ Some n }
+    ensures digits { MatchOption result (IsBelow (2 ^ 64) text.now → ⊥) (λ n. Spells (2 ^ 64) n text.now) }
+    ensures full { (n : ℕ) → n < 2 ^ 64 → text.now ≡ decimal n → result ≡ Some n }
 {
     if text.starts_with('+') {
         return None;
@@ -184,7 +193,8 @@ fn whole(text: &str) -> Option<u64>
 
 /// An object's words and its slots, two numbers with a slash between them.
 pub(crate) fn size_and_slots(text: &str) -> Option<(u64, u64)>
-    ensures { (size slots : ℕ) → size < 2 ^ 64 → slots < 2 ^ 64 → text.now ≡ decimal size ++ 47 ∷ decimal slots → result ≡ Some (size, slots) }
+    ensures digits { MatchOption result ((size slots : ℕ) → HasSize size slots text.now → ⊥) (λ p. HasSize p.0 p.1 text.now) }
+    ensures full { (size slots : ℕ) → size < 2 ^ 64 → slots < 2 ^ 64 → text.now ≡ decimal size ++ 47 ∷ decimal slots → result ≡ Some (size, slots) }
 {
     let (size, slots) = text.split_once('/')?;
     whole(size).zip(whole(slots))

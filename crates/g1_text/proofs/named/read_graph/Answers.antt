@@ -1,13 +1,14 @@
 use Rattle.std.proofs.Common.{false, subst}
 use Rattle.std.proofs.lemmas.Result.{on_ok_weaker}
-use Rattle.g1_text.specs.Reading.{lines_in, graph_heading, graph_kinds}
+use Rattle.g1_text.specs.Reading.{lines_in}
+use Rattle.g1_text.specs.Forms.{GraphHeading, GraphLine}
 use Rattle.g1_text.specs.Drafts.{AreTaken}
-use Rattle.g1_text.proofs.Known.{known_text}
+use Rattle.g1_text.proofs.Formed.{meant_text}
 use Rattle.g1_text.proofs.named.read_graph.Goals as goal
 
 pub returns-clause-known : goal.returns-clause-known
 returns-clause-known c =
     let read = c.in_ok-lines.ensures.known in
     on_ok_weaker c.place_and_fill.result
-    (λ begun. known_text graph_heading graph_kinds c.args.text.now (read.0, subst (AreTaken graph_heading graph_kinds false (lines_in c.args.text.now)) begun read.1))
+    (λ begun. meant_text GraphHeading GraphLine c.args.text.now (read.0, subst (AreTaken GraphHeading GraphLine false (lines_in c.args.text.now)) begun read.1))
     c.place_and_fill.ensures.begun

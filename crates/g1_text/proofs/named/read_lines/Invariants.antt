@@ -1,12 +1,13 @@
 use Rattle.std.proofs.Common.{false}
-use Rattle.g1_text.specs.Reading.{graph_heading, graph_kinds, parts_of}
+use Rattle.g1_text.specs.Reading.{parts_of}
+use Rattle.g1_text.specs.Forms.{GraphHeading, GraphLine}
 use Rattle.g1_text.specs.Drafts.{is_begun}
 use Rattle.g1_text.proofs.Turns.{parts_left, size_left}
-use Rattle.g1_text.proofs.Known.{IsLeft}
+use Rattle.g1_text.proofs.Formed.{IsLeft}
 use Rattle.g1_text.proofs.named.read_lines.Given as goal
 
 abbrev pub decreases-lines : goal.decreases-lines
 decreases-lines l = size_left l.rest
 
 abbrev pub invariant-lines : goal.invariant-lines
-invariant-lines l = IsLeft graph_heading graph_kinds (parts_of l.fn.text) false (parts_left l.rest) (is_begun l.lines)
+invariant-lines l = IsLeft GraphHeading GraphLine (parts_of l.fn.text) false (parts_left l.rest) (is_begun l.lines)

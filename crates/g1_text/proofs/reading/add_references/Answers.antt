@@ -1,33 +1,45 @@
-use Rattle.std.proofs.Common.{◌+◌, ◌<◌, [], ◌∷◌, ◌++◌, length, get_or, map, drop, take, append_assoc, sym, ◌∙◌, ap, arith}
+use Rattle.std.proofs.Common.{◌+◌, ◌<◌, [], ◌∷◌, ◌++◌, length, get_or, map, drop, take, append-nil, append_assoc, sym, ◌∙◌, ap, arith}
 use Rattle.std.proofs.lemmas.List.{take_more, take_all}
 use Rattle.g1_text.specs.Lines.{reference_word}
 use Rattle.g1_text.proofs.Results.{ok_one, not_both}
 use Rattle.g1_text.proofs.Gathering.{next_word, no_word}
+use Rattle.g1_text.specs.Forms.{IsReferenceWord}
+use Rattle.g1_text.proofs.Fronts.{none_read, one_more_read, many_read}
 use Rattle.g1_text.proofs.reading.add_references.Goals as goal
 
-pub returns-in_err-reference : goal.returns-in_err-reference
-returns-in_err-reference c = λ xs rest count fit e.
+pub returns-in_err-reference-clause-full : goal.returns-in_err-reference-clause-full
+returns-in_err-reference-clause-full c = λ xs rest count fit e.
     let i = c.loop.counter in
-    let kept = c.loop.invariant xs rest count fit e in
+    let kept = c.loop.invariant.0 xs rest count fit e in
     let lt : i < length xs = omega (arith, count, c.loop-test.true) in
-    absurd (not_both c.in_err-reference.was (c.reference.ensures (get_or xs i 0) (map reference_word (drop (i + 1) xs) ++ rest) (fit i 0 lt) (kept.0 ∙ next_word reference_word xs rest i lt)).0)
+    absurd (not_both c.in_err-reference.was (c.reference.ensures.full (get_or xs i 0) (map reference_word (drop (i + 1) xs) ++ rest) (fit i 0 lt) (kept.0 ∙ next_word reference_word xs rest i lt)).0)
 
 pub loop-preserved : goal.loop-preserved
-loop-preserved c = λ xs rest count fit e.
-    let i = c.loop.counter in
-    let kept = c.loop.invariant xs rest count fit e in
-    let lt : i < length xs = omega (arith, count, c.loop-test.true) in
-    let read = c.reference.ensures (get_or xs i 0) (map reference_word (drop (i + 1) xs) ++ rest) (fit i 0 lt) (kept.0 ∙ next_word reference_word xs rest i lt) in
-    let same = ok_one c.in_ok-reference.was read.0 in (
-      read.1,
-      c.in_ok-push.ensures.items ∙ ap (λ ys. ys ++ c.in_ok-reference.reference ∷ []) kept.1 ∙ append_assoc c.args.content.now.items (take i xs) (c.in_ok-reference.reference ∷ [])
-          ∙ ap (λ ys. c.args.content.now.items ++ ys) (ap (λ x. take i xs ++ x ∷ []) same ∙ sym (take_more xs i 0 lt)),
-    )
+loop-preserved c = (
+  (λ xs rest count fit e.
+      let i = c.loop.counter in
+      let kept = c.loop.invariant.0 xs rest count fit e in
+      let lt : i < length xs = omega (arith, count, c.loop-test.true) in
+      let read = c.reference.ensures.full (get_or xs i 0) (map reference_word (drop (i + 1) xs) ++ rest) (fit i 0 lt) (kept.0 ∙ next_word reference_word xs rest i lt) in
+      let same = ok_one c.in_ok-reference.was read.0 in (
+        read.1,
+        c.in_ok-push.ensures.items ∙ ap (λ ys. ys ++ c.in_ok-reference.reference ∷ []) kept.1 ∙ append_assoc c.args.content.now.items (take i xs) (c.in_ok-reference.reference ∷ [])
+            ∙ ap (λ ys. c.args.content.now.items ++ ys) (ap (λ x. take i xs ++ x ∷ []) same ∙ sym (take_more xs i 0 lt)),
+      )),
+  one_more_read IsReferenceWord c.loop.counter c.loop.invariant.1 (c.in_ok-reference.ensures.digits.0, c.in_ok-reference.ensures.digits.1, (c.in_ok-reference.reference, c.in_ok-reference.ensures.digits.2)),
+  omega (arith, c.loop-test.true),
+)
 
-pub returns : goal.returns
-returns c = λ xs rest count fit e.
+pub returns-clause-full : goal.returns-clause-full
+returns-clause-full c = λ xs rest count fit e.
     let i = c.loop.counter in
-    let kept = c.loop.invariant xs rest count fit e in (
+    let kept = c.loop.invariant.0 xs rest count fit e in (
       kept.0 ∙ no_word reference_word xs rest i (omega (arith, count, c.loop-test.false)),
       kept.1 ∙ ap (λ ys. c.args.content.now.items ++ ys) (take_all i xs (omega (arith, count, c.loop-test.false))),
     )
+
+pub loop-init : goal.loop-init
+loop-init c = ((λ xs rest count fit e. (e, sym (append-nil c.args.content.now.items))), none_read IsReferenceWord c.args.words.now, omega arith)
+
+pub returns-clause-form : goal.returns-clause-form
+returns-clause-form c = many_read IsReferenceWord c.loop.counter c.args.count (omega (arith, c.loop.invariant.2, c.loop-test.false)) c.loop.invariant.1

@@ -1,11 +1,12 @@
 use Rattle.std.proofs.Common.{◌≤◌, false, length, sym, ◌∙◌, ap, subst}
 use Rattle.std.specs.Option.{is_some}
 use Rattle.std.proofs.lemmas.Bool.{false≢true}
-use Rattle.g1_text.specs.Reading.{lines_in, image_heading, image_kinds}
+use Rattle.g1_text.specs.Reading.{lines_in}
+use Rattle.g1_text.specs.Forms.{ImageHeading, ImageLine}
 use Rattle.g1_text.specs.Content.{Content}
 use Rattle.g1_text.specs.Drafts.{said, AreTaken}
 use Rattle.g1_text.proofs.Turns.{some_one}
-use Rattle.g1_text.proofs.Known.{known_text}
+use Rattle.g1_text.proofs.Formed.{meant_text}
 use Rattle.g1_text.proofs.reading.read.Goals as goal
 
 pub returns-in_default-clause-says : goal.returns-in_default-clause-says
@@ -19,5 +20,5 @@ returns-clause-says c = λ lines after has all closed.
 pub returns-clause-known : goal.returns-clause-known
 returns-clause-known c =
     let lines = c.in_ok-parts.ensures.known in
-    known_text image_heading image_kinds c.args.text.now
-    (lines.0, subst (λ o. AreTaken image_heading image_kinds false (lines_in c.args.text.now) (is_some (said o))) c.in-Some.is lines.1)
+    meant_text ImageHeading ImageLine c.args.text.now
+    (lines.0, subst (λ o. AreTaken ImageHeading ImageLine false (lines_in c.args.text.now) (is_some (said o))) c.in-Some.is lines.1)

@@ -1,7 +1,8 @@
 use Rattle.std.proofs.Common.{map, sym, ◌∙◌, ap, subst}
 use Rattle.std.specs.Prelude.{OnOk}
 use Rattle.std.specs.Option.{is_some}
-use Rattle.g1_text.specs.Reading.{words_in, says_something, image_heading, image_kinds}
+use Rattle.g1_text.specs.Reading.{words_in, says_something}
+use Rattle.g1_text.specs.Forms.{ImageHeading, ImageLine}
 use Rattle.g1_text.specs.Content.{Says}
 use Rattle.g1_text.specs.Drafts.{said, IsTaken}
 use Rattle.g1_text.proofs.reading.read_line.Goals as goal
@@ -19,5 +20,5 @@ returns-clause-nothing c = λ utf8 none.
 pub returns-clause-known : goal.returns-clause-known
 returns-clause-known c = λ some.
     let e = c.new.ensures ∙ ap (map (λ t. t.now)) c.as_slice.ensures.value ∙ c.in_ok-cut_words.ensures ∙ ap words_in c.in-Ok.ensures.cases.0 in
-    subst (λ ws. OnOk c.read_words.result (IsTaken image_heading image_kinds (is_some (said c.args.draft.now)) ws (is_some (said c.read_words.new.draft)))) e
+    subst (λ ws. OnOk c.read_words.result (IsTaken ImageHeading ImageLine (is_some (said c.args.draft.now)) ws (is_some (said c.read_words.new.draft)))) e
     (c.read_words.ensures.known (ap says_something e ∙ some))

@@ -2,11 +2,12 @@ use Rattle.std.proofs.Common.{◌≡◌, length, ap, subst, sym, refl, Some, IsU
 use Rattle.std.specs.Option.{is_some}
 use Rattle.std.proofs.lemmas.List.Elements.{All-nil}
 use Rattle.g1_text.specs.declared.expected.Refusal.TheVariants.{Memory}
-use Rattle.g1_text.specs.Reading.{parts_of, image_heading, image_kinds}
+use Rattle.g1_text.specs.Reading.{parts_of}
+use Rattle.g1_text.specs.Forms.{ImageHeading, ImageLine}
 use Rattle.g1_text.specs.Content.{SaysAll}
 use Rattle.g1_text.specs.Drafts.{said}
 use Rattle.g1_text.proofs.Turns.{ToRead, parts_left, split_off, turned, at_ok, at_err}
-use Rattle.g1_text.proofs.Known.{IsLeft, nothing_read, one_more}
+use Rattle.g1_text.proofs.Formed.{IsLeft, nothing_read, one_more}
 use Rattle.g1_text.proofs.reading.read_lines.Goals as goal
 
 pub returns-in-Err-clause-says : goal.returns-in-Err-clause-says
@@ -22,7 +23,7 @@ returns-in-Err-clause-says c = λ lines after has all.
 pub lines-init : goal.lines-init
 lines-init c = (
   (λ lines after has all. (has.utf8, subst (λ ls. SaysAll (said c.args.draft.now) ls (Some after)) (sym has.same) all)),
-  nothing_read image_heading image_kinds (parts_of c.args.text.now) (is_some (said c.args.draft.now)),
+  nothing_read ImageHeading ImageLine (parts_of c.args.text.now) (is_some (said c.args.draft.now)),
 )
 
 pub lines-preserved : goal.lines-preserved
@@ -36,17 +37,17 @@ lines-preserved c =
     let line = c.first_line.result.0.now in
     let is = split_off (parts_of left) line (length left) behind c.first_line.ensures in
     let read = c.in_default-read_line in
-    let so_far = subst (λ r. IsLeft image_heading image_kinds text before (parts_left r) (is_some old)) c.in-Some.is c.lines.invariant.1 in (
+    let so_far = subst (λ r. IsLeft ImageHeading ImageLine text before (parts_left r) (is_some old)) c.in-Some.is c.lines.invariant.1 in (
       (λ lines after has all.
           let reads = subst (λ r. ToRead (parts_left r) old (Some after)) c.in-Some.is (c.lines.invariant.0 lines after has all) in
           at_ok (λ _. ToRead (parts_left behind) new (Some after)) (λ e. e ≡ Memory) read.is
           (turned (parts_of left) (parts_left behind) line is old after reads (λ e. e ≡ Memory) new c.read_line.result c.read_line.ensures.says c.read_line.ensures.nothing)),
-      one_more image_heading image_kinds text (parts_of left) (parts_left behind) line is before (is_some old) (is_some new) so_far
+      one_more ImageHeading ImageLine text (parts_of left) (parts_left behind) line is before (is_some old) (is_some new) so_far
           read.ensures.utf8 read.ensures.known (λ none. ap is_some (read.ensures.nothing read.ensures.utf8 none)),
     )
 
 pub returns-clause-known : goal.returns-clause-known
 returns-clause-known c =
     let old = is_some (said c.lines.draft) in
-    let left = subst (λ r. IsLeft image_heading image_kinds (parts_of c.args.text.now) (is_some (said c.args.draft.now)) (parts_left r) old) c.in_default.is c.lines.invariant.1 in
+    let left = subst (λ r. IsLeft ImageHeading ImageLine (parts_of c.args.text.now) (is_some (said c.args.draft.now)) (parts_left r) old) c.in_default.is c.lines.invariant.1 in
     (left.utf8 (All-nil IsUtf8), left.taken old refl)

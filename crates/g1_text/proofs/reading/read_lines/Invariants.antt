@@ -1,10 +1,11 @@
 use Rattle.std.proofs.Common.{Some, List, ℕ}
 use Rattle.std.specs.Option.{is_some}
-use Rattle.g1_text.specs.Reading.{image_heading, image_kinds, parts_of, HasLines}
+use Rattle.g1_text.specs.Reading.{parts_of, HasLines}
+use Rattle.g1_text.specs.Forms.{ImageHeading, ImageLine}
 use Rattle.g1_text.specs.Content.{Content, SaysAll}
 use Rattle.g1_text.specs.Drafts.{said}
 use Rattle.g1_text.proofs.Turns.{ToRead, parts_left, size_left}
-use Rattle.g1_text.proofs.Known.{IsLeft}
+use Rattle.g1_text.proofs.Formed.{IsLeft}
 use Rattle.g1_text.proofs.reading.read_lines.Given as goal
 
 abbrev pub decreases-lines : goal.decreases-lines
@@ -13,4 +14,4 @@ decreases-lines l = size_left l.rest
 abbrev pub invariant-lines : goal.invariant-lines
 invariant-lines l =
     ((lines : List (List (List ℕ))) (c : Content) → HasLines l.fn.text lines → SaysAll (said l.fn.draft) lines (Some c) → ToRead (parts_left l.rest) (said l.draft) (Some c))
-    × IsLeft image_heading image_kinds (parts_of l.fn.text) (is_some (said l.fn.draft)) (parts_left l.rest) (is_some (said l.draft))
+    × IsLeft ImageHeading ImageLine (parts_of l.fn.text) (is_some (said l.fn.draft)) (parts_left l.rest) (is_some (said l.draft))

@@ -3,7 +3,8 @@ use Rattle.std.specs.Prelude.{OnOk}
 use Rattle.std.proofs.lemmas.Bool.{false≢true}
 use Rattle.std.proofs.lemmas.Str.Pattern.{starts_char}
 use Rattle.std.specs.Option.{is_some}
-use Rattle.g1_text.specs.Reading.{says_something, image_heading, image_kinds}
+use Rattle.g1_text.specs.Reading.{says_something}
+use Rattle.g1_text.specs.Forms.{ImageHeading, ImageLine}
 use Rattle.g1_text.specs.Content.{Says}
 use Rattle.g1_text.specs.Drafts.{said, IsTaken}
 use Rattle.g1_text.proofs.Comments.{comment, statement}
@@ -41,5 +42,5 @@ returns-then-starts_with-clause-known c = λ some.
 
 pub returns-clause-known : goal.returns-clause-known
 returns-clause-known c = λ some.
-    subst (λ ws. OnOk c.begin_or_add.result (IsTaken image_heading image_kinds (is_some (said c.args.draft.now)) ws (is_some (said c.begin_or_add.new.draft))))
+    subst (λ ws. OnOk c.begin_or_add.result (IsTaken ImageHeading ImageLine (is_some (said c.args.draft.now)) ws (is_some (said c.begin_or_add.new.draft))))
     (sym c.in-Some.ensures) c.begin_or_add.ensures.known

@@ -1,9 +1,10 @@
-use Rattle.std.proofs.Common.{◌≡◌, ℕ, Bool, List, [], ◌∷◌, get_or, sym, ◌∙◌, ap, arith}
+use Rattle.std.proofs.Common.{◌≡◌, inl, inr, ℕ, Bool, List, [], ◌∷◌, get_or, sym, ◌∙◌, ap, subst, arith}
 use Rattle.std.specs.Prelude.{codes}
 use Rattle.g1_words.specs.declared.region.Kind.{Kind}
 use Rattle.g1_text.specs.Content.{Content, Line, Root, Dirty, Numbers, Remembered, Holds, words_of, Takes}
 use Rattle.g1_text.specs.Drafts.{content, Becomes}
-use Rattle.g1_text.proofs.Results.{on_ok}
+use Rattle.std.proofs.lemmas.Result.{on_ok_weaker}
+use Rattle.g1_text.specs.Forms.{RootLine, DirtyLine, CoveredLine, RegionLine, RememberedLine, ObjectLine}
 use Rattle.g1_text.proofs.draft.Draft.add.Goals as goal
 
 -- the third byte of a line's first word, which tells the words apart
@@ -69,46 +70,46 @@ none_of first words root dirty region remembered object (Holds at slots values) 
 
 pub returns-in-root-clause-says : goal.returns-in-root-clause-says
 returns-in-root-clause-says c = λ l after e takes.
-    in_root (content c.args.self.now) c.args.words (λ d. Becomes c.add_root.result (content c.add_root.new.self) d) c.add_root.ensures l after ((λ i. sym c.in-root.is i ∷ c.args.words) ∙ e) takes
+    in_root (content c.args.self.now) c.args.words (λ d. Becomes c.add_root.result (content c.add_root.new.self) d) c.add_root.ensures.full l after ((λ i. sym c.in-root.is i ∷ c.args.words) ∙ e) takes
 
 pub returns-in-dirty-clause-says : goal.returns-in-dirty-clause-says
 returns-in-dirty-clause-says c = λ l after e takes.
-    in_dirty (content c.args.self.now) c.args.words (λ d. Becomes c.add_dirty.result (content c.add_dirty.new.self) d) c.add_dirty.ensures l after ((λ i. sym c.in-dirty.is i ∷ c.args.words) ∙ e) takes
+    in_dirty (content c.args.self.now) c.args.words (λ d. Becomes c.add_dirty.result (content c.add_dirty.new.self) d) c.add_dirty.ensures.full l after ((λ i. sym c.in-dirty.is i ∷ c.args.words) ∙ e) takes
 
 pub returns-in-covered-clause-says : goal.returns-in-covered-clause-says
 returns-in-covered-clause-says c = λ l after e takes. absurd (not_covered c.args.words l ((λ i. sym c.in-covered.is i ∷ c.args.words) ∙ e))
 
 pub returns-in-region-clause-says : goal.returns-in-region-clause-says
 returns-in-region-clause-says c = λ l after e takes.
-    in_region (content c.args.self.now) c.args.words (λ d. Becomes c.add_region.result (content c.add_region.new.self) d) c.add_region.ensures l after ((λ i. sym c.in-region.is i ∷ c.args.words) ∙ e) takes
+    in_region (content c.args.self.now) c.args.words (λ d. Becomes c.add_region.result (content c.add_region.new.self) d) c.add_region.ensures.full l after ((λ i. sym c.in-region.is i ∷ c.args.words) ∙ e) takes
 
 pub returns-in-remembered-clause-says : goal.returns-in-remembered-clause-says
 returns-in-remembered-clause-says c = λ l after e takes.
-    in_remembered (content c.args.self.now) c.args.words (λ d. Becomes c.add_remembered.result (content c.add_remembered.new.self) d) c.add_remembered.ensures l after ((λ i. sym c.in-remembered.is i ∷ c.args.words) ∙ e) takes
+    in_remembered (content c.args.self.now) c.args.words (λ d. Becomes c.add_remembered.result (content c.add_remembered.new.self) d) c.add_remembered.ensures.full l after ((λ i. sym c.in-remembered.is i ∷ c.args.words) ∙ e) takes
 
 pub returns-in-object-clause-says : goal.returns-in-object-clause-says
 returns-in-object-clause-says c = λ l after e takes.
-    in_object (content c.args.self.now) c.args.words (λ d. Becomes c.add_object.result (content c.add_object.new.self) d) c.add_object.ensures l after ((λ i. sym c.in-object.is i ∷ c.args.words) ∙ e) takes
+    in_object (content c.args.self.now) c.args.words (λ d. Becomes c.add_object.result (content c.add_object.new.self) d) c.add_object.ensures.full l after ((λ i. sym c.in-object.is i ∷ c.args.words) ∙ e) takes
 
 pub returns-in_default-clause-says : goal.returns-in_default-clause-says
 returns-in_default-clause-says c = λ l after e takes.
     let other = c.in_default in
     absurd (none_of c.args.first.now c.args.words other.not-root other.not-dirty other.not-region other.not-remembered other.not-object l e)
 
-pub returns-in-root-clause-known : goal.returns-in-root-clause-known
-returns-in-root-clause-known c = on_ok c.add_root.result (0, omega arith, sym c.in-root.is)
+pub returns-in-root-clause-form : goal.returns-in-root-clause-form
+returns-in-root-clause-form c = on_ok_weaker c.add_root.result (λ f. inl (subst (λ word. RootLine (word ∷ c.args.words)) (sym c.in-root.is) f)) c.add_root.ensures.form
 
-pub returns-in-dirty-clause-known : goal.returns-in-dirty-clause-known
-returns-in-dirty-clause-known c = on_ok c.add_dirty.result (1, omega arith, sym c.in-dirty.is)
+pub returns-in-dirty-clause-form : goal.returns-in-dirty-clause-form
+returns-in-dirty-clause-form c = on_ok_weaker c.add_dirty.result (λ f. inr (inl (subst (λ word. DirtyLine (word ∷ c.args.words)) (sym c.in-dirty.is) f))) c.add_dirty.ensures.form
 
-pub returns-in-covered-clause-known : goal.returns-in-covered-clause-known
-returns-in-covered-clause-known c = on_ok c.cover.result (2, omega arith, sym c.in-covered.is)
+pub returns-in-covered-clause-form : goal.returns-in-covered-clause-form
+returns-in-covered-clause-form c = on_ok_weaker c.cover.result (λ f. inr (inr (inl (subst (λ word. CoveredLine (word ∷ c.args.words)) (sym c.in-covered.is) f)))) c.cover.ensures.form
 
-pub returns-in-region-clause-known : goal.returns-in-region-clause-known
-returns-in-region-clause-known c = on_ok c.add_region.result (3, omega arith, sym c.in-region.is)
+pub returns-in-region-clause-form : goal.returns-in-region-clause-form
+returns-in-region-clause-form c = on_ok_weaker c.add_region.result (λ f. inr (inr (inr (inl (subst (λ word. RegionLine (word ∷ c.args.words)) (sym c.in-region.is) f))))) c.add_region.ensures.form
 
-pub returns-in-remembered-clause-known : goal.returns-in-remembered-clause-known
-returns-in-remembered-clause-known c = on_ok c.add_remembered.result (4, omega arith, sym c.in-remembered.is)
+pub returns-in-remembered-clause-form : goal.returns-in-remembered-clause-form
+returns-in-remembered-clause-form c = on_ok_weaker c.add_remembered.result (λ f. inr (inr (inr (inr (inl (subst (λ word. RememberedLine (word ∷ c.args.words)) (sym c.in-remembered.is) f)))))) c.add_remembered.ensures.form
 
-pub returns-in-object-clause-known : goal.returns-in-object-clause-known
-returns-in-object-clause-known c = on_ok c.add_object.result (5, omega arith, sym c.in-object.is)
+pub returns-in-object-clause-form : goal.returns-in-object-clause-form
+returns-in-object-clause-form c = on_ok_weaker c.add_object.result (λ f. inr (inr (inr (inr (inr (subst (λ word. ObjectLine (word ∷ c.args.words)) (sym c.in-object.is) f)))))) c.add_object.ensures.form

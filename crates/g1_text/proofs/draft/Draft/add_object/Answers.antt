@@ -1,68 +1,89 @@
-use Rattle.std.proofs.Common.{◌≡◌, ◌≤◌, ◌<◌, ℕ, ◌*◌, ◌^◌, ◌+◌, [], ◌∷◌, ◌++◌, length, map, drop, append_assoc, sym, ◌∙◌, ap, subst, arith}
+use Rattle.std.proofs.Common.{◌≡◌, ◌≤◌, ◌<◌, ℕ, ◌*◌, ◌^◌, ◌+◌, ◌-◌, [], ◌∷◌, ◌++◌, length, map, drop, append_assoc, sym, ◌∙◌, ap, subst, arith}
 use Rattle.std.specs.Prelude.{decimal, IfSome}
 use Rattle.std.proofs.lemmas.Result.{MatchResult-weaker}
 use Rattle.g1_words.specs.Geometry.{Geometry}
 use Rattle.g1_words.specs.declared.region.Kind.{Kind}
 use Rattle.g1_words.specs.declared.region.Kind.TheVariants.{Ordinary, HumongousFirst, Free, Continuation}
 use Rattle.g1_text.specs.Lines.{reference_word}
-use Rattle.g1_text.specs.Content.{Content, HasRoom, top_behind, beyond_behind, size_with}
+use Rattle.g1_text.specs.Content.{Content, HasSpace, top_behind, beyond_behind, size_with}
 use Rattle.g1_text.specs.Drafts.{content}
 use Rattle.g1_text.proofs.Results.{ok_one, not_both}
+use Rattle.std.specs.Prelude.{codes}
+use Rattle.std.proofs.lemmas.Result.{on_ok_weaker}
+use Rattle.g1_text.specs.Forms.{Number, Maybe, Single, HasSize, Holding, IsReferenceWord, SizeAndWords, ◌▸◌}
+use Rattle.g1_text.proofs.Fronts.{begins_with, then_all, maybe_number, read_one}
 use Rattle.g1_text.proofs.draft.Draft.add_object.Goals as goal
 
 -- an object's address is within its region
-top_within : (k : Kind) (g : Geometry) (r t size : ℕ) → HasRoom k g r t size → t ≤ g.w
+top_within : (k : Kind) (g : Geometry) (r t size : ℕ) → HasSpace k g r t size → t ≤ g.w
 top_within Ordinary g r t size room = omega (arith, room.1)
 top_within HumongousFirst g r t size room = omega (arith, room.0)
 top_within Free g r t size room = absurd room
 top_within Continuation g r t size room = absurd room
 
-pub returns-in_err-size : goal.returns-in_err-size
-returns-in_err-size c = λ at slots values after e takes.
+pub returns-in_err-size-clause-full : goal.returns-in_err-size-clause-full
+returns-in_err-size-clause-full c = λ at slots values after e takes.
     let rest = map reference_word slots ++ map decimal values in
-    let number = c.take_number-told.ensures at ((decimal (size_with slots values) ++ 47 ∷ decimal (length slots)) ∷ rest) takes.8 (ap (drop 1) e) in
+    let number = c.take_number-told.ensures.full at ((decimal (size_with slots values) ++ 47 ∷ decimal (length slots)) ∷ rest) takes.8 (ap (drop 1) e) in
     let read = c.size.ensures.full (size_with slots values) (length slots) rest (omega arith) (omega (arith, takes.10)) number.1 in
     absurd (not_both c.in_err-size.was read.0)
 
-pub returns-in_err-follows : goal.returns-in_err-follows
-returns-in_err-follows c = λ at slots values after e takes.
+pub returns-in_err-follows-clause-full : goal.returns-in_err-follows-clause-full
+returns-in_err-follows-clause-full c = λ at slots values after e takes.
     let q = takes.1 in
     let rest = map reference_word slots ++ map decimal values in
-    let number = c.take_number-told.ensures at ((decimal (size_with slots values) ++ 47 ∷ decimal (length slots)) ∷ rest) takes.8 (ap (drop 1) e) in
+    let number = c.take_number-told.ensures.full at ((decimal (size_with slots values) ++ 47 ∷ decimal (length slots)) ∷ rest) takes.8 (ap (drop 1) e) in
     let next = c.next_address-at.ensures takes.0 q takes.4 takes.6 (top_within q.kind c.args.self.now.geometry (length takes.0) q.top (size_with slots values) takes.9) in
     absurd (c.in_err-follows.ensures (subst (λ told. IfSome told (λ t. t ≡ c.next_address-at.result)) (sym number.0) (takes.7 ∙ sym next)))
 
-pub returns-in_err-take_room : goal.returns-in_err-take_room
-returns-in_err-take_room c = λ at slots values after e takes.
+pub returns-in_err-take_room-clause-full : goal.returns-in_err-take_room-clause-full
+returns-in_err-take_room-clause-full c = λ at slots values after e takes.
     let g = c.args.self.now.geometry in
     let q = takes.1 in
     let rest = map reference_word slots ++ map decimal values in
-    let number = c.take_number-told.ensures at ((decimal (size_with slots values) ++ 47 ∷ decimal (length slots)) ∷ rest) takes.8 (ap (drop 1) e) in
+    let number = c.take_number-told.ensures.full at ((decimal (size_with slots values) ++ 47 ∷ decimal (length slots)) ∷ rest) takes.8 (ap (drop 1) e) in
     let read = c.size.ensures.full (size_with slots values) (length slots) rest (omega arith) (omega (arith, takes.10)) number.1 in
     let pair = ok_one c.in_ok-size.was read.0 in
     let size = ap (λ x. x.0) pair in
-    let room = c.take_room.ensures.room takes.0 q takes.4 takes.6 (subst (λ n. n < 2 ^ 32) (sym size) takes.10) (subst (λ n. HasRoom q.kind g (length takes.0) q.top n) (sym size) takes.9) in
+    let room = c.take_room.ensures.room takes.0 q takes.4 takes.6 (subst (λ n. n < 2 ^ 32) (sym size) takes.10) (subst (λ n. HasSpace q.kind g (length takes.0) q.top n) (sym size) takes.9) in
     absurd (not_both c.in_err-take_room.was room.0)
 
-pub returns : goal.returns
-returns c = λ at slots values after e takes.
+pub returns-clause-full : goal.returns-clause-full
+returns-clause-full c = λ at slots values after e takes.
     let s = content c.args.self.now in
     let g = c.args.self.now.geometry in
     let below = takes.0 in
     let q = takes.1 in
     let rest = map reference_word slots ++ map decimal values in
-    let number = c.take_number-told.ensures at ((decimal (size_with slots values) ++ 47 ∷ decimal (length slots)) ∷ rest) takes.8 (ap (drop 1) e) in
+    let number = c.take_number-told.ensures.full at ((decimal (size_with slots values) ++ 47 ∷ decimal (length slots)) ∷ rest) takes.8 (ap (drop 1) e) in
     let read = c.size.ensures.full (size_with slots values) (length slots) rest (omega arith) (omega (arith, takes.10)) number.1 in
     let pair = ok_one c.in_ok-size.was read.0 in
     let size : c.in_ok-size.size ≡ length slots + length values + 1 = ap (λ x. x.0) pair in
     let refs : c.in_ok-size.slots ≡ length slots = ap (λ x. x.1) pair in
     let others : c.saturating_sub-data.result ≡ length values = omega (arith, c.saturating_sub-data.ensures, c.saturating_sub.ensures, size, refs) in
-    let taken = c.take_room.ensures.room below q takes.4 takes.6 (subst (λ n. n < 2 ^ 32) (sym size) takes.10) (subst (λ n. HasRoom q.kind g (length below) q.top n) (sym size) takes.9) in
+    let taken = c.take_room.ensures.room below q takes.4 takes.6 (subst (λ n. n < 2 ^ 32) (sym size) takes.10) (subst (λ n. HasSpace q.kind g (length below) q.top n) (sym size) takes.9) in
     let room = taken.1
     ∙ ap (λ n. record s { regions = below ++ record q { top = top_behind q.kind g q.top n } ∷ []; beyond = beyond_behind q.kind g s.beyond n }) size in
     let had = ap (λ (x : Content). x.words) room in
     let headed = c.in_ok-push-2.ensures.items ∙ (λ i. had i ++ (c.header_word.ensures ∙ (λ j. size j * 2 ^ 32 + refs j)) i ∷ []) in
     let more = ap (λ xs. xs ++ (slots ++ values)) headed ∙ append_assoc s.words ((size_with slots values * 2 ^ 32 + length slots) ∷ []) (slots ++ values) in
     let counts = c.count_object.ensures takes.2 takes.3 (ap (λ (x : Content). x.counts) room ∙ takes.5) takes.13 in
-    let added = c.add_content.ensures slots values refs others (omega (arith, refs, others, takes.10)) takes.11 takes.12 read.1 in
+    let added = c.add_content.ensures.full slots values refs others (omega (arith, refs, others, takes.10)) takes.11 takes.12 read.1 in
     MatchResult-weaker c.add_content.result added (λ _ e. (λ i. record (room i) { words = (e ∙ more) i; counts = counts i }) ∙ sym takes.14) (λ _ m. m)
+
+pub returns-clause-form : goal.returns-clause-form
+returns-clause-form c =
+    let size = c.in_ok-size.size in
+    let slots = c.in_ok-size.slots in
+    let others : c.saturating_sub-data.result ≡ size - slots - 1 = omega (arith, c.saturating_sub-data.ensures, c.saturating_sub.ensures) in
+    on_ok_weaker c.add_content.result
+    (λ held. begins_with (codes "object") (Maybe Number ▸ SizeAndWords IsReferenceWord) c.args.words
+    (then_all (Maybe Number) (SizeAndWords IsReferenceWord) (maybe_number c.take_number-told.result _ c.take_number-told.ensures.digits) (
+      size,
+      slots,
+      c.in_ok-size.ensures.within,
+      c.in_ok-take_room.ensures.small,
+      then_all (Single (HasSize size slots)) (Holding IsReferenceWord slots (size - slots - 1)) (read_one (HasSize size slots) c.in_ok-size.ensures.form)
+          (subst (λ n. Holding IsReferenceWord slots n c.size.new.words) others held),
+    )))
+    (c.add_content.ensures.form (omega (arith, c.in_ok-size.ensures.within, others, c.in_ok-take_room.ensures.small)))

@@ -1,7 +1,7 @@
 use Rattle.std.proofs.Common.{◌<◌, [], ◌∷◌, ◌++◌, length, length-append, refl, sym, ◌∙◌, ap, subst, arith}
 use Rattle.std.proofs.lemmas.Result.{err_from_is_err_and}
 use Rattle.g1_words.specs.declared.region.Region.{Region}
-use Rattle.g1_text.specs.Content.{HasRoom, top_behind, beyond_behind}
+use Rattle.g1_text.specs.Content.{HasSpace, top_behind, beyond_behind}
 use Rattle.g1_text.specs.Drafts.{content}
 use Rattle.g1_text.proofs.Ends.{one_end}
 use Rattle.g1_text.proofs.Results.{ok_one, not_both}
@@ -21,7 +21,7 @@ returns-in_err-top-clause-room c = λ below q e lt small room.
     let g = c.args.self.now.geometry in
     let size = c.args.size in
     let parts = one_end c.in-Some.below.now below c.in-Some.last.now q (sym c.in-Some.ensures.cases.0 ∙ c.deref.ensures.value ∙ e) in
-    let there = subst (λ (r : Region). HasRoom r.kind g (length c.in-Some.below.now) r.top size) (sym parts.1) (subst (λ b. HasRoom q.kind g (length b) q.top size) (sym parts.0) room) in
+    let there = subst (λ (r : Region). HasSpace r.kind g (length c.in-Some.below.now) r.top size) (sym parts.1) (subst (λ b. HasSpace q.kind g (length b) q.top size) (sym parts.0) room) in
     absurd (not_both c.in_err-top.was (c.room.ensures.room (subst (λ b. length b < g.n) (sym parts.0) lt) small there))
 
 pub returns-clause-small : goal.returns-clause-small
@@ -33,7 +33,7 @@ returns-clause-room c = λ below q e lt small room.
     let g = c.args.self.now.geometry in
     let size = c.args.size in
     let parts = one_end c.in-Some.below.now below c.in-Some.last.now q (sym c.in-Some.ensures.cases.0 ∙ c.deref.ensures.value ∙ e) in
-    let there = subst (λ (r : Region). HasRoom r.kind g (length c.in-Some.below.now) r.top size) (sym parts.1) (subst (λ b. HasRoom q.kind g (length b) q.top size) (sym parts.0) room) in
+    let there = subst (λ (r : Region). HasSpace r.kind g (length c.in-Some.below.now) r.top size) (sym parts.1) (subst (λ b. HasSpace q.kind g (length b) q.top size) (sym parts.0) room) in
     let pair = ok_one c.in_ok-top.was (c.room.ensures.room (subst (λ b. length b < g.n) (sym parts.0) lt) small there) in
     let top = ap (λ x. x.0) pair ∙ ap (λ (r : Region). top_behind r.kind g r.top size) parts.1 in
     let beyond = ap (λ x. x.1) pair ∙ ap (λ (r : Region). beyond_behind r.kind g s.beyond size) parts.1 in

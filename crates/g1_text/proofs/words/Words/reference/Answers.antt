@@ -12,5 +12,8 @@ dashed (suc a) now left rest small p e = absurd (not_dash a (omega (arith, small
 taken : (r : Bool) (now left : List (List ℕ)) → r ≡ true → MatchBool r (now ≡ (45 ∷ []) ∷ left) ((left ≡ now) × ((rest : List (List ℕ)) → now ≢ (45 ∷ []) ∷ rest)) → now ≡ (45 ∷ []) ∷ left
 taken r now left t m = when_true (now ≡ (45 ∷ []) ∷ left) ((left ≡ now) × ((rest : List (List ℕ)) → now ≢ (45 ∷ []) ∷ rest)) t m
 
-pub returns-then-take : goal.returns-then-take
-returns-then-take c = λ x rest small e. dashed x c.args.self.now c.take.new.self rest small (taken c.take.result c.args.self.now c.take.new.self c.if-take.true c.take.ensures) e
+pub returns-then-take-clause-full : goal.returns-then-take-clause-full
+returns-then-take-clause-full c = λ x rest small e. dashed x c.args.self.now c.take.new.self rest small (taken c.take.result c.args.self.now c.take.new.self c.if-take.true c.take.ensures) e
+
+pub returns-then-take-clause-digits : goal.returns-then-take-clause-digits
+returns-then-take-clause-digits c = (45 ∷ [], taken c.take.result c.args.self.now c.take.new.self c.if-take.true c.take.ensures, refl)

@@ -1,12 +1,13 @@
--- Which kinds the lines of a text are of, when they are read one after the other.
+-- Which forms the lines of a text have, when they are read one after the other.
 use Rattle.std.proofs.Common.{◌≡◌, ℕ, Bool, true, false, cond, List, [], ◌∷◌, All, IsUtf8, refl, sym, subst}
 use Rattle.std.proofs.lemmas.Bool.{false≢true}
 use Rattle.std.proofs.lemmas.List.Elements.{All-nil, All-cons, All-same}
-use Rattle.g1_text.specs.Reading.{words_in, says_something, parts_of, lines_in, IsOfKind, AreKnown, HasKnownLines}
+use Rattle.g1_text.specs.Reading.{words_in, says_something, parts_of, lines_in}
+use Rattle.g1_text.specs.Forms.{Form, HaveForms, HasMeaning}
 use Rattle.g1_text.specs.Drafts.{IsTaken, AreTaken}
 use Rattle.g1_text.proofs.Turns.{lines_of}
 
-module _ (heading below : List (List ℕ)) where
+module _ (heading below : Form) where
   -- what these parts begin with was read, and the rest is left: if that is taken, so are all
   pub record IsLeft (parts : List (List ℕ)) (before : Bool) (left : List (List ℕ)) (now : Bool) : Type 0 where
     pub utf8 : All IsUtf8 left → All IsUtf8 parts
@@ -35,14 +36,14 @@ module _ (heading below : List (List ℕ)) where
     pub one_more : IsLeft parts before rest new
     one_more = record { utf8 = more_utf8; taken = λ after. more_taken after (says_something (words_in line)) refl }
 
-  all_taken : (lines : List (List (List ℕ))) → AreTaken heading below true lines true → All (IsOfKind below) lines
-  all_taken [] t = All-nil (IsOfKind below)
-  all_taken (line ∷ lines) t = All-cons (IsOfKind below) line lines t.0 (all_taken lines t.1)
+  all_taken : (lines : List (List (List ℕ))) → AreTaken heading below true lines true → All below lines
+  all_taken [] t = All-nil below
+  all_taken (line ∷ lines) t = All-cons below line lines t.0 (all_taken lines t.1)
 
-  known_lines : (lines : List (List (List ℕ))) → AreTaken heading below false lines true → AreKnown heading below lines
-  known_lines [] t = absurd (false≢true t)
-  known_lines (line ∷ lines) t = (t.0, all_taken lines t.1)
+  formed_lines : (lines : List (List (List ℕ))) → AreTaken heading below false lines true → HaveForms heading below lines
+  formed_lines [] t = absurd (false≢true t)
+  formed_lines (line ∷ lines) t = (t.0, all_taken lines t.1)
 
-  -- a text that is taken from the heading on has known lines
-  pub known_text : (text : List ℕ) → All IsUtf8 (parts_of text) × AreTaken heading below false (lines_in text) true → HasKnownLines heading below text
-  known_text text read = record { utf8 = read.0; known = known_lines (lines_in text) read.1 }
+  -- the lines of a text that is taken from the heading on have a meaning
+  pub meant_text : (text : List ℕ) → All IsUtf8 (parts_of text) × AreTaken heading below false (lines_in text) true → HasMeaning heading below text
+  meant_text text read = record { utf8 = read.0; lines = formed_lines (lines_in text) read.1 }
