@@ -11,7 +11,9 @@ use crate::draft::{Draft, Heading, Placed};
 use crate::expected::{Expected, Refusal, Wrong};
 use crate::packing::{check_bytes, pack};
 use crate::placing::{Entry, choose_sizes, place, regions_needed};
-use crate::reading::{HeapSizes, add_data, add_zeros, first_line, given_words, sizes, within_limits};
+use crate::reading::{
+    HeapSizes, add_data, add_zeros, first_line, given_words, sizes, within_limits,
+};
 use crate::words::{Words, cut_words, size_and_slots};
 use g1_words::{Fault, Geometry, MOST_ROOTS, header_word};
 use std::alloc::{AllocError, Global};
@@ -51,12 +53,12 @@ pub fn is_graph(text: &[u8]) -> bool
     false
 }
 
-/// HasFront lines of objects by name, and finds a place for each object.
+/// Reads lines of objects by name, and finds a place for each object.
 ///
 /// # Errors
 ///
-/// The number of a line that is not what is expected there, and what is expected. The names and the sizes of all lines
-/// are read first, then the words of the roots, and those of the objects by address. `Fault::Memory` else.
+/// The number of the first line that is not what is expected there, and what is expected; the heading's, if the objects
+/// do not fit into a heap. `Fault::Memory` else.
 pub fn read_graph<'a>(alloc: Global, text: &'a [u8]) -> Result<Graph<'a>, Wrong>
     ensures fault { IfErr result IsLineOrMemory }
     ensures known { OnOk result (HasMeaning GraphHeading GraphLine text.now) }
@@ -97,7 +99,7 @@ fn fill<'a>(alloc: Global, draft: &mut Draft, lines: &Lines<'a>) -> Result<Graph
 ///
 /// # Errors
 ///
-/// As of `read_graph`. A name that no object has is not expected.
+/// As of `read_graph`, and then the number of the first line with a name that no object has.
 pub fn make_graph(alloc: Global, text: &[u8]) -> Result<Vec<u8>, Wrong>
     ensures image { IfOk result (λ v. IsImageText v.items) }
     ensures fault { IfErr result IsLineOrMemory }
@@ -221,12 +223,7 @@ impl<'a> Lines<'a> {
     }
 
     // object NAME SIZE/SLOTS NAME .. WORD .. [..]
-    fn add_object(
-        &mut self,
-        number: u64,
-        line: &'a str,
-        words: &[&'a str],
-    ) -> Result<(), Refusal>
+    fn add_object(&mut self, number: u64, line: &'a str, words: &[&'a str]) -> Result<(), Refusal>
         ensures form { OnOk result (NamedObjectLine (codes "object" ∷ map (λ t. t.now) words.now)) }
         ensures heading { OnOk result (self.new.heading ≡ self.old.heading) }
     {

@@ -19,7 +19,7 @@ use memchr::memchr;
 use std::alloc::{AllocError, Global};
 use std::str;
 
-/// HasFront lines one after the other.
+/// Reads lines one after the other.
 pub(crate) fn read(alloc: Global, text: &[u8]) -> Result<Draft, Wrong>
     ensures fault { IfErr result IsLineOrMemory }
     ensures says { (lines : List (List (List ℕ))) (c : Content) → HasLines text.now lines → SaysAll None lines (Some c) → IsClosed c → MatchResult result (λ d. content d ≡ c) (λ e. e ≡ Wrong.Fault Fault.Memory) }
@@ -34,7 +34,7 @@ pub(crate) fn read(alloc: Global, text: &[u8]) -> Result<Draft, Wrong>
     Ok(draft)
 }
 
-// HasFront each line, and returns how many parts the text has: there is one behind the last LF.
+// Reads each line, and returns how many parts the text has: there is one behind the last LF.
 fn read_lines(alloc: Global, draft: &mut Option<Draft>, text: &[u8]) -> Result<u64, Wrong>
     ensures fault { IfErr result IsLineOrMemory }
     ensures says { (lines : List (List (List ℕ))) (c : Content) → HasLines text.now lines → SaysAll (said draft.old) lines (Some c) → MatchResult result (λ _. said draft.new ≡ Some c) (λ e. e ≡ Wrong.Fault Fault.Memory) }
@@ -77,7 +77,7 @@ fn last_line(text: &[u8], parts: u64) -> u64 {
     }
 }
 
-// HasFront the words of a line. All lines share one list of words, so few of them ask for memory.
+// Reads the words of a line. All lines share one list of words, so few of them ask for memory.
 fn read_line<'a>(
     alloc: Global,
     draft: &mut Option<Draft>,
@@ -217,7 +217,7 @@ pub(crate) fn follows(told: Option<u64>, what: &'static str, number: u64) -> Res
 }
 
 impl Draft {
-    // HasFront the words behind the first word of a line.
+    // Reads the words behind the first word of a line.
     fn add(&mut self, first: &str, words: Words<'_>, line: u64) -> Result<(), Refusal>
         ensures says { (l : Line) (c : Content) → first.now ∷ words.entry ≡ words_of l → Takes (content self.old) l c → Becomes result (content self.new) c }
         ensures form { OnOk result (ImageLine (first.now ∷ words.entry)) }

@@ -53,7 +53,7 @@ impl<'a> Words<'a> {
         self.to - self.from
     }
 
-    /// HasFront the next word.
+    /// Reads the next word.
     pub(crate) fn next(&mut self) -> Option<&'a str>
         ensures { MatchOption result ((self.old ≡ []) × (self.new ≡ [])) (λ t. self.old ≡ t.now ∷ self.new) }
     {
@@ -65,7 +65,7 @@ impl<'a> Words<'a> {
         Some(word)
     }
 
-    /// HasFront the next word if it is this one, and returns whether it was.
+    /// Reads the next word if it is this one, and returns whether it was.
     pub(crate) fn take(&mut self, word: &str) -> bool
         ensures { MatchBool result (self.old ≡ word.now ∷ self.new) ((self.new ≡ self.old) × ((rest : List (List ℕ)) → self.old ≢ word.now ∷ rest)) }
     {
@@ -79,7 +79,7 @@ impl<'a> Words<'a> {
         found
     }
 
-    /// HasFront the last word if it is this one, and returns whether it was.
+    /// Reads the last word if it is this one, and returns whether it was.
     pub(crate) fn take_last(&mut self, word: &str) -> bool
         ensures { MatchBool result (self.old ≡ self.new ++ word.now ∷ []) ((self.new ≡ self.old) × ((front : List (List ℕ)) → self.old ≢ front ++ word.now ∷ [])) }
     {
@@ -93,7 +93,7 @@ impl<'a> Words<'a> {
         found
     }
 
-    /// HasFront the next word, which has to be this one.
+    /// Reads the next word, which has to be this one.
     pub(crate) fn word(&mut self, word: &'static str) -> Result<(), Expected>
         ensures { MatchResult result (λ _. self.old ≡ word.now ∷ self.new) (λ _. (rest : List (List ℕ)) → self.old ≢ word.now ∷ rest) }
     {
@@ -104,7 +104,7 @@ impl<'a> Words<'a> {
         }
     }
 
-    /// HasFront the next word if it is a number.
+    /// Reads the next word if it is a number.
     pub(crate) fn take_number(&mut self) -> Option<u64>
         ensures digits { MatchOption result ((self.new ≡ self.old) × HasNoFirst (IsBelow (2 ^ 64)) self.old) (λ n. HasFirst (Spells (2 ^ 64) n) self.old self.new) }
         ensures full { (n : ℕ) (rest : List (List ℕ)) → n < 2 ^ 64 → self.old ≡ decimal n ∷ rest → (result ≡ Some n) × (self.new ≡ rest) }
@@ -117,7 +117,7 @@ impl<'a> Words<'a> {
         Some(number)
     }
 
-    /// HasFront a number of this.
+    /// Reads a number of this.
     pub(crate) fn number(&mut self, what: &'static str) -> Result<u64, Expected>
         ensures digits { MatchResult result (λ n. HasFirst (Spells (2 ^ 64) n) self.old self.new) (λ _. HasNoFirst (IsBelow (2 ^ 64)) self.old) }
         ensures full { (n : ℕ) (rest : List (List ℕ)) → n < 2 ^ 64 → self.old ≡ decimal n ∷ rest → (result ≡ Ok n) × (self.new ≡ rest) }
@@ -125,7 +125,7 @@ impl<'a> Words<'a> {
         self.take_number().ok_or(Expected::Number(what))
     }
 
-    /// HasFront the number of a region or of a card.
+    /// Reads the number of a region or of a card.
     pub(crate) fn short_number(&mut self, what: &'static str) -> Result<u32, Expected>
         ensures digits { MatchResult result (λ n. HasFirst (Spells (2 ^ 32) n) self.old self.new) (λ _. HasNoFirst (IsBelow (2 ^ 32)) self.old) }
         ensures full { (n : ℕ) (rest : List (List ℕ)) → n < 2 ^ 32 → self.old ≡ decimal n ∷ rest → (result ≡ Ok n) × (self.new ≡ rest) }
@@ -139,7 +139,7 @@ impl<'a> Words<'a> {
         }
     }
 
-    /// HasFront a word and the number behind it, if this word is the next.
+    /// Reads a word and the number behind it, if this word is the next.
     pub(crate) fn take_named(&mut self, word: &'static str) -> Result<Option<u64>, Expected>
         ensures digits { IfOk result (λ r. MatchOption r (self.new ≡ self.old) (λ n. HasFront (Word word.now ▸ Single (Spells (2 ^ 64) n)) self.old self.new)) }
         ensures form { OnOk result (HasFront (Labelled word.now) self.old self.new) }
@@ -154,7 +154,7 @@ impl<'a> Words<'a> {
         }
     }
 
-    /// HasFront a dash or the address of an object, as a reference word.
+    /// Reads a dash or the address of an object, as a reference word.
     pub(crate) fn reference(&mut self) -> Result<u64, Expected>
         ensures digits { MatchResult result (λ x. HasFirst (Denotes x) self.old self.new) (λ _. HasNoFirst IsReferenceWord self.old) }
         ensures full { (x : ℕ) (rest : List (List ℕ)) → x < 2 ^ 64 → self.old ≡ reference_word x ∷ rest → (result ≡ Ok x) × (self.new ≡ rest) }

@@ -37,16 +37,16 @@ returns-in_err-card-clause-full c = λ xs fit e.
 pub loop-preserved : goal.loop-preserved
 loop-preserved c = (
   (λ xs fit first.
-    let i = c.loop.counter in
-    let kept = c.loop.invariant.0 xs fit first in
-    let read = card xs fit i c.len-end.result c.word.new.self c.loop.words first c.len-end.ensures c.loop-test.true kept.0 in
-    let lt = within xs fit i c.len-end.result c.word.new.self c.loop.words first c.len-end.ensures c.loop-test.true in
-    let short = c.short_number.ensures.full (get_or xs i 0) (map decimal (drop (i + 1) xs)) (fit i 0 lt) read in
-    let same = ok_one c.in_ok-card.was short.0 in (
-      short.1,
-      c.in_ok-push.ensures.items ∙ ap (λ ys. ys ++ c.in_ok-card.card ∷ []) kept.1 ∙ append_assoc c.args.cards.now.items (take i xs) (c.in_ok-card.card ∷ [])
-          ∙ ap (λ ys. c.args.cards.now.items ++ ys) (ap (λ x. take i xs ++ x ∷ []) same ∙ sym (take_more xs i 0 lt)),
-    )),
+      let i = c.loop.counter in
+      let kept = c.loop.invariant.0 xs fit first in
+      let read = card xs fit i c.len-end.result c.word.new.self c.loop.words first c.len-end.ensures c.loop-test.true kept.0 in
+      let lt = within xs fit i c.len-end.result c.word.new.self c.loop.words first c.len-end.ensures c.loop-test.true in
+      let short = c.short_number.ensures.full (get_or xs i 0) (map decimal (drop (i + 1) xs)) (fit i 0 lt) read in
+      let same = ok_one c.in_ok-card.was short.0 in (
+        short.1,
+        c.in_ok-push.ensures.items ∙ ap (λ ys. ys ++ c.in_ok-card.card ∷ []) kept.1 ∙ append_assoc c.args.cards.now.items (take i xs) (c.in_ok-card.card ∷ [])
+            ∙ ap (λ ys. c.args.cards.now.items ++ ys) (ap (λ x. take i xs ++ x ∷ []) same ∙ sym (take_more xs i 0 lt)),
+      )),
   one_more_read (IsBelow (2 ^ 32)) c.loop.counter c.loop.invariant.1 (c.in_ok-card.ensures.digits.0, c.in_ok-card.ensures.digits.1, (c.in_ok-card.card, c.in_ok-card.ensures.digits.2)),
   omega (arith, c.loop-test.true, c.len-end.ensures),
 )

@@ -17,15 +17,15 @@ returns-in_err-reference-clause-full c = λ xs rest count fit e.
 pub loop-preserved : goal.loop-preserved
 loop-preserved c = (
   (λ xs rest count fit e.
-    let i = c.loop.counter in
-    let kept = c.loop.invariant.0 xs rest count fit e in
-    let lt : i < length xs = omega (arith, count, c.loop-test.true) in
-    let read = c.reference.ensures.full (get_or xs i 0) (map reference_word (drop (i + 1) xs) ++ rest) (fit i 0 lt) (kept.0 ∙ next_word reference_word xs rest i lt) in
-    let same = ok_one c.in_ok-reference.was read.0 in (
-      read.1,
-      c.in_ok-push.ensures.items ∙ ap (λ ys. ys ++ c.in_ok-reference.reference ∷ []) kept.1 ∙ append_assoc c.args.content.now.items (take i xs) (c.in_ok-reference.reference ∷ [])
-          ∙ ap (λ ys. c.args.content.now.items ++ ys) (ap (λ x. take i xs ++ x ∷ []) same ∙ sym (take_more xs i 0 lt)),
-    )),
+      let i = c.loop.counter in
+      let kept = c.loop.invariant.0 xs rest count fit e in
+      let lt : i < length xs = omega (arith, count, c.loop-test.true) in
+      let read = c.reference.ensures.full (get_or xs i 0) (map reference_word (drop (i + 1) xs) ++ rest) (fit i 0 lt) (kept.0 ∙ next_word reference_word xs rest i lt) in
+      let same = ok_one c.in_ok-reference.was read.0 in (
+        read.1,
+        c.in_ok-push.ensures.items ∙ ap (λ ys. ys ++ c.in_ok-reference.reference ∷ []) kept.1 ∙ append_assoc c.args.content.now.items (take i xs) (c.in_ok-reference.reference ∷ [])
+            ∙ ap (λ ys. c.args.content.now.items ++ ys) (ap (λ x. take i xs ++ x ∷ []) same ∙ sym (take_more xs i 0 lt)),
+      )),
   one_more_read IsReferenceWord c.loop.counter c.loop.invariant.1 (c.in_ok-reference.ensures.digits.0, c.in_ok-reference.ensures.digits.1, (c.in_ok-reference.reference, c.in_ok-reference.ensures.digits.2)),
   omega (arith, c.loop-test.true),
 )

@@ -78,7 +78,12 @@ returns-clause-form c =
     let others : c.saturating_sub-data.result ≡ size - slots - 1 = omega (arith, c.saturating_sub-data.ensures, c.saturating_sub.ensures) in
     on_ok_weaker c.add_content.result
     (λ held. begins_with (codes "object") (Maybe Number ▸ SizeAndWords IsReferenceWord) c.args.words
-    (then_all (Maybe Number) (SizeAndWords IsReferenceWord) (maybe_number c.take_number-told.result _ c.take_number-told.ensures.digits)
-    (size, slots, c.in_ok-size.ensures.within, c.in_ok-take_room.ensures.small, then_all (Single (HasSize size slots)) (Holding IsReferenceWord slots (size - slots - 1)) (read_one (HasSize size slots) c.in_ok-size.ensures.form)
-    (subst (λ n. Holding IsReferenceWord slots n c.size.new.words) others held))))
+    (then_all (Maybe Number) (SizeAndWords IsReferenceWord) (maybe_number c.take_number-told.result _ c.take_number-told.ensures.digits) (
+      size,
+      slots,
+      c.in_ok-size.ensures.within,
+      c.in_ok-take_room.ensures.small,
+      then_all (Single (HasSize size slots)) (Holding IsReferenceWord slots (size - slots - 1)) (read_one (HasSize size slots) c.in_ok-size.ensures.form)
+          (subst (λ n. Holding IsReferenceWord slots n c.size.new.words) others held),
+    )))
     (c.add_content.ensures.form (omega (arith, c.in_ok-size.ensures.within, others, c.in_ok-take_room.ensures.small)))

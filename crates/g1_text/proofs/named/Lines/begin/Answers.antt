@@ -7,4 +7,4 @@ use Rattle.g1_text.proofs.named.Lines.begin.Goals as goal
 pub returns-clause-form : goal.returns-clause-form
 returns-clause-form c =
     let told = map (λ (t : Bor (List ℕ)). t.now) c.args.told.now in
-    subst (λ word. GraphHeading (word ∷ told)) (sym (same_word c.args.first.now (codes "graph") c.if-ne.ensures)) (begins_with (codes "graph") (Maybe Sizes) told c.in_ok-all_sizes.ensures)
+    subst (λ word. GraphHeading (word ∷ told)) (sym (same_word c.args.first.now (codes "graph") c.if-ne.ensures)) (begins_with (codes "graph") (Maybe Sizes) told c.in_ok-self.ensures)
