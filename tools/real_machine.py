@@ -310,8 +310,9 @@ class HeapFiles(Judge):
         done = subprocess.run([self.heap, *map(str, words)], input=data, stderr=subprocess.PIPE, timeout=120, preexec_fn=before, **streams)
         return done.stdout or b"", done.stderr, done.returncode
 
-    def told(self, file, what):
-        return b"", f"g1heap: {file}: {what}\n".encode(), 7 if "can't" in what else 6
+    def device(self, file, which):
+        """The answer if a read or a write of this file failed."""
+        return b"", f"g1heap: {file}: fault 14: {which}\n".encode(), 6
 
     def judge_files(self, name, good, names):
         """Also these files are beside the image, and no others. They are taken away."""
@@ -328,7 +329,7 @@ class HeapFiles(Judge):
                 self.judge(f"g1heap {words[0]}, full standard output: {answer}", answer == (b"", b"g1heap: fault 14: output\n", 6))
         for command in ("print", "make", "explain", "trace"):
             answer = self.run([command, self.folder])
-            self.judge(f"g1heap {command} of a folder: {answer}", answer == self.told(self.folder, "fault 14: input"))
+            self.judge(f"g1heap {command} of a folder: {answer}", answer == self.device(self.folder, "input"))
 
     def files(self):
         limit = 100
@@ -340,7 +341,7 @@ class HeapFiles(Judge):
         self.answer.write_bytes(b"as it was")
         answer = self.run(["print", "-o", self.answer], ONE_OBJECT, before=before)
         kept = self.answer.read_bytes() == b"as it was"
-        self.judge_files(f"a file-size limit, -o: {answer}", answer == self.told(self.answer, "fault 14: output") and kept, ["answer"])
+        self.judge_files(f"a file-size limit, -o: {answer}", answer == self.device(self.answer, "output") and kept, ["answer"])
         self.answer.write_bytes(b"as it was")
         (self.folder / "answer.part1").write_bytes(b"somebody's")
         good = self.run(["print", "-o", self.answer], ONE_OBJECT) == (b"", b"", 0) and self.answer.read_bytes() == self.lines

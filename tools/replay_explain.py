@@ -277,6 +277,12 @@ def check_facts(image, facts, truth, refused):
     demand_same("current none", bool(rows("current")), image.current is not None)
 
 
+def has_twice(words):
+    """Whether a set has a region twice: g1heap refuses it with the words, and g1pause with the image."""
+    regions = words[words.index("--set") + 1].split(",") if "--set" in words else []
+    return len(set(regions)) < len(regions)
+
+
 class Tries:
     """The tries so far."""
 
@@ -296,6 +302,10 @@ class Tries:
 
     def explanation(self, data, words, pause_words):
         done = self.run(self.options.g1heap, ["explain", "-", *words], data)
+        if has_twice(words):
+            demand_same("status", done.returncode, 2)
+            demand(b"a region is given twice" in done.stderr and not done.stdout, done.stderr.decode())
+            return
         pause = self.run(self.options.g1pause, ["pause", *pause_words], data)
         demand_same("status", done.returncode, pause.returncode)
         demand(not done.stderr, done.stderr.decode())

@@ -143,6 +143,9 @@ def of_loss(loss):
     return [1] + answer(kind=kind, first=three[0], second=three[1], third=three[2])
 
 
+MOST_REGIONS = 4096  # of an image
+
+
 def by_rule(before, after, chosen):
     """What g1_kept has to say of two images and a set, from losses.py."""
     taken = set()
@@ -157,6 +160,9 @@ def by_rule(before, after, chosen):
 def agrees(heap, before, after, chosen, wanted):
     """Whether `g1heap same --set` says so, too. It compares graphs first, and only then looks at the set."""
     ran = subprocess.run([heap, "same", before, after, "--set", *map(str, chosen)], capture_output=True, text=True)
+    if len(set(chosen)) < len(chosen) or any(region >= MOST_REGIONS for region in chosen):
+        # The program refuses these regions with its words, whatever the images are.
+        return ran.returncode == 2 and not ran.stdout and "for '--set <REGION>...': " in ran.stderr and wanted[0] > 1
     fault, loss = fault_of(ran, before), losses.of_line(ran.stdout.rstrip("\n"))
     if fault or loss:
         return (fault or of_loss(loss)) == wanted
