@@ -10,7 +10,8 @@ read its numbers.
 
   --html     a page with the picture, its numbers and its legend
   --objects  words, objects and references instead of regions, for at most 64 regions of 64 words
-  --steps    a page that steps through the pause of IMAGE, for heaps of the same sizes
+  --steps    a page that steps through the pause of IMAGE. Of a heap that is larger it shows the regions that the pause
+             collects and those that it fills, if they are at most 64 with at most 16384 words
 
 All numbers come from g1pause: show, live and choose; with --objects and --steps from g1heap: print and explain. The
 same images give the same bytes. The colours follow what the reader's screen asks for, light or dark.
@@ -174,7 +175,6 @@ def explained(program, image, options):
 
 def stepping_page(options):
     printed = answer(options.g1heap, ["print"], options.image)
-    stepping.check_size(printed[0])
     check_set(int(printed[0].split()[3]), options.set or [])
     title = options.title or f"A pause of {pathlib.Path(options.image).name}"
     return stepping.page(printed, explained(options.g1heap, options.image, options), title)
@@ -338,25 +338,55 @@ def style():
     return f'<style>{"".join(light)}@media(prefers-color-scheme:dark){{{"".join(dark)}}}</style>'
 
 
+def largest_set(heaps):
+    """The cards of the largest remembered set, which fill a bar."""
+    return max(1, max(region.cards for heap in heaps for region in heap.regions))
+
+
+def titled(heaps, chosen, costs):
+    """Each heap with its title, the frames of its regions, and what a budget says of them."""
+    yield heaps[0], "before" if len(heaps) > 1 else "heap", {number: "set" for number in chosen}, costs
+    for heap in heaps[1:]:
+        yield heap, "after", changed(heaps[0], heap), {}
+
+
+def seen_in(shapes):
+    """What of the legend is in the picture."""
+    return set(shapes.paths) | {name for name in (*FRAMES, "pin") if any(f'"{name}"' in line for line in shapes.others)}
+
+
+def svg(shapes, width, height, label="regions of a heap"):
+    head = (f'<svg xmlns="http://www.w3.org/2000/svg" width="{width}" height="{height}" '
+            f'viewBox="0 0 {width} {height}" role="img" aria-label="{label}">')
+    ground = f'<rect class="page" width="{width}" height="{height}"/>'
+    return "\n".join([head, style(), ground, *shapes.lines(), "</svg>", ""])
+
+
 def picture(heaps, chosen, costs):
     """The text of the drawing."""
-    shapes = Shapes()
-    most_cards = max(1, max(region.cards for heap in heaps for region in heap.regions))
+    shapes, most_cards = Shapes(), largest_set(heaps)
     left, height = MARGIN, 0
-    for heap, title in zip(heaps, ("before", "after") if len(heaps) > 1 else ("heap",)):
-        first = heap is heaps[0]
-        frames = {number: "set" for number in chosen} if first else changed(heaps[0], heap)
-        draw_heap(shapes, heap, title, left, frames, costs if first else {}, most_cards)
+    for heap, title, frames, prices in titled(heaps, chosen, costs):
+        draw_heap(shapes, heap, title, left, frames, prices, most_cards)
         grid = Grid(len(heap.regions))
         left += grid.width + BETWEEN
         height = max(height, grid.height)
-    seen = set(shapes.paths) | {name for name in (*FRAMES, "pin") if any(f'"{name}"' in line for line in shapes.others)}
     width, top = left - BETWEEN + MARGIN, MARGIN + height + 16
-    height = top + draw_legend(shapes, MARGIN + LABEL, top, width - 2 * MARGIN - LABEL, most_cards, seen) + MARGIN
-    head = (f'<svg xmlns="http://www.w3.org/2000/svg" width="{width}" height="{height}" '
-            f'viewBox="0 0 {width} {height}" role="img" aria-label="regions of a heap">')
-    ground = f'<rect class="page" width="{width}" height="{height}"/>'
-    return "\n".join([head, style(), ground, *shapes.lines(), "</svg>", ""])
+    height = top + draw_legend(shapes, MARGIN + LABEL, top, width - 2 * MARGIN - LABEL, most_cards, seen_in(shapes)) + MARGIN
+    return svg(shapes, width, height)
+
+
+def pictures(heaps, chosen, costs):
+    """The same in parts, which a narrow screen shows one below the other: each heap, and the legend."""
+    seen, most_cards, parts = set(), largest_set(heaps), []
+    for heap, title, frames, prices in titled(heaps, chosen, costs):
+        shapes, grid = Shapes(), Grid(len(heap.regions))
+        draw_heap(shapes, heap, title, 0, frames, prices, most_cards)
+        seen |= seen_in(shapes)
+        parts.append(svg(shapes, grid.width + MARGIN, MARGIN + grid.height + MARGIN, f"regions of the heap: {title}"))
+    shapes, width = Shapes(), LEAST_WIDTH + 2 * MARGIN
+    height = draw_legend(shapes, MARGIN, MARGIN, width - 2 * MARGIN, most_cards, seen) + MARGIN
+    return "".join([*parts, svg(shapes, width, height, "legend")])
 
 
 # The page.
@@ -369,7 +399,10 @@ PAGE = """<!DOCTYPE html>
 <title>{title}</title>
 <style>
 body {{ font-family: sans-serif; margin: 1.5em; color: #1f2328; background: #ffffff }}
+.heaps {{ display: flex; flex-wrap: wrap; align-items: flex-start; gap: 0 1em }}
 svg {{ max-width: 100%; height: auto }}
+table {{ max-width: 100% }}
+@media (max-width: 600px) {{ body {{ margin: 0.7em }} }}
 td, th {{ padding: 0.2em 1em 0.2em 0; text-align: right }}
 td:first-child {{ text-align: left }}
 @media (prefers-color-scheme: dark) {{ body {{ color: #e6edf3; background: #0d1117 }} }}
@@ -377,7 +410,8 @@ td:first-child {{ text-align: left }}
 </head>
 <body>
 <h1>{title}</h1>
-{svg}
+<div class="heaps">
+{svg}</div>
 <table>
 <tr><th></th>{heads}</tr>
 {rows}
@@ -407,13 +441,27 @@ def page(heaps, chosen, costs, title):
     heads = "".join(f"<th>{head}</th>" for head in (("before", "after") if len(heaps) > 1 else ("heap",)))
     numbers = ", ".join(str(number) for number in sorted(chosen))
     sentence = f"Collection set: {numbers}." if chosen else "No collection set is drawn."
-    return PAGE.format(title=html.escape(title), svg=picture(heaps, chosen, costs), heads=heads, rows=rows, chosen=sentence)
+    return PAGE.format(title=html.escape(title), svg=pictures(heaps, chosen, costs), heads=heads, rows=rows, chosen=sentence)
+
+
+def listed(numbers):
+    return ", ".join(map(str, sorted(numbers))) or "none"
+
+
+def note_set(before, after, chosen):
+    """Says so if a set is drawn beside a heap after in which other ordinary regions were freed."""
+    freed = {number for number, name in changed(before, after).items() if name == "freed" and before.regions[number].kind == "ordinary"}
+    if chosen and freed != set(chosen):
+        print(f"picture: the set that is drawn is {listed(chosen)}, and the ordinary regions that were freed are {listed(freed)}",
+              file=sys.stderr)
 
 
 def regions_picture(options, images):
     heaps = [Heap(options.program, image) for image in images]
     chosen, costs = choice(options.program, options.image, options)
     check_set(len(heaps[0].regions), chosen)
+    for heap in heaps[1:]:
+        note_set(heaps[0], heap, chosen)
     title = options.title or ("A heap before and after a pause" if options.after else "A heap")
     return page(heaps, chosen, costs, title) if options.html else picture(heaps, chosen, costs)
 
@@ -441,7 +489,7 @@ def options_of(words):
         parser.add_argument(f"--{name}", metavar="N", help="handed to g1pause choose, or to g1heap explain")
     parser.add_argument("--program", metavar="FILE", default=programs.find("g1pause"), help="g1pause (default: out/g1pause)")
     parser.add_argument("--g1heap", metavar="FILE", default=programs.find("g1heap"), help="g1heap (default: out/g1heap)")
-    options = parser.parse_args(words)
+    options = parser.parse_intermixed_args(words)
     if options.set is not None and options.budget is not None:
         parser.error("--set and --budget exclude each other")
     if options.steps and options.after:

@@ -26,6 +26,7 @@ import heap_image  # noqa: E402
 import hprof2image  # noqa: E402
 import image_text  # noqa: E402
 import opponent  # noqa: E402
+import stepping  # noqa: E402
 
 OBJECT, A, ARRAY = 0x10, 0x20, 0x30  # classes
 INT, BYTE, LONG, REFERENCE = 10, 8, 11, 2
@@ -373,10 +374,37 @@ class Pictures(unittest.TestCase):
         self.assertEqual((done.returncode, done.stdout), (2, ""))
         self.assertEqual(done.stderr, "picture: /dev/null: region 4 is not there: the heap has 4\n")
 
-    def test_a_large_heap_has_no_steps(self):
+    def test_a_large_heap_of_which_no_region_is_collected_has_no_steps(self):
         done = self.run_picture("--steps", "--g1heap", "{program}", says=LARGE)
         self.assertEqual(done.returncode, 2)
-        self.assertIn("65 regions of 16 words: the stepping page shows heaps of at most 64 regions of 64 words", done.stderr)
+        self.assertIn("65 regions of 16 words: of a heap of more than 64 regions of 64 words the stepping page shows what a pause collects "
+                      "and fills, and this pause collects no region: choose some by --set", done.stderr)
+
+    def test_the_window_of_a_large_heap_is_what_a_pause_collects_and_fills(self):
+        printed = ["heap 128 64 100 roots 3 dirty 1 current none", "root 0 256", "root 1 -", "root 2 512", "dirty cards 9",
+                   "region 2 ordinary top 4 objects 1 cards 1", "remembered 2 cards 9", "object 256 4/1 512 7 8",
+                   "region 4 ordinary top 2 objects 1 cards 0", "object 512 2/0 3", "region 7 free top 0 objects 0 cards 0"]
+        explained = ["heap 128 64 100 roots 3 dirty 1 current none", "covered", "dirty 9 adds 2", "dirty 8 adds 4", "dirty 7 adds -", "set 2",
+                     "card 9 slots 600", "card 8 slots -", "survivor 256 4/1 by root 0", "room need 1 free 95", "place 256 at 896",
+                     "root 0 from 256 to 896", "slot 600 from 256 to 896", "slot 897 from 1 to 2", "remembered 2 loses 9",
+                     "remembered 4 gains 14", "region 2 free top 0", "region 7 ordinary top 4", "log empty"]
+        window = stepping.Window(printed[0], explained)
+        self.assertEqual(window.regions, {2, 7})
+        self.assertEqual(list(window.heap(printed)), [*printed[:2], *printed[4:8], printed[10]])
+        left_out = {"dirty 8 adds 4", "dirty 7 adds -", "card 8 slots -", "slot 600 from 256 to 896", "remembered 4 gains 14"}
+        self.assertEqual(list(window.pause(explained)), [line for line in explained if line not in left_out])
+
+    def test_a_window_that_is_too_large_is_refused(self):
+        many = ["heap 1024 64 100 roots 0 dirty 0 current none", "set " + " ".join(map(str, range(17)))]
+        with self.assertRaisesRegex(stepping.TooLarge, "the pause collects and fills 17 of them, and the stepping page shows at most 16"):
+            stepping.page([many[0]], many, "title")
+        lines = [*many[:1], "set 3", *["place 3072 at 4096"] * 20000]
+        with self.assertRaisesRegex(stepping.TooLarge, "the pause has 20002 lines on these regions"):
+            stepping.page([many[0]], lines, "title")
+
+    def test_a_set_that_is_not_what_was_freed_is_noted(self):
+        done = self.run_picture("--set", "0,2", "{room}/after", says=AFTER, check=True)
+        self.assertRegex(done.stderr, r"^picture: the set that is drawn is 0, 2, and the ordinary regions that were freed are [a-z0-9, ]+\n$")
 
     def test_the_steps_are_the_lines_of_explain(self):
         text = self.run_picture("--steps", "--g1heap", "{program}", says=STEPS).stdout

@@ -4,7 +4,11 @@
 tools/picture.py --steps makes a page of each example below. In headless Chromium, at a screen's and at a phone's width, in
 light and dark, the keyboard alone goes forward through all steps and back. At each step the page has to show the line of
 `g1heap explain` that belongs there, and at the end its heap has to be that of the image that `g1pause pause` writes, by
-the lines of `g1heap print`. Nothing may be wider than the screen. The buttons, the slider and the list go to their steps.
+the lines of `g1heap print`. What a step looks at has to be on the screen. Nothing may be wider than the screen, no two
+texts may run into each other, and none may leave its cell. The buttons, the slider and the list go to their steps.
+
+Two heaps are made here: one of 64 regions of 64 words, which is many screens high, and one of 128 regions of 256 words, of
+which the page shows the regions that the pause collects and fills.
 
 With --pictures it also writes the first, a middle and the last step of each page as PNG files, to be looked at.
 Statuses: 0 all passed; 1 something failed; 2 usage, or no Chromium (Debian's package chromium).
@@ -20,11 +24,38 @@ sys.path.insert(0, str(TOP / "tools/lib"))
 
 import browser  # noqa: E402 (it is in lib/)
 import progress  # noqa: E402
+from heap_image import ORDINARY, Image, header  # noqa: E402
 from programs import add_program  # noqa: E402
 
 # An example and its set; the last one is refused.
 PAUSES = (("shared_targets.img", "1"), ("gap.img", "0"), ("humongous_chain.img", None), ("dirty_card.img", "1"), ("no_room.img", "0"))
 SCREENS = ((1400, 900, False), (390, 844, True))
+# Heaps that are made here: words of a region and of a card, regions, used regions, and the set.
+MADE = {"high": (64, 8, 64, 50, "48"), "window": (256, 64, 128, 60, "2,40")}
+# What of a step is not on the screen below the bar, as far as it is drawn. A frame that is larger than the screen is seen by its top.
+SIGHT = """(() => {
+    const box = document.querySelector('#frames .main') || document.querySelector('#frames .lit-box');
+    if (!box) return null;
+    const { top, bottom } = box.getBoundingClientRect(), bar = document.getElementById('bar').getBoundingClientRect().bottom;
+    return top >= bar && Math.min(bottom, top + 30) <= window.innerHeight ? null : `${top} to ${bottom}, below ${bar}`;
+})()"""
+# Texts of headings, roots and the head that run into another one, and figures that are wider than their cells.
+CLASHES = """(() => {
+    const boxes = (query) => [...document.querySelectorAll(query)].map((one) => [one.textContent, one.getBoundingClientRect()]);
+    const texts = boxes('#figures text.strong, #figures text.quiet, #frames text.quiet, #frames text.in-slot').filter(([text]) => text);
+    const wrong = [];
+    texts.forEach(([a, one], i) => texts.slice(i + 1).forEach(([b, two]) => {
+        const apart = one.right < two.left || two.right < one.left || one.bottom - 2 < two.top || two.bottom - 2 < one.top;
+        if (!apart) wrong.push(`${a} / ${b}`);
+    }));
+    const cell = document.querySelector('#ground .word').getBoundingClientRect().width;
+    for (const [text, box] of boxes('#figures text[text-anchor=middle]')) if (box.width > cell) wrong.push(`${text} in its cell`);
+    const item = document.querySelector('#list li:last-child'), room = parseFloat(getComputedStyle(document.getElementById('list')).paddingLeft);
+    const pen = document.createElement('canvas').getContext('2d');
+    pen.font = getComputedStyle(item).font;
+    if (pen.measureText(`${lines.length}. `).width > room) wrong.push('the numbers of the list');
+    return wrong.slice(0, 5).join('; ');
+})()"""
 
 
 class Wrong(Exception):
@@ -46,7 +77,7 @@ def heap_after(options, image, chosen, room):
     """The lines of the image that the pause writes, or of the image itself if the pause is refused."""
     after = pathlib.Path(room) / "after.img"
     with open(image, "rb") as stdin, open(after, "wb") as stdout:
-        status = subprocess.run([options.g1pause, "pause", *([chosen] if chosen else [])], stdin=stdin, stdout=stdout,
+        status = subprocess.run([options.g1pause, "pause", *(chosen.split(",") if chosen else [])], stdin=stdin, stdout=stdout,
                                 stderr=subprocess.DEVNULL, check=False).returncode
     return lines_of([options.g1heap, "print", str(image if status else after)])[0]
 
@@ -69,6 +100,9 @@ def go_through(page, explained):
         expect(f"count at step {number}", page.run("document.getElementById('count').textContent"), f"step {number} of {len(explained)}")
         if number and not page.run("document.getElementById('meaning').textContent"):
             raise Wrong(f"step {number} has no sentence: {line}")
+        expect(f"what is out of sight at step {number}", page.run(SIGHT), None)
+        if number % 20 == 0:
+            expect(f"texts at step {number}", page.run(CLASHES), "")
         page.press("ArrowRight")
     expect("behind the last step", shown_line(page), explained[-1])
     for line in reversed(["the heap before", *explained[:-1]]):
@@ -105,8 +139,41 @@ def take_pictures(page, folder, name, steps, screen):
         page.picture(folder / f"{name}-{screen[0]}-{'dark' if screen[2] else 'light'}-{step}.png")
 
 
+def made_image(name, room):
+    """An image of full regions, in which each object references the next and one further on. Roots lead to each tenth."""
+    words, card, regions, used, _ = MADE[name]
+    image, starts = Image(words, card, regions), []
+    for region in range(used):
+        image.kinds[region], image.tops[region] = ORDINARY, words
+        starts += range(region * words, (region + 1) * words, words // 8)
+    for number, start in enumerate(starts):
+        image.words[start:start + words // 8] = [header(words // 8, 2), *(starts[(number + far) % len(starts)] + 1 for far in (1, 77)),
+                                                 *range(words // 8 - 3)]
+    image.roots = [start + 1 for start in starts[::10]]
+    image.make_exact()
+    image.log = list(range(0, used * words // card, 9))
+    file = pathlib.Path(room) / f"{name}.img"
+    file.write_bytes(image.to_bytes())
+    return file
+
+
+def shown_part(page, heap):
+    """The lines of a heap that are about the regions and the roots that the page shows."""
+    regions, roots = (set(page.run(f"[...before.{part}.keys()]")) for part in ("regions", "roots"))
+    words = int(heap[0].split()[1])
+    keeps = {"region": lambda number: number in regions, "remembered": lambda number: number in regions,
+             "root": lambda number: number in roots, "object": lambda number: number // words in regions}
+    return [line for line in heap if line.split()[0] not in keeps or keeps[line.split()[0]](int(line.split()[1]))]
+
+
 def check_pause(options, page, name, chosen):
-    image = TOP / "examples" / name
+    with tempfile.TemporaryDirectory() as room:
+        image = made_image(name, room) if name in MADE else TOP / "examples" / name
+        return check_image(options, page, image, chosen)
+
+
+def check_image(options, page, image, chosen):
+    name = image.stem
     words = [options.g1heap, "explain", str(image), *(["--set", chosen] if chosen else [])]
     explained, _ = lines_of(words)
     with tempfile.TemporaryDirectory() as room:
@@ -114,12 +181,18 @@ def check_pause(options, page, name, chosen):
         for screen in SCREENS:
             page.screen(*screen)
             page.open(path)
-            go_through(page, explained)
-            use_the_rest(page, explained)
-            expect("the heap at the end", page.run("printHeap(states[states.length - 1])"), after)
+            shown = page.run("lines")
+            if name not in MADE or MADE[name][0] <= 64:
+                expect("the lines", shown, explained)
+            elif any(line not in explained for line in shown) or [line for line in explained if line.startswith("place")] != [
+                    line for line in shown if line.startswith("place")]:
+                raise Wrong("the lines of the window are not those of the pause")
+            go_through(page, shown)
+            use_the_rest(page, shown)
+            expect("the heap at the end", page.run("printHeap(replay.at(lines.length))"), shown_part(page, after))
             check_width(page, screen[0])
             if options.pictures:
-                take_pictures(page, options.pictures, name.removesuffix(".img"), len(explained), screen)
+                take_pictures(page, options.pictures, name, len(shown), screen)
     return len(explained)
 
 
@@ -137,7 +210,7 @@ def main():
         return 2
     passed = failed = 0
     with browser.Browser(program) as page:
-        for name, chosen in progress.over(PAUSES, "pauses"):
+        for name, chosen in progress.over([*PAUSES, *((name, MADE[name][-1]) for name in MADE)], "pauses"):
             try:
                 print(f"{name}: {check_pause(options, page, name, chosen)} steps")
                 passed += 1

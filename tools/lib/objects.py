@@ -110,7 +110,7 @@ def draw_word(layout, address):
 def draw_region(layout, number, chosen):
     heap, (x, y) = layout.heap, layout.region(number)
     first = number * heap.region_words
-    yield text(x, y + 13, f"region {number}" + (" · in the set" if number in chosen else ""), 13, "strong")
+    yield text(x, y + 13, f"region {number}" + (" · set" if number in chosen else ""), 13, "strong")
     yield text(x, y + 28, heap.table[number], 12, "quiet")
     for address in range(first, first + heap.region_words):
         yield from draw_word(layout, address)
