@@ -112,45 +112,59 @@ KindAndCounts words = (kind : Kind) × (Word (kind_word kind) ▸ Labelled (code
 abbrev pub Current : Form
 Current = Maybe (Word (codes "current") ▸ Single IsCurrentWord)
 
--- THE LINES OF AN IMAGE: its heading, and those below it
+-- THE LINES OF AN IMAGE
+
+-- heap W K N [roots R] [dirty D] [current none|C]
 abbrev pub ImageHeading : Form
 ImageHeading = Word (codes "heap") ▸ Sizes ▸ Labelled (codes "roots") ▸ Labelled (codes "dirty") ▸ Current
 
+-- root [NUMBER] REFERENCE
 abbrev pub RootLine : Form
 RootLine = Word (codes "root") ▸ Maybe Number ▸ Single IsReferenceWord
 
+-- dirty cards CARD ..
 abbrev pub DirtyLine : Form
 DirtyLine = Word (codes "dirty") ▸ Cards
 
+-- covered
 abbrev pub CoveredLine : Form
 CoveredLine = Word (codes "covered")
 
+-- region [NUMBER] KIND [top WORDS] [objects COUNT] [cards COUNT] [pinned]
 abbrev pub RegionLine : Form
 RegionLine = Word (codes "region") ▸ Maybe Number ▸ KindAndCounts
 
+-- remembered REGION cards CARD ..
 abbrev pub RememberedLine : Form
 RememberedLine = Word (codes "remembered") ▸ Number ▸ Cards
 
+-- object [ADDRESS] SIZE/SLOTS REFERENCE .. WORD .. [..]
 abbrev pub ObjectLine : Form
 ObjectLine = Word (codes "object") ▸ Maybe Number ▸ SizeAndWords IsReferenceWord
 
+-- a line below the heading
 abbrev pub ImageLine : Form
 ImageLine words = RootLine words ⊎ DirtyLine words ⊎ CoveredLine words ⊎ RegionLine words ⊎ RememberedLine words ⊎ ObjectLine words
 
--- THE LINES OF OBJECTS BY NAME: the heading, and those below it
+-- THE LINES OF OBJECTS BY NAME
+
+-- graph [W K N]
 abbrev pub GraphHeading : Form
 GraphHeading = Word (codes "graph") ▸ Maybe Sizes
 
+-- root NAME
 abbrev pub NamedRootLine : Form
 NamedRootLine = Word (codes "root") ▸ Single IsTarget
 
+-- object NAME SIZE/SLOTS NAME .. WORD .. [..]
 abbrev pub NamedObjectLine : Form
 NamedObjectLine = Word (codes "object") ▸ Single IsName ▸ SizeAndWords IsTarget
 
+-- a line below the heading
 abbrev pub GraphLine : Form
 GraphLine words = NamedRootLine words ⊎ NamedObjectLine words
 
--- ALL LINES HAVE A MEANING: the first is a heading, and each below it has one of the other forms
+-- ALL LINES HAVE A MEANING: the first one has the form of a heading, and each other one that of a line below it
 abbrev pub HaveForms : (heading below : Form) → List (List (List ℕ)) → Type 0
 HaveForms heading below [] = ⊥
 HaveForms heading below (line ∷ lines) = heading line × All below lines

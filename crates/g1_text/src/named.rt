@@ -451,7 +451,7 @@ fn fill_object<'a>(
     fill_words(graph, &mut draft.words, lines, entry, words.as_slice())
 }
 
-// The words of an object, from those of its line.
+// The words of an object, from those of its line, which was read in full before.
 fn fill_words<'a>(
     graph: &mut Graph<'a>,
     out: &mut Vec<u64>,
