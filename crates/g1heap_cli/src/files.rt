@@ -1,8 +1,7 @@
 //! Files on the command line.
 use crate::refusal::{of_file, unopenable};
-use crate::stale::{Stale, null_stale};
 use g1_command::{Refusal, read_all};
-use g1_image::{FromReader, Image, decode, read};
+use g1_image::{FromReader, Image, Stale, decode, read, read_stale};
 use g1_text::is_graph;
 use g1_words::Fault;
 use std::alloc::Global;
@@ -56,38 +55,55 @@ pub enum SideContent {
     },
 }
 
-/// What is in a file, or what the reader gives. A file whose fault is a reference or
-/// the magic is read once more, as bytes: its stale words are found, or its lines behind comments.
+/// What is in a file, or what the reader gives. A file whose fault is a reference is opened once more, and
+/// read with its stale words taken for null; one whose fault is the magic is, since it may have lines behind
+/// comments.
 pub fn read_side<T: Files, R: Read>(
     rt: &T,
     alloc: Global,
     name: &str,
     reader: &mut R,
 ) -> Result<SideContent, Refusal> {
-    if name != STANDARD_STREAM && is_file(rt, name) && !has_lines(rt, alloc, name)? {
-        let file = open_file(rt, alloc, name)?;
-        match read(alloc, &mut FromReader::new(file)) {
-            Ok(image) => return Ok(SideContent::Image(image)),
-            // Lines may begin behind the bytes that were looked at.
-            Err(Fault::Reference(_)) | Err(Fault::Magic) => (),
-            Err(fault) => return Err(of_file(alloc, name, fault)),
+    if name == STANDARD_STREAM || !is_file(rt, name) {
+        let bytes = read_bytes(rt, alloc, name, reader)?;
+        return found_in(alloc, name, bytes);
+    }
+    match read_once(rt, alloc, name)? {
+        Ok(content) => Ok(content),
+        Err(Fault::Reference(place)) => {
+            let file = open_file(rt, alloc, name)?;
+            without_stale(alloc, name, file, Fault::Reference(place))
         }
+        // Lines may begin behind the bytes that were looked at.
+        Err(Fault::Magic) => {
+            let mut file = open_file(rt, alloc, name)?;
+            let bytes = with_name(alloc, name, read_all(alloc, &mut file))?;
+            found_in(alloc, name, bytes)
+        }
+        Err(fault) => Err(of_file(alloc, name, fault)),
     }
-    let mut bytes = read_bytes(rt, alloc, name, reader)?;
-    if is_graph(bytes.as_slice()) {
-        return Ok(SideContent::Lines(bytes));
-    }
-    found_in(alloc, name, &mut bytes)
 }
 
 // How many bytes of a file are looked at for the first word of lines.
 const HEAD: u64 = 4096;
 
-// Whether a file begins as lines of objects by name do.
-fn has_lines<T: Files>(rt: &T, alloc: Global, name: &str) -> Result<bool, Refusal> {
-    let file = open_file(rt, alloc, name)?;
-    let head = with_name(alloc, name, read_all(alloc, &mut file.take(HEAD)))?;
-    Ok(is_graph(head.as_slice()))
+// What is in a file, or the fault of its image.
+fn read_once<T: Files>(
+    rt: &T,
+    alloc: Global,
+    name: &str,
+) -> Result<Result<SideContent, Fault>, Refusal> {
+    let mut file = open_file(rt, alloc, name)?;
+    let head = with_name(alloc, name, read_all(alloc, &mut file.by_ref().take(HEAD)))?;
+    let mut whole = head.as_slice().chain(file);
+    if is_graph(head.as_slice()) {
+        let bytes = with_name(alloc, name, read_all(alloc, &mut whole))?;
+        return Ok(Ok(found_in(alloc, name, bytes)?));
+    }
+    match read(alloc, &mut FromReader::new(whole)) {
+        Ok(image) => Ok(Ok(SideContent::Image(image))),
+        Err(fault) => Ok(Err(fault)),
+    }
 }
 
 fn is_file<T: Files>(rt: &T, name: &str) -> bool {
@@ -97,33 +113,35 @@ fn is_file<T: Files>(rt: &T, name: &str) -> bool {
     }
 }
 
-fn found_in(alloc: Global, name: &str, bytes: &mut [u8]) -> Result<SideContent, Refusal> {
-    match decode(alloc, bytes) {
+// What is in bytes: lines of objects by name, or an image.
+fn found_in(alloc: Global, name: &str, bytes: Vec<u8>) -> Result<SideContent, Refusal> {
+    if is_graph(bytes.as_slice()) {
+        return Ok(SideContent::Lines(bytes));
+    }
+    match decode(alloc, bytes.as_slice()) {
         Ok(image) => Ok(SideContent::Image(image)),
-        Err(fault) if matches!(fault, Fault::Reference(_)) => {
-            without_stale(alloc, name, bytes, fault)
+        Err(Fault::Reference(place)) => {
+            without_stale(alloc, name, bytes.as_slice(), Fault::Reference(place))
         }
         Err(fault) => Err(of_file(alloc, name, fault)),
     }
 }
 
 // What has another fault, too, is refused for its first one.
-fn without_stale(
+fn without_stale<R: Read>(
     alloc: Global,
     name: &str,
-    bytes: &mut [u8],
+    reader: R,
     fault: Fault,
 ) -> Result<SideContent, Refusal> {
-    let Some(stale) = null_stale(alloc, bytes)? else {
-        return Err(of_file(alloc, name, fault));
-    };
-    match decode(alloc, bytes) {
-        Ok(image) => Ok(SideContent::Stale {
+    match read_stale(alloc, &mut FromReader::new(reader)) {
+        Ok((image, stale)) => Ok(SideContent::Stale {
             image,
             stale,
             fault,
         }),
         Err(Fault::Memory) => Err(Fault::Memory.into()),
+        Err(Fault::Device(device)) => Err(of_file(alloc, name, Fault::Device(device))),
         Err(_) => Err(of_file(alloc, name, fault)),
     }
 }

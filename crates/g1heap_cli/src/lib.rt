@@ -25,7 +25,6 @@ mod refusal;
 mod regions;
 mod sameness;
 mod sides;
-mod stale;
 mod summary;
 mod terminals;
 mod tour;

@@ -1,9 +1,9 @@
 //! The lines of `same --all`: the first differences, and how many there are of each kind.
 use crate::comparing::{Sides, push_how_line, push_stale_line};
 use crate::line_writer::LineWriter;
-use crate::stale::Stale;
 use crate::tour::{FoundDifference, KINDS, Tour, What};
 use g1_command::Refusal;
+use g1_image::Stale;
 use std::alloc::{AllocError, Global};
 use std::io::Write;
 

@@ -1,7 +1,7 @@
 //! Paths from the roots, in the order in which two heaps are compared.
 use crate::comparing::{slots_of, word_at};
 use crate::places::value_at;
-use crate::stale::Stale;
+use g1_image::Stale;
 use g1_words::{Heap, Marks};
 use std::alloc::{AllocError, Global};
 

@@ -1,6 +1,7 @@
 //! The refusals that name a file.
 use crate::location::Location;
 use g1_command::Refusal;
+use g1_image::MAGIC;
 use g1_words::Fault;
 use std::alloc::{AllocError, Global};
 use std::fmt::Display;
@@ -58,7 +59,7 @@ pub fn wrong_line<E: Display>(
 
 /// Whether bytes begin as an image does, in any version.
 pub fn is_image(bytes: &[u8]) -> bool {
-    bytes.starts_with(b"G1IMAGE")
+    bytes.starts_with(&MAGIC)
 }
 
 /// What to do about an image where lines are read.

@@ -6,13 +6,12 @@ use crate::listing::push_others;
 use crate::names::Names;
 use crate::options::Same;
 use crate::reaching::{Path, first_stale};
-use crate::refusal::{no_region, not_for_lines, of_file, wrong_line};
+use crate::refusal::{not_for_lines, of_file, wrong_line};
 use crate::sides::{Side, Strays, check_whole, open_image, open_lines, open_stale, refuse_lines};
-use crate::stale::Stale;
-use crate::young::with_dirty;
+use crate::young::with_young;
 use g1_choose::given;
 use g1_command::Refusal;
-use g1_image::Image;
+use g1_image::{Image, Stale};
 use g1_kept::{Lost, kept};
 use g1_rem::verify;
 use g1_same::{Difference, Renaming, compare};
@@ -352,23 +351,12 @@ fn push_kept(
 }
 
 // The image that is asked for cover: the cards of young regions count as dirty.
-fn with_young(alloc: Global, same: &Same, after: Side<'_>) -> Result<Image, Refusal> {
+fn to_cover(alloc: Global, same: &Same, after: Side<'_>) -> Result<Image, Refusal> {
     let Side { image, .. } = after;
     if same.young.is_empty() {
         return Ok(image);
     }
-    dirtied(alloc, same, &image)
-}
-
-// A copy in which the cards of young regions are dirty.
-fn dirtied(alloc: Global, same: &Same, after: &Image) -> Result<Image, Refusal> {
-    let regions = after.heap().geometry().regions();
-    for region in &same.young {
-        if u64::from(*region) >= regions {
-            return Err(no_region(alloc, same.after.as_str(), *region, regions));
-        }
-    }
-    Ok(with_dirty(alloc, after, same.young.as_slice())?)
+    with_young(alloc, same.after.as_str(), &image, same.young.as_slice())
 }
 
 // The regions of the set that are not free in the heap before.
@@ -406,7 +394,7 @@ fn push_cover<T: Threads + Sync>(
     after: Side<'_>,
     text: &mut String,
 ) -> Result<u8, Refusal> {
-    let image = with_young(alloc, same, after)?;
+    let image = to_cover(alloc, same, after)?;
     if let Err((_, fault)) = verify(rt, alloc, image) {
         return Err(of_file(alloc, same.after.as_str(), fault));
     }

@@ -1,8 +1,7 @@
 //! The two files that are compared: images, or lines of objects by name.
 use crate::refusal::{IMAGE_HINT, is_image, of_file, wrong_line};
-use crate::stale::Stale;
 use g1_command::Refusal;
-use g1_image::{Image, decode};
+use g1_image::{Image, Stale, decode};
 use g1_text::{Graph, Wrong, read_graph};
 use g1_words::Fault;
 use std::alloc::{AllocError, Global};

@@ -2,7 +2,7 @@
 use crate::comparing::{Sides, object_in, slots_of, word_at};
 use crate::places::value_at;
 use crate::reaching::{Path, Step};
-use crate::stale::Stale;
+use g1_image::Stale;
 use g1_same::How;
 use g1_words::{Heap, Object};
 use std::alloc::{AllocError, Global};

@@ -7,7 +7,7 @@ use crate::output::{Output, write_file};
 use crate::refusal::{IMAGE_HINT, is_image, no_command, of_file, wrong_line};
 use g1_command::{LineReader, Refusal, deliver, deliver_text};
 use g1_explain::{Explanation, Form, explain};
-use g1_image::{Image, decode, encode};
+use g1_image::{Image, copy, encode};
 use g1_pause::{Choice, Settings};
 use g1_trace::{Expected, Reply, Session, Taken, Wrong, push_reply};
 use g1_words::Fault;
@@ -228,14 +228,9 @@ fn push_explanation<T: Threads + Sync>(
     let (Some(budget), Some(image)) = (session.budget(line), session.image()) else {
         return Ok(());
     };
-    let text = explained(job, copy_of(job.alloc, image)?, budget)?;
+    let text = explained(job, copy(job.alloc, image)?, budget)?;
     replies.extend_from_slice(text.as_bytes())?;
     Ok(())
-}
-
-fn copy_of(alloc: Global, image: &Image) -> Result<Image, Fault> {
-    let bytes = encode(alloc, image)?;
-    decode(alloc, bytes.as_slice())
 }
 
 fn explained<T: Threads + Sync>(

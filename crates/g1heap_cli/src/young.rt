@@ -1,78 +1,75 @@
 //! Regions whose slots need no card, since a collector looks at all of them.
-use crate::stale::{Parts, number};
-use g1_image::{Image, decode, encode};
-use g1_words::{Fault, Kind};
+ghost use Rattle.std.specs.Prelude.{◌<◌, All, IfOk, OnOk, IsTrue};
+ghost use Rattle.g1_image.specs.Image.{IsUsedCard};
+
+use crate::refusal::no_region;
+use g1_command::Refusal;
+use g1_image::{Image, with_dirty};
+use g1_words::{Heap, card_of};
 use std::alloc::{AllocError, Global};
 
-/// A copy of an image in which all cards of these regions are dirty. Regions that are free, or not there, have none.
-pub fn with_dirty(alloc: Global, image: &Image, young: &[u32]) -> Result<Image, Fault> {
-    let text = encode(alloc, image)?;
-    let cards = cards_of(alloc, image, young)?;
-    let text = text_with(alloc, text.as_slice(), cards.as_slice())?;
-    decode(alloc, text.as_slice())
+/// A copy of the image in a file, in which all cards of these regions are dirty. Free regions have none.
+pub fn with_young(
+    alloc: Global,
+    name: &str,
+    image: &Image,
+    young: &[u32],
+) -> Result<Image, Refusal> {
+    let cards = cards_of(alloc, name, image.heap(), young)?;
+    match with_dirty(alloc, image, cards.as_slice())? {
+        Some(image) => Ok(image),
+        None => unreachable!(),
+    }
 }
 
-// The cards of these regions that are not dirty, each once.
-fn cards_of(alloc: Global, image: &Image, young: &[u32]) -> Result<Vec<u32>, AllocError> {
-    let geometry = image.heap().geometry();
-    let in_region = geometry
-        .region_words()
-        .checked_div(geometry.card_words())
-        .unwrap_or(0);
+// The cards of those of the regions that are used. The image has to have them all.
+fn cards_of(alloc: Global, name: &str, heap: &Heap, young: &[u32]) -> Result<Vec<u32>, Refusal>
+    ensures { IfOk result (λ v. All (IsUsedCard heap.now) v.items) }
+{
+    let regions = heap.geometry().regions();
     let mut cards = Vec::new(alloc);
-    for region in 0..geometry.regions() as u32 {
-        if young.contains(&region) && image.heap().region(region).kind != Kind::Free {
-            let first = u64::from(region).saturating_mul(in_region);
-            push_clean(image, first, in_region, &mut cards)?;
+    for region in young {
+        if u64::from(*region) >= regions {
+            return Err(no_region(alloc, name, *region, regions));
         }
+        push_cards(heap, *region, &mut cards)?;
     }
     Ok(cards)
 }
 
-// Adds those of `count` cards, from the first on, that are not dirty.
-fn push_clean(
-    image: &Image,
-    first: u64,
-    count: u64,
-    cards: &mut Vec<u32>,
-) -> Result<(), AllocError> {
-    for place in 0..count {
-        if let Ok(card) = u32::try_from(first.saturating_add(place)) {
-            if !image.log().contains(&card) {
-                cards.push(card)?;
-            }
-        }
+// Adds the cards of a region if it is used.
+fn push_cards(heap: &Heap, region: u32, cards: &mut Vec<u32>) -> Result<(), AllocError>
+    requires there { region < heap.now.geometry.n }
+    requires used { All (IsUsedCard heap.now) cards.old.items }
+    ensures { OnOk result (All (IsUsedCard heap.now) cards.new.items) }
+{
+    let geometry = heap.geometry();
+    let first = card_of(&geometry, geometry.start(region)) as u32;
+    let end = card_of(&geometry, geometry.start(region + 1)) as u32;
+    for card in first..end {
+        push_if_used(heap, card, cards)?;
     }
     Ok(())
 }
 
-// The text with these cards behind those of its log.
-fn text_with(alloc: Global, text: &[u8], cards: &[u32]) -> Result<Vec<u8>, AllocError> {
-    let Some(parts) = Parts::of(text) else {
-        return Vec::from_slice(alloc, text);
-    };
-    let (log, sets) = text.split_at(parts.sets_at.min(text.len()));
-    let dirty = number(text, Parts::DIRTY_AT).saturating_add(cards.len() as u64);
-    let dirty = u32::try_from(dirty).unwrap_or(u32::MAX);
-    let mut changed = Vec::from_slice(alloc, log)?;
-    set_number(&mut changed, Parts::DIRTY_AT, dirty);
-    push_cards(&mut changed, cards)?;
-    changed.extend_from_slice(sets)?;
-    Ok(changed)
-}
-
-// Writes a number at a place of a text.
-fn set_number(text: &mut [u8], at: usize, number: u32) {
-    for (place, new) in number.to_le_bytes().iter().enumerate() {
-        if let Some(byte) = text.get_mut(at.saturating_add(place)) {
-            *byte = *new;
-        }
-    }
-}
-
-fn push_cards(text: &mut Vec<u8>, cards: &[u32]) -> Result<(), AllocError> {
-    for card in cards {
-        text.extend_from_slice(&card.to_le_bytes())?;
+fn push_if_used(heap: &Heap, card: u32, cards: &mut Vec<u32>) -> Result<(), AllocError>
+    requires { All (IsUsedCard heap.now) cards.old.items }
+    ensures { OnOk result (All (IsUsedCard heap.now) cards.new.items) }
+{
+    if is_used(heap, card) {
+        cards.push(card)?;
     }
     Ok(())
+}
+
+// Whether a card lies in a used region.
+fn is_used(heap: &Heap, card: u32) -> bool
+    ensures { IsTrue result → IsUsedCard heap.now card }
+{
+    let geometry = heap.geometry();
+    if geometry.card_start(card) >= geometry.words() {
+        return false;
+    }
+    let region = geometry.region_of_card(card);
+    heap.region(region as u32).kind.is_used()
 }
