@@ -71,8 +71,8 @@ pub fn read_side<T: Files, R: Read>(
     match read_once(rt, alloc, name)? {
         Ok(content) => Ok(content),
         Err(Fault::Reference(place)) => {
-            let file = open_file(rt, alloc, name)?;
-            without_stale(alloc, name, file, Fault::Reference(place))
+            let mut file = open_file(rt, alloc, name)?;
+            without_stale(alloc, name, &mut file, Fault::Reference(place))
         }
         // Lines may begin behind the bytes that were looked at.
         Err(Fault::Magic) => {
@@ -121,7 +121,7 @@ fn found_in(alloc: Global, name: &str, bytes: Vec<u8>) -> Result<SideContent, Re
     match decode(alloc, bytes.as_slice()) {
         Ok(image) => Ok(SideContent::Image(image)),
         Err(Fault::Reference(place)) => {
-            without_stale(alloc, name, bytes.as_slice(), Fault::Reference(place))
+            without_stale(alloc, name, &mut bytes.as_slice(), Fault::Reference(place))
         }
         Err(fault) => Err(of_file(alloc, name, fault)),
     }
@@ -131,7 +131,7 @@ fn found_in(alloc: Global, name: &str, bytes: Vec<u8>) -> Result<SideContent, Re
 fn without_stale<R: Read>(
     alloc: Global,
     name: &str,
-    reader: R,
+    reader: &mut R,
     fault: Fault,
 ) -> Result<SideContent, Refusal> {
     match read_stale(alloc, &mut FromReader::new(reader)) {
