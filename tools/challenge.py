@@ -33,9 +33,9 @@ sys.path.insert(0, str(pathlib.Path(__file__).resolve().parent / "lib"))
 
 import challenging  # noqa: E402 (it is in lib/)
 import challenging_traces  # noqa: E402
+import progress  # noqa: E402
 import running  # noqa: E402
 from heap_image import from_bytes  # noqa: E402
-from hprof import Progress  # noqa: E402
 from image_text import fault_of  # noqa: E402
 from likeness import Likeness, Unlike  # noqa: E402
 from programs import BUILD, OUT  # noqa: E402
@@ -169,7 +169,6 @@ class Challenge:
         self.options, self.folder = options, pathlib.Path(folder)
         self.start = time.monotonic()
         self.collectors = []
-        self.progress = Progress(sys.stderr, False)
 
     def seconds(self):
         return time.monotonic() - self.start
@@ -195,7 +194,6 @@ class Challenge:
         for collector in self.collectors:
             collector.kill()
             collector.renew()
-        self.progress.end()
 
     def run(self):
         options = self.options
@@ -225,8 +223,8 @@ class Challenge:
         heaps = options.heaps or (None if options.minutes else HEAPS)
         seconds = options.minutes and 60 * options.minutes
         hunt = challenging.Hunt(trials, options.seed, heaps, seconds, options.again, profiles)
-        found = hunt.run(lambda judged: self.progress("heaps", judged, heaps))
-        self.progress.end()
+        with progress.doing("heaps", lambda: hunt.judged, heaps):
+            found = hunt.run()
         return found and (f"heap {found[0]} of seed {options.seed} ({found[4].__name__})", *found[1:4])
 
     def none_wrong(self, trials):
@@ -250,8 +248,9 @@ class Challenge:
 
     def reduce(self, trial, image, chosen, wrong, wanted):
         options, runs, start = self.options, trial.runs, self.seconds()
-        image, chosen, wrong, is_whole = challenging.reduce(trial, image, chosen, wrong, options.tries, options.again, wanted,
-                                                            (KeyboardInterrupt,))
+        with progress.doing("making it smaller", lambda: trial.runs - runs):
+            image, chosen, wrong, is_whole = challenging.reduce(trial, image, chosen, wrong, options.tries, options.again,
+                                                                wanted, (KeyboardInterrupt,))
         tries = trial.runs - runs
         if options.again > 1 and is_whole:
             wrong = trial.heap(image, chosen, options.again, wanted, False) or wrong
@@ -301,26 +300,31 @@ class Challenge:
         return done.stdout + done.stderr
 
     def traces(self):
-        options = self.options
         trial = challenging_traces.TraceTrial(*self.collector("trace"))
-        number, said = 0, None
-        while said is None and number < (options.heaps or (sys.maxsize if options.minutes else HEAPS)):
-            if options.minutes and self.seconds() > 60 * options.minutes:
-                break
-            trace = challenging_traces.draw(options.seed, number)
+        with progress.doing("traces", whole=self.options.heaps) as step:
+            trace, said = self.hunt_traces(trial, step)
+        if said is not None:
+            return self.wrong_trace(trial, trace, step.done - 1, said)
+        print(f"{step.done} traces, no reply wrong; {trial.full} of {trial.made} objects found no place; {self.seconds():.1f} s")
+        return 3 if trial.full == trial.made else 0
+
+    def hunt_traces(self, trial, step):
+        """The first trace that goes wrong, and what is wrong with it; None and None if none does."""
+        options = self.options
+        most = options.heaps or (sys.maxsize if options.minutes else HEAPS)
+        while step.done < most and not (options.minutes and self.seconds() > 60 * options.minutes):
+            trace = challenging_traces.draw(options.seed, step.done)
             said = next(filter(None, (trial.once(trace) for _ in range(options.again))), None)
-            number += 1
-            self.progress("traces", number, options.heaps)
-        self.progress.end()
-        if said is None:
-            print(f"{number} traces, no reply wrong; {trial.full} of {trial.made} objects found no place; {self.seconds():.1f} s")
-            return 3 if trial.full == trial.made else 0
-        return self.wrong_trace(trial, trace, number - 1, said)
+            step.done += 1
+            if said is not None:
+                return trace, said
+        return None, None
 
     def wrong_trace(self, trial, trace, number, said):
         options, runs = self.options, trial.runs
         print(f"trace {number} of seed {options.seed}: wrong after {self.seconds():.1f} s\n  {said}")
-        trace, said, is_whole = challenging_traces.reduce(trial, trace, said, options.tries, (KeyboardInterrupt,))
+        with progress.doing("making it shorter", lambda: trial.runs - runs):
+            trace, said, is_whole = challenging_traces.reduce(trial, trace, said, options.tries, (KeyboardInterrupt,))
         print(f"made shorter in {trial.runs - runs} runs{'' if is_whole else ', and not done'}: {len(trace.lines)} commands\n  {said}")
         out = pathlib.Path(options.out)
         out.mkdir(parents=True, exist_ok=True)

@@ -58,7 +58,7 @@ def measured(make, g1heap, seed):
     with tempfile.TemporaryDirectory() as folder:
         trial = Trial(InProcess(make), Asked(g1heap, covered=True), folder)
         hunt, start = Hunt([trial], seed, HEAPS, SECONDS, 1), time.monotonic()
-        found = hunt.run(lambda _judged: None)
+        found = hunt.run()
         seconds = time.monotonic() - start
         if not found:
             return [str(hunt.judged), "not found", f"{seconds:.1f}", "", "", ""], None

@@ -2,7 +2,7 @@
 """Makes a release of the programs that tools/build.py proved: release.py FOLDER
 
 It writes FOLDER/g1pause-VERSION-x86_64-linux.tar.gz and the same name with .sha256. In the tar:
-  bin/            the programs, stripped
+  bin/            the programs, stripped; and g1challenge, which is tools/challenge.py
   include/, lib/  the headers and the library of the judge, if the repository has them; in lib/debug/ the symbols
   share/          manual pages, completion for bash, zsh and fish; in share/doc/g1pause the pages, the examples, and the
                   scripts that the pages call, except those that build or test the sources
@@ -46,6 +46,8 @@ SECONDS = 120  # that rt may take to say so
 SYSTEM = "x86_64-linux"
 DOC = "share/doc/g1pause"
 OF_SOURCES = {"tools/build.py", "tools/build_judge.py", "tools/release.py"}  # scripts that a release has no use for
+# The scripts of a release that are called by a name of their own.
+NAMED = {"g1challenge": "tools/challenge.py"}
 IMPORT = re.compile(r"^ *(?:import|from) (\w+)", re.M)
 
 
@@ -160,6 +162,12 @@ def scripts(names):
     return sorted(str(path.relative_to(TOP)) for path in found | data if not path.is_relative_to(TOP / "examples"))
 
 
+def named():
+    """A program of shell for each script that has a name of its own. It may be called by a link."""
+    text = '#!/bin/sh\nexec "$(dirname "$(readlink -f "$0")")/../{}" "$@"\n'
+    return {f"bin/{name}": text.format(f"{DOC}/{script}").encode() for name, script in NAMED.items()}
+
+
 def about(version, commit):
     """What the release was made of."""
     sums = [f"{name} {stamp.sum_of(OUT / name)}" for name in stamp.PROGRAMS]
@@ -201,7 +209,7 @@ def release(target):
     version = manual.said([OUT / "g1pause", "--version"]).split()[1]
     with tempfile.TemporaryDirectory() as folder, progress.doing("packing"):
         room = pathlib.Path(folder)
-        files = {**programs(version, seconds, room), **judge(room), **pages()}
+        files = {**programs(version, seconds, room), **judge(room), **pages(), **named()}
     for name in ("install.sh", "uninstall.sh"):
         files[name] = (TOP / name).read_bytes()
     files["RELEASE"] = about(version, commit).encode()

@@ -29,11 +29,13 @@ import challenging_traces  # noqa: E402
 import collector_errors  # noqa: E402
 import opponent  # noqa: E402
 import random_heaps  # noqa: E402
+import release  # noqa: E402
 from challenge_strength import InProcess  # noqa: E402
 from heap_image import FIRST, NULL, ORDINARY, Image, from_bytes  # noqa: E402
 from image_text import fault_of  # noqa: E402
 from likeness import Likeness  # noqa: E402
 from programs import OUT, add_program  # noqa: E402
+from progress import without_signs  # noqa: E402
 from reducible import take_apart  # noqa: E402
 from reducing import Reducer  # noqa: E402
 
@@ -98,7 +100,7 @@ class Case(unittest.TestCase):
         self.assertEqual([*self.temporary.iterdir()], [], "temporary files are left")
         self.assertEqual(left_over(), [], "processes are left")
         self.assertNotIn("Traceback", errors)
-        return process.returncode, out, errors
+        return process.returncode, out, "".join(f"{line}\n" for line in without_signs(errors.splitlines()))
 
     def challenge(self, *words):
         return self.end(self.start(*words))
@@ -148,7 +150,7 @@ class Right(Case):
         for make in (opponent.Opponent, collector_errors.ByCards):
             trial = challenging.Trial(InProcess(make), challenging.Asked(str(G1HEAP), covered=True), self.room)
             hunt = challenging.Hunt([trial], 7, 300, None, 1)
-            self.assertIsNone(hunt.run(lambda _judged: None))
+            self.assertIsNone(hunt.run())
             self.assertGreater(trial.right, 150)
 
     def test_never_room(self):
@@ -302,6 +304,30 @@ class Bad(Case):
             self.assertIn("challenge.py", errors)
 
 
+class Released(Case):
+    """The program of a release: a release has it and all that it needs, below another folder, and the programs on the path."""
+
+    def test_called_by_a_link(self):
+        for name, content in release.named().items():
+            program = self.room / name
+            program.parent.mkdir(exist_ok=True)
+            program.write_bytes(content)
+            program.chmod(0o755)
+            (self.room / program.name).symlink_to(program)
+        for name in [*release.scripts(["docs/CHALLENGE.md"]), "examples/shared_targets.img"]:
+            path = self.room / release.DOC / name
+            path.parent.mkdir(parents=True, exist_ok=True)
+            shutil.copy2(TOP / name, path)
+        for path in (G1HEAP, G1PAUSE):
+            shutil.copy2(path, self.room / "bin")
+        words = ["--heaps", "10", "--exact", "--stdin", "--set-words", "--no-room", "5", "--", "g1pause", "pause", "{set}"]
+        path = {**os.environ, "PATH": f"{self.room / 'bin'}:{os.environ['PATH']}", "PYTHONDONTWRITEBYTECODE": "1"}
+        done = subprocess.run([self.room / "g1challenge", *words], env=path, cwd=self.room, capture_output=True, text=True, check=False)
+        self.assertEqual(without_signs(done.stderr.splitlines()), [])
+        self.assertEqual(done.returncode, 0, done.stdout)
+        self.assertIn("10 answers, none wrong", done.stdout)
+
+
 class Signals(Case):
     """A challenge that is ended from outside."""
 
@@ -379,7 +405,7 @@ class Reducing(unittest.TestCase):
                      collector_errors.SecondCopy, collector_errors.StaleCards, collector_errors.PinsLost, collector_errors.CardsOfTails):
             with tempfile.TemporaryDirectory() as folder:
                 trial = challenging.Trial(InProcess(make), asked, folder)
-                _, image, chosen, wrong, _ = challenging.Hunt([trial], 3, 2000, None, 1).run(lambda _judged: None)
+                _, image, chosen, wrong, _ = challenging.Hunt([trial], 3, 2000, None, 1).run()
                 size = len(take_apart(image, chosen).things())
                 for tries in (0, 1, 2, 3, 5, 8, 13, 21, 34, 55, 2000):
                     small, regions, _, is_whole = challenging.reduce(trial, image, chosen, wrong, tries)

@@ -197,16 +197,15 @@ class Hunt:
             self.failure = self.failure or error
             self.is_stopped = True
 
-    def run(self, report):
-        """Hunts until a heap goes wrong or all are judged. `report` is called with the numbers now and then."""
+    def run(self):
+        """Hunts until a heap goes wrong or all are judged, and returns what was found."""
         threads = [threading.Thread(target=self.work, args=(trial,)) for trial in self.trials]
         try:
             for thread in threads:
                 thread.start()
             for thread in threads:
                 while thread.is_alive():
-                    thread.join(0.2)
-                    report(self.judged)
+                    thread.join(1)
         finally:
             self.is_stopped = True
             if any(thread.is_alive() for thread in threads):
