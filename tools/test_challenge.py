@@ -96,7 +96,7 @@ class Case(unittest.TestCase):
                                 stdin=subprocess.DEVNULL, stdout=subprocess.PIPE, stderr=subprocess.PIPE)
 
     def end(self, process):
-        out, errors = process.communicate(timeout=120)
+        out, errors = process.communicate(timeout=900)
         self.assertEqual([*self.temporary.iterdir()], [], "temporary files are left")
         self.assertEqual(left_over(), [], "processes are left")
         self.assertNotIn("Traceback", errors)
@@ -286,10 +286,10 @@ class Bad(Case):
     def test_wrong_replies(self):
         for text, said in (("while read line; do echo well; done", "the reply 'well', which is neither ok nor room"),
                            (r"while read line; do printf 'ok\nok\n'; sleep 1; done", "a reply of more than one line"),
-                           ("read line; printf 'ok'; sleep 9", "no answer in 0.5 seconds"),
-                           ("read line; head -c 9999 /dev/zero; sleep 9", "a reply without an end"),
+                           ("read line; head -c 9999 /dev/zero; sleep 999", "a reply without an end"),
                            ("while read line; do echo ok; done", "it wrote no file after")):
-            self.is_wrong(said, "--timeout", 0.5, "--loop", "--", self.script(text))
+            self.is_wrong(said, "--timeout", 60, "--loop", "--", self.script(text))
+        self.is_wrong("no answer in 0.5 seconds", "--timeout", 0.5, "--loop", "--", self.script("read line; printf ok; sleep 9"))
 
     def test_usage(self):
         image = TOP / "examples" / "shared_targets.img"
@@ -331,27 +331,27 @@ class Released(Case):
 class Signals(Case):
     """A challenge that is ended from outside."""
 
+    def signalled(self, number, *words):
+        """How a challenge ends that gets the signal once its command has begun to sleep."""
+        process, end = self.start("--timeout", 600, *words), time.monotonic() + 300
+        while not (self.room / "sleeps").exists() and process.poll() is None and time.monotonic() < end:
+            time.sleep(0.1)
+        process.send_signal(number)
+        return self.end(process)
+
     def test_hunt(self):
         for number in (signal.SIGTERM, signal.SIGINT):
-            process = self.start("--timeout", 60, "--jobs", 2, "--", self.script("sleep 1000"), *FILES)
-            time.sleep(1)
-            process.send_signal(number)
-            self.assertEqual(self.end(process), (130, "", "ended by a signal\n"))
+            command = self.script(f"touch {self.room / 'sleeps'}; sleep 1000")
+            self.assertEqual(self.signalled(number, "--jobs", 2, "--", command, *FILES), (130, "", "ended by a signal\n"))
+            (self.room / "sleeps").unlink()
 
     def test_reducer(self):
         """What was found until then is written."""
-        text = 'n=$(stat -c %s "$1"); [ $n -gt 1500 ] || sleep 1000\nexit 7'
-        process = self.start("--profile", "many_survivors", "--timeout", 60, "--", self.script(text), *FILES)
-        while "made" not in "".join(line.read_text() for line in self.room.glob("out/verdict.txt")) and process.poll() is None:
-            time.sleep(2)
-            process.send_signal(signal.SIGTERM)
-            break
-        time.sleep(1)
-        process.send_signal(signal.SIGTERM) if process.poll() is None else None
-        status, out, _ = self.end(process)
-        self.assertIn(status, (1, 130))
-        self.assertIn("wrong after", out)
+        text = f'n=$(stat -c %s "$1"); [ $n -gt 3000 ] || {{ [ -e {self.room / "sleeps"} ] || {{ touch {self.room / "sleeps"}; sleep 1000; }}; }}\nexit 7'
+        status, out, errors = self.signalled(signal.SIGTERM, "--profile", "many_survivors", "--", self.script(text), *FILES)
+        self.assertEqual((status, errors), (1, ""))
         self.assertIn("and not done", out)
+        self.assertEqual((self.room / "out" / "verdict.txt").read_text(), "status 7\n")
 
 
 class Machine(Case):
