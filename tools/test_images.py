@@ -6,6 +6,7 @@ hand. Each image that is made of one is read and judged by tools/lib/image_text.
 picture is made of what a stand-in for g1pause says, and looked at box by box. The collector of tools/opponent.py is tried
 on heaps laid by hand, and the walk of examples/ocaml on values of OCaml, if a compiler is there.
 """
+import argparse
 import contextlib
 import io
 import pathlib
@@ -26,6 +27,7 @@ import heap_image  # noqa: E402
 import hprof2image  # noqa: E402
 import image_text  # noqa: E402
 import opponent  # noqa: E402
+import programs  # noqa: E402
 import stepping  # noqa: E402
 
 OBJECT, A, ARRAY = 0x10, 0x20, 0x30  # classes
@@ -401,6 +403,13 @@ class Pictures(unittest.TestCase):
         lines = [*many[:1], "set 3", *["place 3072 at 4096"] * 20000]
         with self.assertRaisesRegex(stepping.TooLarge, "the pause has 20002 lines on these regions"):
             stepping.page([many[0]], lines, "title")
+
+    def test_a_set_is_written_in_one_way(self):
+        self.assertEqual(programs.regions("1,2,5-9,3-3"), [1, 2, 5, 6, 7, 8, 9, 3])
+        for text in ("", "1,", "1-", "-1", "x", "1 2", "9-5", "0-4096", "1234567890"):
+            with self.assertRaises(argparse.ArgumentTypeError):
+                programs.regions(text)
+        self.assertEqual(programs.regions("0-4095"), list(range(4096)))
 
     def test_a_set_that_is_not_what_was_freed_is_noted(self):
         done = self.run_picture("--set", "0,2", "{room}/after", says=AFTER, check=True)
