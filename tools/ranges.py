@@ -18,8 +18,8 @@ import sys
 
 sys.path.insert(0, str(pathlib.Path(__file__).resolve().parent / "lib"))
 
-import heap_image  # noqa: E402
 import progress  # noqa: E402
+import random_heaps  # noqa: E402
 from heap_image import CONTINUATION, FIRST, FREE, ORDINARY, Image  # noqa: E402
 from image_text import fault_of  # noqa: E402
 from programs import add_program  # noqa: E402
@@ -56,13 +56,14 @@ def draw_many(rng, width, regions):
         if chance < 2 / regions:
             region += place_long(rng, image, region)
         elif chance < used * 0.1:
-            region += heap_image.place_humongous(rng, image, region)
+            region += random_heaps.place_humongous(rng, image, region)
         elif chance < used:
-            heap_image.place_ordinary(rng, image, region)
+            random_heaps.place_ordinary(rng, image, region)
             region += 1
         else:
             region += 1
-    heap_image.link(rng, image)
+    random_heaps.link(rng, image)
+    random_heaps.draw_roots(rng, image)
     image.make_exact()
     return image
 
