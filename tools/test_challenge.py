@@ -78,6 +78,14 @@ def left_over():
     return found
 
 
+def left_over_in_the_end(seconds=5):
+    """What is left after this time at most: a process that was killed may need a moment to end."""
+    end = time.monotonic() + seconds
+    while left_over() and time.monotonic() < end:
+        time.sleep(0.05)
+    return left_over()
+
+
 class Case(unittest.TestCase):
     def setUp(self):
         self.room = pathlib.Path(self.enterContext_(tempfile.TemporaryDirectory()))
@@ -98,7 +106,7 @@ class Case(unittest.TestCase):
     def end(self, process):
         out, errors = process.communicate(timeout=900)
         self.assertEqual([*self.temporary.iterdir()], [], "temporary files are left")
-        self.assertEqual(left_over(), [], "processes are left")
+        self.assertEqual(left_over_in_the_end(), [], "processes are left")
         self.assertNotIn("Traceback", errors)
         return process.returncode, out, "".join(f"{line}\n" for line in without_signs(errors.splitlines()))
 
