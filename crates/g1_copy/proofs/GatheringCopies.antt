@@ -68,6 +68,7 @@ bool_cases false = inr refl
 
 -- an object's words are there, its slots among them, and f renames these to words
 pub record IsThere (h : Heap) (f : ℕ → ℕ) (o : Object) : Type 0 where
+  pub object : Contains (objects h) o
   pub within : o.at + o.size ≤ length h.words
   pub few : length h.words ≤ most_words
   pub refs_fit : o.refs < o.size
@@ -112,6 +113,7 @@ module _ (h : Heap) (set l : List ℕ) (valid : IsValid h) (can : CanPlace h set
       let count = valid.word_count in
       let most = valid.limits.words_most in
       record {
+        object = one;
         within = omega arith;
         few = omega arith;
         refs_fit = refs;

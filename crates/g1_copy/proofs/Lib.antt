@@ -28,3 +28,4 @@ pub mod PreparedRegions
 pub mod PreparedPause
 pub mod Committed
 pub mod TrackedAfter
+pub mod WrittenBeginning

@@ -1,5 +1,5 @@
 -- What was made ready for a commit.
-use Rattle.std.specs.Prelude.{◌≡◌, ℕ, List, ◌++◌, ◌/◌, length, map, flat_map}
+use Rattle.std.specs.Prelude.{◌≡◌, ◌≢◌, ℕ, List, ◌++◌, ◌+◌, ◌/◌, length, map, flat_map, slice_index}
 use Rattle.std.specs.List.{range_with_len}
 use Rattle.g1_words.specs.declared.region.Region.{Region}
 use Rattle.g1_words.specs.Heap.{region_of}
@@ -10,6 +10,7 @@ use Rattle.g1_after.specs.Made.{heap_moved, image_paused}
 use Rattle.g1_after.specs.Unnamed.{unnamed, unnamed_regions}
 use Rattle.g1_work.specs.Regions.{slice_of}
 use Rattle.g1_copy.specs.declared.fates.Fate.{Fate}
+use Rattle.g1_copy.specs.declared.fates.Fate.TheVariants.{Filled}
 use Rattle.g1_copy.specs.Fates.{AreFates, fate_at}
 use Rattle.g1_copy.specs.Gathered.{to_space_words}
 use Rattle.g1_copy.specs.Patches.{AreFirsts, all_patches}
@@ -29,6 +30,11 @@ pub record Prepared : Type 0 where
 -- the words that a commit makes of these, in regions of w words
 abbrev pub written : Prepared → ℕ → List ℕ → List ℕ
 written p w xs = flat_map (λ r. by_fate w p.gathered p.patches r (fate_at p.fates r) (slice_of w r xs)) (range_with_len 0 (length xs / w))
+
+-- no run fills region r, and no patch lies in it
+pub record IsUnwritten (p : Prepared) (r : ℕ) : Type 0 where
+  pub filled : (t : ℕ) → fate_at p.fates r ≢ Filled t
+  pub patched : slice_index p.firsts r ≡ slice_index p.firsts (r + 1)
 
 -- it was made for the pause of i that evacuates the survivors l of the set
 pub record IsMadeFor (p : Prepared) (i : Image) (set l : List ℕ) : Type 0 where

@@ -3,11 +3,11 @@ ghost use Rattle.g1_after.specs.Paused.{IsPaused};
 ghost use Rattle.g1_work.specs.Team.{AreWorkers};
 ghost use Rattle.g1_copy.specs.Prepared.{IsMadeFor};
 
-use crate::filling::write;
+use crate::filling::{write, written_regions};
 use crate::preparing::Prepared;
 use g1_image::Image;
 use g1_rem::Tracked;
-use g1_words::Heap;
+use g1_words::{Heap, Words};
 use g1_work::Gate;
 use std::thread::Threads;
 
@@ -33,11 +33,16 @@ pub fn commit<R: Threads + Sync, G: Gate + Sync>(
     } = image;
     let mut words = heap.words;
     let region_words = heap.geometry.region_words() as usize;
-    write(rt, workers, &mut words, region_words, &prepared, gate);
+    // Zeros behind the last region that is laid or written stay as they are.
+    let used = words.laid().len().div_ceil(region_words);
+    let regions = used.max(written_regions(&prepared));
+    words.lay_to(regions * region_words);
+    let (mut laid, zeros) = words.into_parts();
+    write(rt, workers, &mut laid, region_words, &prepared, gate);
     log.clear();
     let heap = Heap {
         geometry: heap.geometry,
-        words,
+        words: Words::of_parts(laid, zeros),
         regions: prepared.regions,
         roots: prepared.roots,
         current: None,

@@ -1,8 +1,8 @@
-ghost use Rattle.std.specs.Prelude.{◌≡◌, ◌≤◌, ◌<◌, ◌+◌, ◌^◌, ◌%◌, ℕ, List, length, All};
-ghost use Rattle.g1_work.specs.Regions.{EverySlice};
+ghost use Rattle.std.specs.Prelude.{◌≡◌, ◌≤◌, ◌<◌, ◌+◌, ◌^◌, ◌%◌, ℕ, List, length, All, IsTrue};
+ghost use Rattle.g1_work.specs.Regions.{EverySlice, EveryChange};
 ghost use Rattle.g1_work.specs.Team.{AreWorkers};
 ghost use Rattle.g1_copy.specs.Fates.{fate_at};
-ghost use Rattle.g1_copy.specs.Prepared.{written};
+ghost use Rattle.g1_copy.specs.Prepared.{IsUnwritten, written};
 ghost use Rattle.g1_copy.specs.Slices.{IsWritable, by_fate, patched};
 
 use crate::fates::Fate;
@@ -86,8 +86,31 @@ impl Fill for Filling<'_> {
     }
 }
 
-/// Writes what was prepared over the words of a heap, region by region, in its own place. Takes no
-/// memory.
+/// Whether nothing is written into a region, except that it may be cleared.
+fn is_unwritten(prepared: &Prepared, region: usize) -> bool
+    requires fate { region < length prepared.now.fates }
+    requires firsts { region + 1 < length prepared.now.firsts }
+    ensures { IsTrue result → IsUnwritten prepared.now region }
+{
+    let filled = matches!(prepared.fates[region], Fate::Filled(_));
+    !filled && prepared.firsts[region] == prepared.firsts[region + 1]
+}
+
+/// How many regions there are up to the last one that is filled or patched.
+pub(crate) fn written_regions(prepared: &Prepared) -> usize
+    requires { length prepared.now.firsts ≡ length prepared.now.fates + 1 }
+    ensures within { result ≤ length prepared.now.fates }
+    ensures others { (r : ℕ) → result ≤ r → r < length prepared.now.fates → IsUnwritten prepared.now r }
+{
+    let mut regions = prepared.fates.len();
+    while regions > 0 && is_unwritten(prepared, regions - 1) {
+        regions -= 1;
+    }
+    regions
+}
+
+/// Writes what was prepared over the first words of a heap, region by region, in its own place. Takes
+/// no memory.
 pub(crate) fn write<R: Threads + Sync, G: Gate + Sync>(
     rt: &R,
     workers: u64,
@@ -99,7 +122,9 @@ pub(crate) fn write<R: Threads + Sync, G: Gate + Sync>(
     requires width { 0 < region_words }
     requires whole { length words.old % region_words ≡ 0 }
     requires ready { EverySlice (IsWritable region_words prepared.now.fates prepared.now.gathered prepared.now.patches prepared.now.firsts) region_words words.old }
-    ensures { words.new ≡ written prepared.now region_words words.old }
+    ensures written { words.new ≡ written prepared.now region_words words.old }
+    ensures each { EveryChange (λ r xs ys. ys ≡ by_fate region_words prepared.now.gathered prepared.now.patches r (fate_at prepared.now.fates r) xs) region_words words.old words.new }
+    ensures size { length words.new ≡ length words.old }
 {
     let filling = Filling {
         region_words,

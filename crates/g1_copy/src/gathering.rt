@@ -51,8 +51,7 @@ fn copy(heap: &Heap, plan: &Plan, object: &Object, copy: &mut [u64])
     requires size { length copy.old ≡ object.now.size }
     ensures { copy.new ≡ renamed_words (forward heap.now plan.now.survivors) heap.now object.now }
 {
-    let from = object.at as usize;
-    copy.copy_from_slice(&heap.words()[from..from + copy.len()]);
+    copy.copy_from_slice(heap.words_of(object));
     rename(plan, object.refs, copy);
 }
 

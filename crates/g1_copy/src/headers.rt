@@ -1,7 +1,7 @@
 ghost use Rattle.std.specs.Prelude.{◌≡◌, ◌≤◌, ◌<◌, ℕ, length, slice_index, All};
 
 use g1_layout::Plan;
-use g1_words::{Heap, Object, header};
+use g1_words::{Heap, Object, Words, header};
 
 /// So many headers are read at once: the processor then waits for them together, and not for one after
 /// another.
@@ -16,13 +16,12 @@ pub(crate) struct Headers {
 }
 
 /// Reads the words at these addresses.
-fn read(words: &[u64], addresses: &[u64], headers: &mut [u64])
-    requires there { All (λ a. a < length words.now) addresses.now }
+fn read(words: &Words, addresses: &[u64], headers: &mut [u64])
     requires room { length addresses.now ≤ length headers.old }
-    ensures { (k : ℕ) → k < length addresses.now → slice_index headers.new k ≡ slice_index words.now (slice_index addresses.now k) }
+    ensures { (k : ℕ) → k < length addresses.now → slice_index headers.new k ≡ slice_index words.now.items (slice_index addresses.now k) }
 {
     for (k, a) in addresses.iter().enumerate() {
-        headers[k] = words[*a as usize];
+        headers[k] = words.at(*a);
     }
 }
 

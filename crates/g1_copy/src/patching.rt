@@ -27,7 +27,7 @@ fn push_patch(
     requires slot { slot < length heap.now.words }
     ensures { OnOk result (patches.new.items ≡ patches.old.items ++ patch_at heap.now plan.now.survivors slot) }
 {
-    let word = heap.words()[slot as usize];
+    let word = heap.words().at(slot);
     if word == 0 {
         return Ok(());
     }

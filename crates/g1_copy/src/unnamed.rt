@@ -16,7 +16,7 @@ ghost use Rattle.g1_copy.specs.Unnamed.{is_naming, is_rooted, is_unnamed, humong
 use crate::fates::{Fate, stays};
 use g1_layout::Plan;
 use g1_rem::{Starts, Tracked, image, leads_into};
-use g1_words::{Heap, Kind, Marks, Object, header, region_of, size_at};
+use g1_words::{Heap, Kind, Marks, Object, region_of, size_at};
 use std::alloc::{AllocError, Global};
 
 /// Sets the marks of the regions in which a root references an object.
@@ -82,7 +82,7 @@ fn one_names(alloc: Global, naming: &Naming<'_>, region: u32, cards: &[u32]) -> 
     ensures { result ≡ list_any (is_naming naming.now.heap.now naming.now.fates.now region) cards.now }
 {
     let heap = naming.heap;
-    let object = header(heap.words(), heap.geometry().start(region));
+    let object = heap.words().header(heap.geometry().start(region));
     for card in cards {
         if names(alloc, naming, region, &object, *card) {
             return true;

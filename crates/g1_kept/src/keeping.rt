@@ -17,7 +17,7 @@ use crate::pause::Pause;
 use crate::region_set::RegionSet;
 use crate::tables::compare_tables;
 use g1_same::first_other;
-use g1_words::{Fault, Heap, data, objects_in};
+use g1_words::{Fault, Heap, objects_in};
 use std::alloc::{AllocError, Global};
 
 // What is lost of an object in the one after that matches it, apart from its slots.
@@ -35,8 +35,8 @@ fn compare_contents(pause: &Pause<'_>, a: u64, b: u64) -> Option<Lost>
             after: b,
         });
     }
-    let here = data(pause.before.words(), &old);
-    let there = data(pause.after.words(), &new);
+    let here = pause.before.data(&old);
+    let there = pause.after.data(&new);
     match first_other(here, there) {
         Some(word) => Some(Lost::Data {
             before: a,

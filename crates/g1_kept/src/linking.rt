@@ -12,7 +12,7 @@ use crate::lost::Lost;
 use crate::pairs::Pairs;
 use crate::pause::Pause;
 use crate::region_set::RegionSet;
-use g1_words::{Heap, region_of, slots};
+use g1_words::{Heap, region_of};
 use std::alloc::AllocError;
 
 /// What two words are to the walk.
@@ -175,8 +175,8 @@ pub(crate) fn link_slots(
     g1_words::laws::valid(pause.after);
     let old = pause.before.object(a);
     let new = pause.after.object(b);
-    let here = slots(pause.before.words(), &old);
-    let there = slots(pause.after.words(), &new);
+    let here = pause.before.slots(&old);
+    let there = pause.after.slots(&new);
     for number in 0..here.len() {
         let x = here[number];
         let y = there[number];

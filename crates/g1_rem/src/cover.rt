@@ -13,7 +13,7 @@ use crate::ranges::{cut, threads_for_slots};
 use crate::rows::objects_end;
 use crate::tracked::Tracked;
 use g1_image::Image;
-use g1_words::{Fault, Marks, card_of, header};
+use g1_words::{Fault, Marks, card_of};
 use g1_work::{Make, first_found, make_each};
 use std::alloc::{AllocError, Global};
 use std::thread::Threads;
@@ -107,7 +107,7 @@ fn first_in(image: &Image, dirty: &Marks, places: &mut [usize], region: u32) -> 
     let end = objects_end(heap, region);
     let mut at = heap.geometry().start(region);
     'objects: while at < end {
-        let object = header(heap.words(), at);
+        let object = heap.words().header(at);
         if let Some(p) = first_between(image, dirty, places, at + 1, at + 1 + object.refs) {
             return Some(p);
         }

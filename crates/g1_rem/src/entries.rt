@@ -11,7 +11,7 @@ ghost use Rattle.g1_rem.specs.Entries.{uncovered_into, IsEntryFault};
 
 use crate::rows::objects_end;
 use g1_image::Image;
-use g1_words::{Fault, Marks, card_of, header, region_of};
+use g1_words::{Fault, Marks, card_of, region_of};
 use std::alloc::{AllocError, Global};
 
 // A mark for each card, set if the region remembers it or it is dirty.
@@ -46,7 +46,7 @@ impl<'a> Entering<'a> {
         let heap = self.image.heap();
         let geometry = heap.geometry();
         let region = u64::from(self.region);
-        match heap.words()[slot as usize].checked_sub(1) {
+        match heap.words().at(slot).checked_sub(1) {
             Some(target) => {
                 region_of(&geometry, target) == region && region_of(&geometry, slot) != region
             }
@@ -103,7 +103,7 @@ impl<'a> Entering<'a> {
         let end = objects_end(heap, region);
         let mut at = heap.geometry().start(region);
         'objects: while at < end {
-            let object = header(heap.words(), at);
+            let object = heap.words().header(at);
             self.take_slots(at + 1, at + 1 + object.refs, cards)?;
             at += object.size;
         }

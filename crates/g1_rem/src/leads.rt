@@ -16,7 +16,7 @@ pub(crate) fn led_into(heap: &Heap, p: u64) -> Option<u32>
     requires reference { IsReference heap.now (slice_index heap.now.words p) }
     ensures { IsLedInto heap.now p result }
 {
-    let word = heap.words()[p as usize];
+    let word = heap.words().at(p);
     if word == 0 {
         return None;
     }

@@ -2,7 +2,7 @@ ghost use Rattle.std.specs.Prelude.{◌≡◌, ◌≤◌, ◌<◌, ◌+◌, ◌-
 ghost use Rattle.std.specs.List.{range_with_len};
 ghost use Rattle.smallvec.specs.SmallVec.{HasRoomFor};
 ghost use Rattle.g1_words.specs.declared.object.Object.{Object};
-ghost use Rattle.g1_words.specs.Geometry.{most_card_words};
+ghost use Rattle.g1_words.specs.Geometry.{most_card_words, most_words};
 ghost use Rattle.g1_words.specs.Heap.{slots};
 ghost use Rattle.g1_words.specs.Valid.{Tiles};
 ghost use Rattle.g1_words.specs.Walk.{Reaches};
@@ -10,7 +10,7 @@ ghost use Rattle.g1_rem.specs.Starts.{IsStartsOf, card_count};
 ghost use Rattle.g1_rem.specs.Slots.{slots_on, is_between};
 
 use crate::starts::Starts;
-use g1_words::{Heap, Kind, header, region_of, size_at};
+use g1_words::{Heap, Kind, Words, region_of, size_at};
 use smallvec::SmallVec;
 use std::alloc::Global;
 
@@ -32,22 +32,23 @@ fn push_range(out: &mut SmallVec<u64, 64>, from: u64, to: u64)
 /// The slots between two addresses, of the objects that fill the words between two others.
 fn slots_between(
     alloc: Global,
-    words: &[u64],
+    words: &Words,
     from: u64,
     to: u64,
     lo: u64,
     hi: u64,
 ) -> SmallVec<u64, 64>
-    requires filled { Reaches words.now from to }
-    requires in_words { to ≤ length words.now }
+    requires filled { Reaches words.now.items from to }
+    requires in_words { to ≤ length words.now.items }
+    requires small { to ≤ most_words }
     requires few { hi ≤ lo + most_card_words }
-    ensures items { (os : List Object) → Tiles words.now from os to → result.items ≡ filter (is_between lo hi) (flat_map slots os) }
+    ensures items { (os : List Object) → Tiles words.now.items from os to → result.items ≡ filter (is_between lo hi) (flat_map slots os) }
     ensures capacity { result.capacity ≡ most_card_words }
 {
     let mut out = SmallVec::new(alloc);
     let mut at = from;
     'objects: while at < to && at < hi {
-        let object = header(words, at);
+        let object = words.header(at);
         let first = (at + 1).max(lo);
         let last = (at + 1 + object.refs).min(hi);
         push_range(&mut out, first, last);

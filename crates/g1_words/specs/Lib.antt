@@ -5,6 +5,7 @@ pub mod Lists
 pub mod Kind
 pub mod Header
 pub mod Heap
+pub mod Words
 pub mod Valid
 pub mod Walk
 pub mod References

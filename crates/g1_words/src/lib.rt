@@ -15,6 +15,7 @@ pub mod laws;
 mod marks;
 mod object;
 mod region;
+mod words;
 
 pub use fault::{Device, Fault, Place, Stand};
 pub use geometry::Geometry;
@@ -25,3 +26,4 @@ pub use object::{
     slots_of,
 };
 pub use region::{Kind, Region};
+pub use words::Words;

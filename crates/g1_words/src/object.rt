@@ -1,4 +1,4 @@
-ghost use Rattle.std.specs.Prelude.{◌≡◌, ◌≤◌, ◌<◌, ◌+◌, ◌*◌, ◌/◌, ◌^◌, ◌-◌, ℕ, List, length, map, slice_index, slice_range, Contains, IfSome, IfNone, IfOk, IfErr};
+ghost use Rattle.std.specs.Prelude.{◌≡◌, ◌≤◌, ◌<◌, ◌+◌, ◌*◌, ◌/◌, ◌%◌, ◌^◌, ◌-◌, ℕ, List, length, map, slice_index, slice_range, Contains, IfSome, IfNone, IfOk, IfErr};
 ghost use Rattle.g1_words.specs.Header.{header};
 ghost use Rattle.g1_words.specs.Heap.{object_at, objects_in, objects};
 ghost use Rattle.g1_words.specs.Valid.{IsObject, Tiles};
@@ -9,6 +9,7 @@ use crate::fault::Fault;
 use crate::geometry::{Geometry, over};
 use crate::heap::Heap;
 use crate::region::{Kind, Region};
+use crate::words::Words;
 use std::alloc::Global;
 
 /// An object: its address, its size in words with the header, its number of references.
@@ -32,11 +33,17 @@ pub fn header(words: &[u64], at: u64) -> Object
     ensures size { result.size < 2 ^ 32 }
     ensures only { (o : Object) → o.at ≡ at → IsObject words.now o → o ≡ result }
 {
-    let header = words[at as usize];
+    object_of(words[at as usize], at)
+}
+
+/// What a word says, read as the header of the object that starts at an address.
+pub(crate) fn object_of(word: u64, at: u64) -> Object
+    ensures { result ≡ record { at = at; size = word / 2 ^ 32; refs = word % 2 ^ 32 } }
+{
     Object {
         at,
-        size: header / REFS_RANGE,
-        refs: header % REFS_RANGE,
+        size: word / REFS_RANGE,
+        refs: word % REFS_RANGE,
     }
 }
 
@@ -78,22 +85,22 @@ pub fn size_at(heap: &Heap, a: u64) -> u64
     requires { a < length heap.now.words }
     ensures { result ≡ (object_at heap.now a).size }
 {
-    header(heap.words(), a).size
+    heap.words().header(a).size
 }
 
 /// The object at an address among those that fill the words from one address up to another.
-pub(crate) fn object_between(words: &[u64], from: u64, to: u64, a: u64) -> Option<Object>
-    requires filled { Reaches words.now from to }
-    requires in_words { to ≤ length words.now }
-    ensures found { IfSome result (λ o. (o.at ≡ a) × StandsBetween words.now from to o) }
-    ensures none { IfNone result ((o : Object) → o.at ≡ a → StandsBetween words.now from to o → ⊥) }
+pub(crate) fn object_between(words: &Words, from: u64, to: u64, a: u64) -> Option<Object>
+    requires filled { Reaches words.now.items from to }
+    requires in_words { to ≤ length words.now.items }
+    ensures found { IfSome result (λ o. (o.at ≡ a) × StandsBetween words.now.items from to o) }
+    ensures none { IfNone result ((o : Object) → o.at ≡ a → StandsBetween words.now.items from to o → ⊥) }
 {
     let mut at = from;
     while at < a && at < to {
-        at += header(words, at).size;
+        at += words.header(at).size;
     }
     if at == a && at < to {
-        Some(header(words, at))
+        Some(words.header(at))
     } else {
         None
     }
@@ -138,7 +145,7 @@ pub fn object_at(heap: &Heap, a: u64) -> Option<Object>
         Kind::Ordinary => { object_between(heap.words(), start, start + u64::from(region.top), a) }
         Kind::HumongousFirst => {
             if a == start {
-                Some(header(heap.words(), a))
+                Some(heap.words().header(a))
             } else {
                 None
             }
@@ -151,20 +158,20 @@ pub fn object_at(heap: &Heap, a: u64) -> Option<Object>
 /// The addresses of the objects that fill the words from one address up to another.
 pub(crate) fn starts_between(
     alloc: Global,
-    words: &[u64],
+    words: &Words,
     from: u64,
     to: u64,
 ) -> Result<Vec<u64>, Fault>
-    requires filled { Reaches words.now from to }
-    requires in_words { to ≤ length words.now }
-    ensures ok { IfOk result (λ v. (os : List Object) × Tiles words.now from os to × (v.items ≡ map (λ o. o.at) os)) }
+    requires filled { Reaches words.now.items from to }
+    requires in_words { to ≤ length words.now.items }
+    ensures ok { IfOk result (λ v. (os : List Object) × Tiles words.now.items from os to × (v.items ≡ map (λ o. o.at) os)) }
     ensures memory { IfErr result (λ e. e ≡ Fault.Memory) }
 {
     let mut starts = Vec::new(alloc);
     let mut at = from;
     while at < to {
         starts.push(at)?;
-        at += header(words, at).size;
+        at += words.header(at).size;
     }
     Ok(starts)
 }

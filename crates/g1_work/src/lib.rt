@@ -39,4 +39,4 @@ pub use make::{Make, make_each};
 pub use ranges::{WORDS_A_THREAD, cut_regions, first_found, ordinary_words, used_words};
 pub use regions::each_region_mut;
 pub use task::Task;
-pub use team::{MOST_CHUNK, MOST_WORKERS, Team, threads_for};
+pub use team::{MOST_CHUNK, MOST_WORKERS, Team, USUAL_CHUNK, threads_for};

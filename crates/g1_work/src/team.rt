@@ -9,6 +9,9 @@ pub const MOST_WORKERS: u64 = 64;
 /// A draw costs nothing beside this many items: larger chunks would only leave other workers idle.
 pub const MOST_CHUNK: u64 = 65_536;
 
+/// The chunk where none is asked for. With one worker it changes nothing.
+pub const USUAL_CHUNK: u64 = 64;
+
 /// How many threads some items feed: each has the least number of them that is worth a thread, and no
 /// more threads run than there are workers. One runs in any case.
 pub fn threads_for(workers: u64, items: usize, least: usize) -> usize

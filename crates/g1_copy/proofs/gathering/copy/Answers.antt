@@ -1,4 +1,5 @@
 use Rattle.std.proofs.Common.{◌≡◌, ℕ, ◌+◌, ◌-◌, ◌<◌, ◌^◌, length, take, drop, get_or, arith, ap, subst, sym, ◌∙◌}
+use Rattle.std.proofs.Common.{length-take-le, length-drop}
 use Rattle.std.proofs.lemmas.List.{get_or-take, get_or-drop}
 use Rattle.g1_words.specs.Heap.{word}
 use Rattle.g1_words.specs.Layout.{moved_to}
@@ -6,15 +7,8 @@ use Rattle.g1_words.specs.Copy.{renamed, renamed_words}
 use Rattle.g1_copy.proofs.GatheringCopies.{places_of_plan, plan_there, renamed_is_copy}
 use Rattle.g1_copy.proofs.gathering.copy.Goals as goal
 
-pub offset_bounds-words-from : goal.offset_bounds-words-from
-offset_bounds-words-from c =
-    let t = plan_there c.args.heap.now c.args.plan.now c.args.object.now c.requires.heap c.requires.plan c.requires.object c.requires.survivor in
-    omega (arith, t.within, t.few, t.refs_fit)
-
-pub slice_bounds-copy_from_slice-end : goal.slice_bounds-copy_from_slice-end
-slice_bounds-copy_from_slice-end c =
-    let t = plan_there c.args.heap.now c.args.plan.now c.args.object.now c.requires.heap c.requires.plan c.requires.object c.requires.survivor in
-    omega (arith, t.within, t.few, c.requires.size, ap length c.words.ensures)
+pub words_of-requires : goal.words_of-requires
+words_of-requires c = (plan_there c.args.heap.now c.args.plan.now c.args.object.now c.requires.heap c.requires.plan c.requires.object c.requires.survivor).object
 
 pub rename-requires-clause-fits : goal.rename-requires-clause-fits
 rename-requires-clause-fits c =
@@ -26,11 +20,11 @@ rename-requires-clause-in_words c k some le =
     let h = c.args.heap.now in
     let o = c.args.object.now in
     let t = plan_there h c.args.plan.now o c.requires.heap c.requires.plan c.requires.object c.requires.survivor in
-    let n : ℕ = o.at + length c.args.copy.now - o.at in
+    let n : ℕ = o.at + o.size - o.at in
     let read : get_or c.copy_from_slice.new.self k 0 ≡ word h (o.at + k) =
-    ap (λ zs. get_or zs k 0) c.copy_from_slice.ensures.after
-    ∙ get_or-take n (drop o.at c.words.result.now) k 0 (omega (arith, t.refs_fit, c.requires.size))
-    ∙ get_or-drop o.at c.words.result.now k 0 ∙ ap (λ zs. get_or zs (o.at + k) 0) c.words.ensures in
+    ap (λ zs. get_or zs k 0) (c.copy_from_slice.ensures.after ∙ c.words_of.ensures)
+    ∙ get_or-take n (drop o.at h.words) k 0 (omega (arith, t.refs_fit))
+    ∙ get_or-drop o.at h.words k 0 in
     subst (λ x. renamed (moved_to c.args.plan.now.survivors c.args.plan.now.places) x < 2 ^ 64) (sym read) (t.slots k some le)
 
 pub returns : goal.returns
@@ -39,8 +33,17 @@ returns c =
     let p = c.args.plan.now in
     let o = c.args.object.now in
     let t = plan_there h p o c.requires.heap c.requires.plan c.requires.object c.requires.survivor in
-    let n : ℕ = o.at + length c.args.copy.now - o.at in
-    let from : c.copy_from_slice.new.self ≡ take n (drop o.at h.words) = c.copy_from_slice.ensures.after ∙ ap (λ zs. take n (drop o.at zs)) c.words.ensures in
+    let n : ℕ = o.at + o.size - o.at in
+    let from : c.copy_from_slice.new.self ≡ take n (drop o.at h.words) = c.copy_from_slice.ensures.after ∙ c.words_of.ensures in
     renamed_is_copy (moved_to p.survivors p.places) h o n c.copy_from_slice.new.self c.rename.new.words t.refs_fit (omega (arith, c.requires.size)) from
     (omega (arith, c.requires.size, c.copy_from_slice.ensures.len, c.rename.auto.words)) c.rename.ensures.slots c.rename.ensures.rest
     ∙ ap (λ ps. renamed_words (moved_to p.survivors ps) h o) (places_of_plan h p c.requires.plan)
+
+pub copy_from_slice-requires : goal.copy_from_slice-requires
+copy_from_slice-requires c =
+    let o = c.args.object.now in
+    let ws = c.args.heap.now.words in
+    let t = plan_there c.args.heap.now c.args.plan.now o c.requires.heap c.requires.plan c.requires.object c.requires.survivor in
+    let n : ℕ = o.at + o.size - o.at in
+    let many : length (take n (drop o.at ws)) ≡ n = length-take-le n (drop o.at ws) (omega (arith, t.within, length-drop o.at ws)) in
+    omega (arith, c.requires.size, ap length c.words_of.ensures, many)

@@ -1,5 +1,6 @@
-use Rattle.std.proofs.Common.{arith, ap, refl, subst, sym, suc, ℕ, ◌≡◌, ◌≤◌, ◌<◌, ◌+◌, ◌∙◌, ◌%◌, ◌^◌, slice_index, length}
-use Rattle.g1_words.specs.Heap.{Heap, word, object_at}
+use Rattle.std.proofs.Common.{arith, ap, refl, subst, sym, suc, ℕ, ◌≡◌, ◌≤◌, ◌<◌, ◌+◌, ◌∙◌, ◌%◌, ◌^◌, slice_index, Contains}
+use Rattle.g1_words.specs.Heap.{Heap, word, object_at, objects}
+use Rattle.g1_words.specs.declared.object.Object.{Object}
 use Rattle.g1_words.specs.Valid.{IsReference}
 use Rattle.g1_same.proofs.Heaps.{slot_names}
 use Rattle.g1_same.proofs.Steps.{has_slots}
@@ -17,7 +18,7 @@ use Rattle.g1_kept.proofs.linking.link_slots.Goals as goal
 pub link-requires-clause-x : goal.link-requires-clause-x
 link-requires-clause-x c =
     let g : Heap = c.args.pause.now.before.now in
-    let here = has_slots g c.args.a c.object-old.result c.words.result.now c.slots-here.result.now c.object-old.ensures.value c.words.ensures c.slots-here.ensures.count c.slots-here.ensures.each in
+    let here = has_slots g c.args.a c.object-old.result g.words c.slots-here.result.now c.object-old.ensures.value refl c.slots-here.ensures.count c.slots-here.ensures.each in
     let n : ℕ = c.loop-number.number in
     let lt : n < (object_at g c.args.a).refs = omega (arith, c.loop-number-test.true, here.count) in
     subst (IsReference g) (sym (here.each n c.loop-number-test.true)) (slot_names g c.args.a n c.valid.ensures c.requires.pair.before lt)
@@ -27,8 +28,8 @@ link-requires-clause-y c =
     let pause = c.args.pause.now in
     let g : Heap = pause.before.now in
     let h : Heap = pause.after.now in
-    let here = has_slots g c.args.a c.object-old.result c.words.result.now c.slots-here.result.now c.object-old.ensures.value c.words.ensures c.slots-here.ensures.count c.slots-here.ensures.each in
-    let there = has_slots h c.args.b c.object-new.result c.words-2.result.now c.slots-there.result.now c.object-new.ensures.value c.words-2.ensures
+    let here = has_slots g c.args.a c.object-old.result g.words c.slots-here.result.now c.object-old.ensures.value refl c.slots-here.ensures.count c.slots-here.ensures.each in
+    let there = has_slots h c.args.b c.object-new.result h.words c.slots-there.result.now c.object-new.ensures.value refl
     c.slots-there.ensures.count c.slots-there.ensures.each in
     let refs : (object_at g c.args.a).refs ≡ (object_at h c.args.b).refs = ap (λ q. q % 2 ^ 32) c.requires.alike.header in
     let n : ℕ = c.loop-number.number in
@@ -40,8 +41,8 @@ link-requires-clause-found c = λ x y ex ey of_set.
     let pause = c.args.pause.now in
     let g : Heap = pause.before.now in
     let h : Heap = pause.after.now in
-    let here = has_slots g c.args.a c.object-old.result c.words.result.now c.slots-here.result.now c.object-old.ensures.value c.words.ensures c.slots-here.ensures.count c.slots-here.ensures.each in
-    let there = has_slots h c.args.b c.object-new.result c.words-2.result.now c.slots-there.result.now c.object-new.ensures.value c.words-2.ensures
+    let here = has_slots g c.args.a c.object-old.result g.words c.slots-here.result.now c.object-old.ensures.value refl c.slots-here.ensures.count c.slots-here.ensures.each in
+    let there = has_slots h c.args.b c.object-new.result h.words c.slots-there.result.now c.object-new.ensures.value refl
     c.slots-there.ensures.count c.slots-there.ensures.each in
     let refs : (object_at g c.args.a).refs ≡ (object_at h c.args.b).refs = ap (λ q. q % 2 ^ 32) c.requires.alike.header in
     let n : ℕ = c.loop-number.number in
@@ -57,8 +58,8 @@ loop-number-preserved c =
     let pause = c.args.pause.now in
     let g : Heap = pause.before.now in
     let h : Heap = pause.after.now in
-    let here = has_slots g c.args.a c.object-old.result c.words.result.now c.slots-here.result.now c.object-old.ensures.value c.words.ensures c.slots-here.ensures.count c.slots-here.ensures.each in
-    let there = has_slots h c.args.b c.object-new.result c.words-2.result.now c.slots-there.result.now c.object-new.ensures.value c.words-2.ensures
+    let here = has_slots g c.args.a c.object-old.result g.words c.slots-here.result.now c.object-old.ensures.value refl c.slots-here.ensures.count c.slots-here.ensures.each in
+    let there = has_slots h c.args.b c.object-new.result h.words c.slots-there.result.now c.object-new.ensures.value refl
     c.slots-there.ensures.count c.slots-there.ensures.each in
     let refs : (object_at g c.args.a).refs ≡ (object_at h c.args.b).refs = ap (λ q. q % 2 ^ 32) c.requires.alike.header in
     let n : ℕ = c.loop-number.number in
@@ -98,8 +99,8 @@ returns-in-Some-clause-first c = λ t s turn.
     let set = pause.set.now in
     let g : Heap = pause.before.now in
     let h : Heap = pause.after.now in
-    let here = has_slots g c.args.a c.object-old.result c.words.result.now c.slots-here.result.now c.object-old.ensures.value c.words.ensures c.slots-here.ensures.count c.slots-here.ensures.each in
-    let there = has_slots h c.args.b c.object-new.result c.words-2.result.now c.slots-there.result.now c.object-new.ensures.value c.words-2.ensures
+    let here = has_slots g c.args.a c.object-old.result g.words c.slots-here.result.now c.object-old.ensures.value refl c.slots-here.ensures.count c.slots-here.ensures.each in
+    let there = has_slots h c.args.b c.object-new.result h.words c.slots-there.result.now c.object-new.ensures.value refl
     c.slots-there.ensures.count c.slots-there.ensures.each in
     let refs : (object_at g c.args.a).refs ≡ (object_at h c.args.b).refs = ap (λ q. q % 2 ^ 32) c.requires.alike.header in
     let w : Pairs = c.loop-number.pairs in
@@ -123,7 +124,7 @@ returns-clause-passed c = λ t s turn.
     let set = pause.set.now in
     let g : Heap = pause.before.now in
     let h : Heap = pause.after.now in
-    let here = has_slots g c.args.a c.object-old.result c.words.result.now c.slots-here.result.now c.object-old.ensures.value c.words.ensures c.slots-here.ensures.count c.slots-here.ensures.each in
+    let here = has_slots g c.args.a c.object-old.result g.words c.slots-here.result.now c.object-old.ensures.value refl c.slots-here.ensures.count c.slots-here.ensures.each in
     let w : Pairs = c.loop-number.pairs in
     let few : (object_at g c.args.a).refs ≤ c.loop-number.number = omega (arith, here.count, c.loop-number-test.false) in
     slots_on pause.fill set g h w.before.items w.after.items t c.args.a c.args.b c.loop-number.number (c.loop-number.invariant.search t s turn)
@@ -132,7 +133,7 @@ returns-clause-passed c = λ t s turn.
 pub returns-clause-paired : goal.returns-clause-paired
 returns-clause-paired c = λ n lt.
     let g : Heap = c.args.pause.now.before.now in
-    let here = has_slots g c.args.a c.object-old.result c.words.result.now c.slots-here.result.now c.object-old.ensures.value c.words.ensures c.slots-here.ensures.count c.slots-here.ensures.each in
+    let here = has_slots g c.args.a c.object-old.result g.words c.slots-here.result.now c.object-old.ensures.value refl c.slots-here.ensures.count c.slots-here.ensures.each in
     let few : (object_at g c.args.a).refs ≤ c.loop-number.number = omega (arith, here.count, c.loop-number-test.false) in
     c.loop-number.invariant.paired n (omega (arith, lt, few))
 
@@ -141,8 +142,8 @@ bounds-there-number c =
     let pause = c.args.pause.now in
     let g : Heap = pause.before.now in
     let h : Heap = pause.after.now in
-    let here = has_slots g c.args.a c.object-old.result c.words.result.now c.slots-here.result.now c.object-old.ensures.value c.words.ensures c.slots-here.ensures.count c.slots-here.ensures.each in
-    let there = has_slots h c.args.b c.object-new.result c.words-2.result.now c.slots-there.result.now c.object-new.ensures.value c.words-2.ensures
+    let here = has_slots g c.args.a c.object-old.result g.words c.slots-here.result.now c.object-old.ensures.value refl c.slots-here.ensures.count c.slots-here.ensures.each in
+    let there = has_slots h c.args.b c.object-new.result h.words c.slots-there.result.now c.object-new.ensures.value refl
     c.slots-there.ensures.count c.slots-there.ensures.each in
     let refs : (object_at g c.args.a).refs ≡ (object_at h c.args.b).refs = ap (λ q. q % 2 ^ 32) c.requires.alike.header in
     omega (arith, c.loop-number-test.true, here.count, there.count, refs)
@@ -155,8 +156,8 @@ link-requires-clause-other c = λ differ.
     let pause = c.args.pause.now in
     let g : Heap = pause.before.now in
     let h : Heap = pause.after.now in
-    let here = has_slots g c.args.a c.object-old.result c.words.result.now c.slots-here.result.now c.object-old.ensures.value c.words.ensures c.slots-here.ensures.count c.slots-here.ensures.each in
-    let there = has_slots h c.args.b c.object-new.result c.words-2.result.now c.slots-there.result.now c.object-new.ensures.value c.words-2.ensures
+    let here = has_slots g c.args.a c.object-old.result g.words c.slots-here.result.now c.object-old.ensures.value refl c.slots-here.ensures.count c.slots-here.ensures.each in
+    let there = has_slots h c.args.b c.object-new.result h.words c.slots-there.result.now c.object-new.ensures.value refl
     c.slots-there.ensures.count c.slots-there.ensures.each in
     let refs : (object_at g c.args.a).refs ≡ (object_at h c.args.b).refs = ap (λ q. q % 2 ^ 32) c.requires.alike.header in
     let n : ℕ = c.loop-number.number in
@@ -193,23 +194,11 @@ offset_bounds-there-number c =
     let few = ap (λ o. o.refs) c.object-old.ensures.value in
     record { fits = omega (arith, c.loop-number-test.true, refs, few) }
 
-pub slots-here-requires-clause-refs : goal.slots-here-requires-clause-refs
-slots-here-requires-clause-refs c = c.object-old.ensures.refs
+pub slots-here-requires : goal.slots-here-requires
+slots-here-requires c = subst (λ (o : Object). Contains (objects c.args.pause.now.before.now) o) (sym c.object-old.ensures.value) c.requires.pair.before
 
-pub slots-there-requires-clause-refs : goal.slots-there-requires-clause-refs
-slots-there-requires-clause-refs c = c.object-new.ensures.refs
-
-pub slots-here-requires-clause-within : goal.slots-here-requires-clause-within
-slots-here-requires-clause-within c =
-    let at = ap (λ o. o.at) c.object-old.ensures.value in
-    let words = ap length c.words.ensures in
-    omega (arith, at, words, c.object-old.ensures.within)
-
-pub slots-there-requires-clause-within : goal.slots-there-requires-clause-within
-slots-there-requires-clause-within c =
-    let at = ap (λ o. o.at) c.object-new.ensures.value in
-    let words = ap length c.words-2.ensures in
-    omega (arith, at, words, c.object-new.ensures.within)
+pub slots-there-requires : goal.slots-there-requires
+slots-there-requires c = subst (λ (o : Object). Contains (objects c.args.pause.now.after.now) o) (sym c.object-new.ensures.value) c.requires.pair.after
 
 pub returns-in-Some-clause-paired : goal.returns-in-Some-clause-paired
 returns-in-Some-clause-paired c = tt

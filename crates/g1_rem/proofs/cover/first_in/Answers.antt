@@ -13,15 +13,15 @@ front c =
     asking_front c.args.image.now c.args.region c.objects.at c.objects_end-end.result c.objects.places c.heap-heap.ensures.valid.heap c.requires.region c.objects.invariant c.objects-test.true
 
 -- the words that were read are the heap's
-the_words : (c : After-words) → c.words.result.now ≡ c.args.image.now.heap.words
-the_words c = c.words.ensures ∙ ap (λ (h : Heap). h.words) c.heap-heap.ensures.same
+the_words : (c : After-words) → c.words.result.now.items ≡ c.args.image.now.heap.words
+the_words c = c.words.ensures.same ∙ ap (λ (h : Heap). h.words) c.heap-heap.ensures.same
 
 -- its number of references and its size, as they were read
 refs_read : (c : After-header-object) → c.header-object.result.refs ≡ word c.args.image.now.heap c.objects.at % 2 ^ 32
-refs_read c = ap (λ o. o.refs) c.header-object.ensures.value ∙ ap (λ l. slice_index l c.objects.at % 2 ^ 32) (c.words.ensures ∙ ap (λ (h : Heap). h.words) c.heap-heap.ensures.same)
+refs_read c = ap (λ o. o.refs) c.header-object.ensures.value ∙ ap (λ l. slice_index l c.objects.at % 2 ^ 32) (c.words.ensures.same ∙ ap (λ (h : Heap). h.words) c.heap-heap.ensures.same)
 
 size_read : (c : After-header-object) → c.header-object.result.size ≡ (object_at c.args.image.now.heap c.objects.at).size
-size_read c = ap (λ o. o.size) c.header-object.ensures.value ∙ ap (λ l. slice_index l c.objects.at / 2 ^ 32) (c.words.ensures ∙ ap (λ (h : Heap). h.words) c.heap-heap.ensures.same)
+size_read c = ap (λ o. o.size) c.header-object.ensures.value ∙ ap (λ l. slice_index l c.objects.at / 2 ^ 32) (c.words.ensures.same ∙ ap (λ (h : Heap). h.words) c.heap-heap.ensures.same)
 
 -- the object has a word at least, and ends within the words
 fits : (c : In-objects) (size : ℕ) → size ≡ (object_at c.args.image.now.heap c.objects.at).size → (0 < size) × (c.objects.at + size ≤ most_words)

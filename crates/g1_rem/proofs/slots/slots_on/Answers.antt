@@ -50,13 +50,18 @@ row c =
 
 pub slots_between-requires-clause-filled : goal.slots_between-requires-clause-filled
 slots_between-requires-clause-filled c =
-    subst (λ l. Reaches l c.from-at.result c.match-region.end) (sym c.words.ensures) (row c).filled
+    subst (λ l. Reaches l c.from-at.result c.match-region.end) (sym c.words.ensures.same) (row c).filled
 
 pub slots_between-requires-clause-in_words : goal.slots_between-requires-clause-in_words
-slots_between-requires-clause-in_words c = let w = ap length c.words.ensures in omega (arith, (row c).in_words, w)
+slots_between-requires-clause-in_words c = let w = ap length c.words.ensures.same in omega (arith, (row c).in_words, w)
 
 pub returns-after-region-clause-items : goal.returns-after-region-clause-items
 returns-after-region-clause-items c =
     let r = row c.before in
-    c.slots_between.ensures.items r.filled.0 (subst (λ l. Tiles l c.from-at.result r.filled.0 c.match-region.end) (sym c.words.ensures) r.filled.1)
+    c.slots_between.ensures.items r.filled.0 (subst (λ l. Tiles l c.from-at.result r.filled.0 c.match-region.end) (sym c.words.ensures.same) r.filled.1)
     ∙ r.all r.filled.0 r.filled.1
+
+pub slots_between-requires-clause-small : goal.slots_between-requires-clause-small
+slots_between-requires-clause-small c =
+    let valid = c.geometry-geometry.ensures.valid in
+    omega (arith, (row c).in_words, valid.word_count, valid.limits.words_most)

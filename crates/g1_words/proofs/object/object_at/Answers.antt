@@ -21,8 +21,8 @@ returns-in-Ordinary-clause-found c =
     let kind : (region h r).kind ≡ Ordinary = cc in
     let from : c.start-start.result ≡ start h r = cc in
     let to : c.start-start.result + c.from.result ≡ end h r = cc in
-    found_listed h c.args.a c.object_between.result g.valid (ordinary_found h r c.args.a c.words.result.now c.start-start.result (c.start-start.result + c.from.result)
-    c.object_between.result g.valid (omega arith) kind c.words.ensures from to c.object_between.ensures.found)
+    found_listed h c.args.a c.object_between.result g.valid (ordinary_found h r c.args.a c.words.result.now.items c.start-start.result (c.start-start.result + c.from.result)
+    c.object_between.result g.valid (omega arith) kind c.words.ensures.same from to c.object_between.ensures.found)
 
 pub returns-in-Ordinary-clause-none : goal.returns-in-Ordinary-clause-none
 returns-in-Ordinary-clause-none c =
@@ -34,8 +34,8 @@ returns-in-Ordinary-clause-none c =
     let kind : (region h r).kind ≡ Ordinary = cc in
     let from : c.start-start.result ≡ start h r = cc in
     let to : c.start-start.result + c.from.result ≡ end h r = cc in
-    missing_listed h c.args.a c.object_between.result g.valid (ordinary_none h r c.args.a c.words.result.now c.start-start.result (c.start-start.result + c.from.result)
-    c.object_between.result g.valid (omega arith) kind c.words.ensures from to e c.object_between.ensures.none)
+    missing_listed h c.args.a c.object_between.result g.valid (ordinary_none h r c.args.a c.words.result.now.items c.start-start.result (c.start-start.result + c.from.result)
+    c.object_between.result g.valid (omega arith) kind c.words.ensures.same from to e c.object_between.ensures.none)
 
 pub returns-then-a-start-clause-found : goal.returns-then-a-start-clause-found
 returns-then-a-start-clause-found c =
@@ -46,7 +46,7 @@ returns-then-a-start-clause-found c =
     let kind : (region h r).kind ≡ HumongousFirst = cc in
     let here : c.args.a ≡ start h r = cc in
     one_listed h c.args.a c.header.result g.valid c.header.ensures.at
-    (first_there h r c.words-then-a-start.result.now c.header.result g.valid (omega arith) kind c.words-then-a-start.ensures
+    (first_there h r c.words-then-a-start.result.now.items c.header.result g.valid (omega arith) kind c.words-then-a-start.ensures.same
     (c.header.ensures.at ∙ here) (λ o e i. c.header.ensures.only o (e ∙ sym here) i))
 
 pub returns-else-a-start-clause-none : goal.returns-else-a-start-clause-none

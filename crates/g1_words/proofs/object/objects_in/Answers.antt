@@ -10,14 +10,14 @@ pub returns-in-Ordinary-clause-ok : goal.returns-in-Ordinary-clause-ok
 returns-in-Ordinary-clause-ok c =
     let h = c.args.heap.now in
     let r = c.args.region in
-    let words = c.words.result.now in
+    let words = c.words.result.now.items in
     let from = c.start-start.result in
     let to = c.start-start.result + c.from.result in
     let is : kind h r ≡ Ordinary = cc in
     let at : c.start-start.result ≡ start h r = cc in
     let until : c.start-start.result + c.from.result ≡ end h r = cc in
     IfOk-then (λ v. (os : List Object) × Tiles words from os to × (v.items ≡ map (λ o. o.at) os)) (λ v. v.items ≡ map (λ o. o.at) (objects_in h r)) c.starts_between.result
-    (λ v. ordinary_listed h r v.items words from to is c.words.ensures at until) c.starts_between.ensures.ok
+    (λ v. ordinary_listed h r v.items words from to is c.words.ensures.same at until) c.starts_between.ensures.ok
 
 pub returns-in_ok-vec-in-HumongousFirst-clause-ok : goal.returns-in_ok-vec-in-HumongousFirst-clause-ok
 returns-in_ok-vec-in-HumongousFirst-clause-ok c =

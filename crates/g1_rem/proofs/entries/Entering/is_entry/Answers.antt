@@ -14,8 +14,8 @@ entry c =
     let r = c.args.self.now.region in
     let a = c.in-Some.target in
     let p = c.args.slot in
-    let named : slice_index c.words.result.now c.args.slot ≡ suc c.in-Some.target = omega (arith, c.in-Some.ensures) in
-    let read = ap (λ l. slice_index l p) (c.words.ensures ∙ ap (λ (h : Heap). h.words) c.heap-heap.ensures.same) in
+    let named : slice_index c.words.result.now.items c.args.slot ≡ suc c.in-Some.target = omega (arith, c.in-Some.ensures, c.at.ensures) in
+    let read = ap (λ l. slice_index l p) (c.words.ensures.same ∙ ap (λ (h : Heap). h.words) c.heap-heap.ensures.same) in
     let same = c.geometry-geometry.ensures.same ∙ ap (λ (h : Heap). h.geometry) c.heap-heap.ensures.same in
     entry_named h r p a (sym read ∙ named) ∙ ap (λ g. eqb (a / g.w) r && not (eqb (p / g.w) r)) (sym same)
     ∙ ap (λ x. eqb (a / c.geometry-geometry.result.w) x && not (eqb (p / c.geometry-geometry.result.w) x)) (sym c.from-region.ensures)
@@ -35,5 +35,5 @@ returns-else-region_of-region-clause-same c =
 
 pub returns-in-None-clause-same : goal.returns-in-None-clause-same
 returns-in-None-clause-same c =
-    let none : slice_index c.words.result.now c.args.slot ≡ 0 = omega (arith, c.in-None.ensures) in
-    sym (entry_null c.args.self.now.image.now.heap c.args.self.now.region c.args.slot (sym (ap (λ l. slice_index l c.args.slot) (c.words.ensures ∙ ap (λ (h : Heap). h.words) c.heap-heap.ensures.same)) ∙ none))
+    let none : slice_index c.words.result.now.items c.args.slot ≡ 0 = omega (arith, c.in-None.ensures, c.at.ensures) in
+    sym (entry_null c.args.self.now.image.now.heap c.args.self.now.region c.args.slot (sym (ap (λ l. slice_index l c.args.slot) (c.words.ensures.same ∙ ap (λ (h : Heap). h.words) c.heap-heap.ensures.same)) ∙ none))

@@ -1,0 +1,16 @@
+use Rattle.std.proofs.Common.{arith, subst, sym, Contains}
+use Rattle.g1_words.specs.Heap.{Heap, objects}
+use Rattle.g1_words.proofs.LaidObjects.{object_laid}
+use Rattle.g1_words.proofs.heap.Heap.slots.Goals as goal
+
+pub slots-requires-clause-refs : goal.slots-requires-clause-refs
+slots-requires-clause-refs c =
+    let h : Heap = record { geometry = c.self.inside.geometry; words = c.self.inside.words.items; regions = c.self.inside.regions.items; roots = c.self.inside.roots.items; current = c.self.inside.current } in
+    let o = object_laid h c.self.inside.words.laid c.args.object.now c.self.invariant.0 c.self.invariant.1 (subst (λ (h : Heap). Contains (objects h) c.args.object.now) (sym c.self.view_is) c.requires) in
+    o.0
+
+pub slots-requires-clause-within : goal.slots-requires-clause-within
+slots-requires-clause-within c =
+    let h : Heap = record { geometry = c.self.inside.geometry; words = c.self.inside.words.items; regions = c.self.inside.regions.items; roots = c.self.inside.roots.items; current = c.self.inside.current } in
+    let o = object_laid h c.self.inside.words.laid c.args.object.now c.self.invariant.0 c.self.invariant.1 (subst (λ (h : Heap). Contains (objects h) c.args.object.now) (sym c.self.view_is) c.requires) in
+    omega (arith, o.1, c.laid.ensures.many)
