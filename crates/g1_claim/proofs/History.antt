@@ -18,7 +18,7 @@ use Rattle.g1_claim.proofs.Totals.{hands_total-set, hands_total-snoc}
 
 -- lists of offers
 
-least_in_top : (p : ℕ) (log : History) → least_in p log ≤ empty
+pub least_in_top : (p : ℕ) (log : History) → least_in p log ≤ empty
 least_in_top p [] = omega arith
 least_in_top p (b ∷ log) = let r = least_in_top p log in omega arith
 

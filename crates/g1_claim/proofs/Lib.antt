@@ -3,3 +3,4 @@ pub mod Totals
 pub mod History
 pub mod Steps
 pub mod Interleaving
+pub mod Seen

@@ -1,5 +1,5 @@
 -- What one round of claims gives.
-use Rattle.std.proofs.Common.{◌≡◌, ◌≢◌, ℕ, ◌+◌, ◌-◌, ◌<◌, ◌≤◌, Bool, true, false, cond, eqb, eq-eqb, eqb-true, List, [], ◌∷◌, map, filter, sym, refl, ap, ◌∙◌, subst, inl, inr, arith}
+use Rattle.std.proofs.Common.{◌≡◌, ◌≢◌, ℕ, ◌+◌, ◌-◌, ◌<◌, ◌≤◌, ◌^◌, length, Bool, true, false, cond, eqb, eq-eqb, eqb-true, List, [], ◌∷◌, map, filter, sym, refl, ap, ◌∙◌, subst, inl, inr, arith}
 use Rattle.std.proofs.Common.{Contains, IsPermutation, All, AllPairs, Vec, Global}
 use Rattle.std.specs.List.{flat_map}
 use Rattle.std.proofs.lemmas.List.Sorted.{IsPermutation-sym, IsPermutation-map}
@@ -19,7 +19,7 @@ use Rattle.g1_words.proofs.Rising.{Ordered-map}
 use Rattle.g1_rem.specs.Slots.{slots_on}
 use Rattle.g1_frontier.specs.declared.item.Item.{Item}
 use Rattle.g1_frontier.specs.declared.item.Item.TheVariants.{Root, Card, Object}
-use Rattle.g1_frontier.specs.Items.{IsItem, aims, pairs, all_pairs}
+use Rattle.g1_frontier.specs.Items.{IsItem, AreRanks, aims, pairs, all_pairs}
 use Rattle.g1_frontier.specs.Numbers.{BeginsIn}
 use Rattle.g1_frontier.proofs.Names.{root_reference, card_reference, object_reference}
 use Rattle.g1_frontier.specs.Offering.{Try, pair_of, answered_true, offer_of}
@@ -124,6 +124,14 @@ some_differ (m ∷ ms) o =
       | false ↦ some_differ ms o.1
     ]
 
+-- rising ranks between two bounds
+rises_few : (qs : List (ℕ × ℕ)) (low n : ℕ) → low ≤ n → Ordered RankLess qs → ((q : ℕ × ℕ) → In qs q → low ≤ q.0) → ((q : ℕ × ℕ) → In qs q → q.0 < n) → low + length qs ≤ n
+rises_few [] low n le o above below = omega (arith, le)
+rises_few (q ∷ qs) low n le o above below =
+    let lt = below q (inl refl) in
+    let more = rises_few qs (q.0 + 1) n (omega (arith, lt)) o.1 (λ x i. let k = o.0 x i in omega (arith, k)) (λ x i. below x (inr i)) in
+    let here = above q (inl refl) in omega (arith, more, here)
+
 -- ---- the round
 
 module _ (t : TableView) (place : ℕ → ℕ) (ps : List (ℕ × ℕ)) (before after : SeatView) (lists : List (List (ℕ × ℕ))) (o : HasOffered t place ps before after lists) where
@@ -146,12 +154,24 @@ module _ (t : TableView) (place : ℕ → ℕ) (ps : List (ℕ × ℕ)) (before 
     merged_from q i = in_permuted (map pair_of o.made) ps q o.each (in_some o.made q
         (in_permuted merged (map pair_of (filter answered_true o.made)) q (IsPermutation-sym (map pair_of (filter answered_true o.made)) merged kept_all) i))
 
+    made_differ : Ordered RankLess ps → Ordered RanksDiffer (map pair_of o.made)
+    made_differ risen = differ_permuted ps (map pair_of o.made) (IsPermutation-sym (map pair_of o.made) ps o.each) (rises_differ ps risen)
+
+    strictly_by_rank : Ordered RankLess ps → IsByRank merged → Ordered RankLess merged
+    strictly_by_rank risen in_order =
+        rises_strictly merged (Ordered-from_pairs (λ (q r : ℕ × ℕ). q.0 ≤ r.0) merged in_order)
+        (differ_permuted (map pair_of (filter answered_true o.made)) merged kept_all (some_differ o.made (made_differ risen)))
+
+    -- they are no more than there are ranks
+    pub merged_few : Rises ps → AreRanks ps → IsByRank merged → length merged ≤ 2 ^ 32
+    merged_few rise small in_order =
+        let few = rises_few merged 0 (2 ^ 32) (omega arith) (strictly_by_rank (Ordered-from_pairs RankLess ps rise) in_order) (λ q i. omega arith)
+        (λ q i. all_in (λ q. q.0 < 2 ^ 32) ps q small (merged_from q i)) in omega (arith, few)
+
     pub round_won : Rises ps → AreAbove before.hand.offers ps → IsByRank merged → winners place after.hand.offers merged ≡ winners place after.hand.offers ps
     round_won rise above in_order =
         let risen : Ordered RankLess ps = Ordered-from_pairs RankLess ps rise in
-        let differ : Ordered RanksDiffer (map pair_of o.made) = differ_permuted ps (map pair_of o.made) (IsPermutation-sym (map pair_of o.made) ps o.each) (rises_differ ps risen) in
-        let strictly : Ordered RankLess merged =
-        rises_strictly merged (Ordered-from_pairs (λ (q r : ℕ × ℕ). q.0 ≤ r.0) merged in_order)
-        (differ_permuted (map pair_of (filter answered_true o.made)) merged kept_all (some_differ o.made differ)) in
+        let differ : Ordered RanksDiffer (map pair_of o.made) = made_differ risen in
+        let strictly : Ordered RankLess merged = strictly_by_rank risen in_order in
         merged_won place ps merged before.hand.offers after.hand.offers o.made o.offers o.each risen differ
         (λ a q i j e. let lt = all_in (λ q. a.rank < q.0) ps q (all_in (λ a. All (λ q. a.rank < q.0) ps) before.hand.offers a above i) j in omega (arith, lt, e)) o.settled kept_all strictly

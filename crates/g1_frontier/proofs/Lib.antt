@@ -12,6 +12,8 @@ pub mod Offerings
 pub mod Pieces
 pub mod Assembly
 pub mod Winning
+pub mod Looks
+pub mod Looked
 pub mod Merges
 pub mod Claimed
 pub mod Alone

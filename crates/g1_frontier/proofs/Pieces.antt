@@ -1,7 +1,7 @@
 -- Items cut into chunks.
-use Rattle.std.proofs.Common.{◌≡◌, ℕ, zero, suc, ◌+◌, ◌-◌, ◌*◌, ◌/◌, ◌<◌, ◌≤◌, inl, inr, List, [], ◌∷◌, ◌++◌, length, take, drop, min, sym, refl, ap, ◌∙◌, subst, arith, lt_of_not-le}
-use Rattle.std.specs.List.{flat_map, enumerate_from}
-use Rattle.std.proofs.lemmas.List.{drop-drop, take_rest, take_min}
+use Rattle.std.proofs.Common.{◌≡◌, ℕ, zero, suc, ◌+◌, ◌-◌, ◌*◌, ◌/◌, ◌<◌, ◌≤◌, inl, inr, List, [], ◌∷◌, ◌++◌, length, map, take, drop, min, sym, refl, ap, ◌∙◌, subst, arith, lt_of_not-le}
+use Rattle.std.specs.List.{flat_map, enumerate_from, range_with_len, AllZip}
+use Rattle.std.proofs.lemmas.List.{drop-drop, take_rest, take_min, map-append}
 use Rattle.std.proofs.lemmas.List.Concat.{flat_map-append}
 use Rattle.std.proofs.lemmas.Nat.{div-add-mod'}
 use Rattle.std.proofs.Math.Nat.{mod-lt, mul-le-mul_right, mul-le-mul_left}
@@ -63,6 +63,25 @@ module _ {A B : Type 0} (f : A → List B) (size : ℕ) (xs : List A) where
   pub all_pieces : {O : Type 0} (os : List O) → length xs ≤ length os * size → flat_map (λ x. flat_map f (slice_of size x.0 xs)) (enumerate_from 0 os) ≡ flat_map f xs
   all_pieces os le = pieces_from os 0 (subst (λ n. length xs ≤ n * size) (let e : length os ≡ 0 + length os = omega arith in e) le)
       ∙ ap (λ n. flat_map f (drop n xs)) (let e : 0 * size ≡ 0 = omega arith in e)
+
+-- what is made of each part of a list is what is made of the whole
+module _ {A B O : Type 0} (f : A → B) (items : O → List B) (size : ℕ) (xs : List A) where
+  parts_from : (j m : ℕ) (os : List O) → length xs ≤ (j + m) * size → AllZip (λ k o. items o ≡ map f (slice_of size k xs)) (range_with_len j m) os → flat_map items os ≡ map f (drop (j * size) xs)
+  parts_from j zero [] le z = ap (map f) (sym (drop_all xs (j * size) (omega (arith, le))))
+  parts_from j zero (o ∷ os) le z = absurd z
+  parts_from j (suc m) [] le z = absurd z
+  parts_from j (suc m) (o ∷ os) le z =
+      let e : j + 1 + m ≡ j + suc m = omega arith in
+      let rest = parts_from (j + 1) m os (subst (λ n. length xs ≤ n * size) (sym e) le) z.1 in
+      let next : drop size (drop (j * size) xs) ≡ drop ((j + 1) * size) xs = drop-drop size (j * size) xs ∙ ap (λ n. drop n xs) (let e : j * size + size ≡ (j + 1) * size = omega arith in e) in
+      (λ i. z.0 i ++ (rest ∙ ap (map f) (sym next)) i)
+      ∙ sym (map-append f (slice_of size j xs) (drop size (drop (j * size) xs)))
+      ∙ ap (map f) (take_drop size (drop (j * size) xs))
+
+  pub parts_all : (m : ℕ) (os : List O) → length xs ≤ m * size → AllZip (λ k o. items o ≡ map f (slice_of size k xs)) (range_with_len 0 m) os → flat_map items os ≡ map f xs
+  parts_all m os le z =
+      let e : m ≡ 0 + m = omega arith in
+      parts_from 0 m os (subst (λ n. length xs ≤ n * size) e le) z ∙ ap (λ n. map f (drop n xs)) (let e : 0 * size ≡ 0 = omega arith in e)
 
 -- ---- pieces in order
 

@@ -3,6 +3,7 @@ pub mod Items
 pub mod Numbers
 pub mod Scope
 pub mod Offering
+pub mod Looking
 pub mod Round
 pub mod Search
 pub mod Queue

@@ -2,7 +2,7 @@
 use Rattle.std.specs.Prelude.{◌≡◌, ℕ, ◌+◌, ◌<◌, ◌≤◌, Bool, eqb, List, [], ◌∷◌, ◌++◌, map, filter, flat_map, length, sum_by, IsPermutation}
 use Rattle.std.specs.List.{All, AllPairs}
 use Rattle.g1_claim.specs.declared.rule.Offer.{Offer}
-use Rattle.g1_claim.specs.Claims.{all_shares, TableView, SeatView, IsSeatOf, IsSettled, least_rank}
+use Rattle.g1_claim.specs.Claims.{all_shares, TableView, SeatView, IsSeatOf, IsSettled, AreWon, least_rank}
 use Rattle.g1_frontier.specs.declared.offering.Holder.{Holder}
 use Rattle.g1_frontier.specs.Offering.{Try, pair_of, answered_true, offer_of}
 
@@ -41,7 +41,7 @@ pub record IsFreshHolder (t : TableView) (h : Holder) : Type 0 where
   pub no_offers : h.seat.hand.offers ≡ []
   pub none_kept : h.kept.items ≡ []
 
--- so many workers; the last one has the shares that are left, and what the seat offered
+-- so many workers; the last one has the shares that are left, and what the seat offered; each has seen what the seat has
 pub record IsGivenOut (t : TableView) (before : SeatView) (count : ℕ) (holders : List Holder) : Type 0 where
   pub others : List Holder
   pub last : Holder
@@ -52,6 +52,7 @@ pub record IsGivenOut (t : TableView) (before : SeatView) (count : ℕ) (holders
   pub shares : length others + last.seat.hand.shares ≡ all_shares
   pub offers : last.seat.hand.offers ≡ before.hand.offers
   pub none_kept : last.kept.items ≡ []
+  pub seen : All (λ h. h.seat.seen ≡ before.seen) holders
 
 -- all seats in one, and what each worker kept, the last one's first
 pub record HasTaken (t : TableView) (holders : List Holder) (after : SeatView) (lists : List (List (ℕ × ℕ))) : Type 0 where
@@ -62,7 +63,9 @@ pub record HasTaken (t : TableView) (holders : List Holder) (after : SeatView) (
   pub shares : after.hand.shares ≡ last.seat.hand.shares + sum_by (λ h. h.seat.hand.shares) others
   pub offers : after.hand.offers ≡ last.seat.hand.offers ++ flat_map (λ h. h.seat.hand.offers) others
   pub kept : lists ≡ last.kept.items ∷ map (λ h. h.kept.items) others
+  pub sights : after.hand.sights ≡ last.seat.hand.sights ++ flat_map (λ h. h.seat.hand.sights) others
   pub settled : after.hand.shares ≡ all_shares → IsSettled after.hand.offers
+  pub won : after.hand.shares ≡ all_shares → AreWon after.hand.sights after.hand.offers
 
 -- the pairs were offered, each once, by whatever workers; each of these kept those whose offer answered true, by rising rank
 pub record HasOffered (t : TableView) (place : ℕ → ℕ) (ps : List (ℕ × ℕ)) (before after : SeatView) (lists : List (List (ℕ × ℕ))) : Type 0 where

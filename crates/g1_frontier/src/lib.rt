@@ -16,13 +16,15 @@
 //! 3. The workers draw chunks of a round's items. For each slot that references an object in the
 //!    window they offer its rank at the object's place, and keep rank and address if the offer
 //!    lowered the word.
-//! 4. When all have ended, their lists are merged by rank. An address whose rank is still the word
-//!    is found. A worker alone offers by rising rank, so all that it kept is found.
-//! 5. What a round found is the next round's items, until a round finds nothing. Since ranks rise
-//!    over all rounds, a place that has a word keeps it.
+//! 4. When all have ended, their lists are merged by rank, and the workers look at the words again,
+//!    each at a part of the list. An address whose rank is still the word is found. A worker alone
+//!    offers by rising rank, so all that it kept is found.
+//! 5. What a round found is the next round's items, until a round finds nothing. The workers count the
+//!    slots of these objects, and one thread numbers them on. Since ranks rise over all rounds, a
+//!    place that has a word keeps it.
 //!
 //! The chunk says how many items a worker draws at once, and nothing else. A round hires one worker for
-//! each 2,048 items, and the first rounds at least two. A round of one worker, or of one chunk, makes
+//! each 2,048 items, and the first rounds at least two; a second look one for each 4,096 of what was kept. A round of one worker, or of one chunk, makes
 //! the same offers and starts no thread.
 //!
 //! A worker alone competes with nobody, so it takes no rounds and no claim table. It finds what is
@@ -37,8 +39,10 @@
 #![tactic(auto)]
 
 mod crew;
+mod headers;
 mod item;
 pub mod laws;
+mod looking;
 mod numbers;
 mod offering;
 mod queue;

@@ -131,7 +131,7 @@ impl<'a> Offers<'a> {
         let words = self.scope.heap.words();
         let slots = slots_on(alloc, self.scope.heap, self.scope.starts, card);
         for slot in slots.as_slice() {
-            self.offer_named(holder, words[*slot as usize], base, *slot)?;
+            self.offer_named(holder, words.at(*slot), base, *slot)?;
         }
         Ok(())
     }
@@ -154,7 +154,7 @@ impl<'a> Offers<'a> {
         let words = self.scope.heap.words();
         let first = at + 1;
         for slot in first..first + refs {
-            self.offer_named(holder, words[slot as usize], base, slot - first)?;
+            self.offer_named(holder, words.at(slot), base, slot - first)?;
         }
         Ok(())
     }

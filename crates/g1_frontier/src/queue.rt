@@ -85,7 +85,7 @@ impl Queue {
         let words = scope.heap.words();
         let slots = slots_on(alloc, scope.heap, scope.starts, card);
         for slot in slots.as_slice() {
-            self.note(scope, words[*slot as usize])?;
+            self.note(scope, words.at(*slot))?;
         }
         Ok(())
     }
@@ -113,7 +113,7 @@ impl Queue {
         let words = scope.heap.words();
         let first = object.at + 1;
         for slot in first..first + object.refs {
-            self.note(scope, words[slot as usize])?;
+            self.note(scope, words.at(slot))?;
         }
         Ok(())
     }

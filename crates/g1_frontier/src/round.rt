@@ -13,7 +13,8 @@ ghost use Rattle.g1_frontier.specs.Round.{Rises, AreAbove, AddsOffers, winners, 
 
 use crate::crew::Crew;
 use crate::item::Item;
-use crate::offering::{Holder, Offers, Round, keep_if};
+use crate::looking::look_again;
+use crate::offering::{Holder, Offers, Round};
 use crate::scope::{Numbering, Scope, positions};
 use g1_claim::{ClaimSeat, Claims};
 use g1_rem::Starts;
@@ -25,7 +26,7 @@ use std::thread::Threads;
 
 // A seat for each worker. The last one keeps the shares that are left, and what the whole seat
 // offered before.
-fn give_out(
+pub(crate) fn give_out(
     alloc: Global,
     claims: &Claims,
     mut seat: ClaimSeat,
@@ -62,6 +63,7 @@ fn join_all(
     ensures seat { IsSeatOf claims.now seat.new }
     ensures shares { OnOk result (seat.new.hand.shares ≡ seat.old.hand.shares + sum_by (λ h. h.seat.hand.shares) others.items) }
     ensures offers { OnOk result (seat.new.hand.offers ≡ seat.old.hand.offers ++ flat_map (λ h. h.seat.hand.offers) others.items) }
+    ensures sights { OnOk result (seat.new.hand.sights ≡ seat.old.hand.sights ++ flat_map (λ h. h.seat.hand.sights) others.items) }
     ensures kept { OnOk result (map (λ l. l.items) lists.new.items ≡ map (λ l. l.items) lists.old.items ++ map (λ h. h.kept.items) others.items) }
 {
     for holder in others {
@@ -73,7 +75,7 @@ fn join_all(
 }
 
 // Puts the seats together again, and what each worker kept side by side.
-fn take_in(
+pub(crate) fn take_in(
     alloc: Global,
     claims: &Claims,
     mut holders: Vec<Holder>,
@@ -165,31 +167,6 @@ fn merge(alloc: Global, lists: Vec<Vec<(u64, u64)>>) -> Result<Vec<(u64, u64)>, 
     Ok(merged)
 }
 
-// Of the pairs, those whose rank is the word of their place now.
-fn still_there(
-    alloc: Global,
-    scope: &Scope,
-    claims: &Claims,
-    seat: &mut ClaimSeat,
-    pairs: &[(u64, u64)],
-) -> Result<Vec<(u64, u64)>, AllocError>
-    requires places { HasPlaces scope.now claims.now }
-    requires seat { IsSeatOf claims.now seat.old × (seat.old.hand.shares ≡ all_shares) }
-    requires inside { All (λ q. BeginsIn scope.now.heap.now scope.now.window.now q.1) pairs.now }
-    ensures seat { IsSeatOf claims.now seat.new × (seat.new.hand.shares ≡ all_shares) × (seat.new.hand.offers ≡ seat.old.hand.offers) }
-    ensures won { IfOk result (λ v. v.items ≡ winners (place_in scope.now) seat.old.hand.offers pairs.now) }
-{
-    let mut kept = Vec::new(alloc);
-    for pair in pairs {
-        let Some(place) = scope.place(pair.1) else {
-            unreachable!()
-        };
-        let word = claims.least(seat, place);
-        keep_if(&mut kept, word == pair.0, pair.0, pair.1)?;
-    }
-    Ok(kept)
-}
-
 // Offers what all items reference in the window, by the whole crew: the whole seat after, and what won.
 fn offer_by_crew<R: Threads + Sync, G: Gate + Sync>(
     crew: &Crew<'_, R, G>,
@@ -208,9 +185,9 @@ fn offer_by_crew<R: Threads + Sync, G: Gate + Sync>(
     ensures ok { IfOk result (λ r. IsRound claims.now (place_in scope.now) (all_pairs_in scope.now items.now) seat r.0 r.1.items) }
     ensures memory { IfErr result (λ e. e ≡ Memory) }
 {
-    let (mut seat, lists) = offer_all(crew, scope, claims, seat, items)?;
+    let (seat, lists) = offer_all(crew, scope, claims, seat, items)?;
     let kept = merge(crew.alloc, lists)?;
-    let won = still_there(crew.alloc, scope, claims, &mut seat, kept.as_slice())?;
+    let (seat, won) = look_again(crew, scope, claims, seat, kept.as_slice())?;
     Ok((seat, won))
 }
 

@@ -1,7 +1,6 @@
-ghost use Rattle.std.specs.Prelude.{◌≡◌, ◌<◌, ◌≤◌, ◌^◌, ◌+◌, ◌*◌, ◌++◌, ℕ, List, map, length, vec_len, sum_by, Contains, IfOk, IfErr, OnOk};
+ghost use Rattle.std.specs.Prelude.{◌≡◌, ◌<◌, ◌≤◌, ◌^◌, ◌+◌, ◌*◌, ◌++◌, ℕ, List, map, length, vec_len, sum_by, IfOk, IfErr, OnOk};
 ghost use Rattle.std.specs.List.{All};
 ghost use Rattle.g1_words.specs.declared.fault.Fault.TheVariants.{Memory};
-ghost use Rattle.g1_words.specs.Heap.{objects, object_at};
 ghost use Rattle.g1_words.specs.Survivors.{Survivors};
 ghost use Rattle.g1_work.specs.Team.{IsTeam};
 ghost use Rattle.g1_rem.specs.Starts.{IsStartsOf};
@@ -11,6 +10,7 @@ ghost use Rattle.g1_frontier.specs.Scope.{IsScope};
 ghost use Rattle.g1_frontier.specs.Search.{IsSearching};
 
 use crate::crew::Crew;
+use crate::headers::slot_counts_by;
 use crate::item::Item;
 use crate::numbers::Numbers;
 use crate::queue::search_alone;
@@ -51,26 +51,28 @@ fn first_items(alloc: Global, roots: u64, cards: &[u32]) -> Result<Vec<Item>, Al
     Ok(items)
 }
 
-// The objects at some addresses, their slots numbered on from a base, and the number after them.
+// The objects at some addresses, which have these numbers of slots. The slots are numbered on from a
+// base. Also the number after them.
 fn object_items(
     alloc: Global,
     heap: &Heap,
     addresses: &[u64],
+    counts: &[u64],
     base: u64,
 ) -> Result<(Vec<Item>, u64), AllocError>
-    requires objects { All (λ a. Contains (objects heap.now) (object_at heap.now a)) addresses.now }
+    requires counts { counts.now ≡ map (slot_count heap.now) addresses.now }
     requires few { base + sum_by (slot_count heap.now) addresses.now < 2 ^ 32 }
     ensures items { IfOk result (λ r. r.0.items ≡ object_items heap.now base addresses.now) }
     ensures next { IfOk result (λ r. r.1 ≡ base + sum_by (slot_count heap.now) addresses.now) }
 {
     let mut next = base;
     let mut items = Vec::with_capacity(alloc, addresses.len())?;
-    for at in addresses {
+    for (index, at) in addresses.iter().enumerate() {
         items.push(Item::Object {
             at: *at,
             base: next,
         })?;
-        next += heap.object(*at).refs;
+        next += counts[index];
     }
     Ok((items, next))
 }
@@ -135,7 +137,10 @@ pub(crate) fn next_round<R: Threads + Sync, G: Gate + Sync>(
         from,
         next,
     } = search;
-    let (items, next) = object_items(crew.alloc, scope.heap, &found[from..], next)?;
+    let addresses = &found[from..];
+    let workers = crew.team.workers();
+    let counts = slot_counts_by(crew.rt, crew.alloc, scope.heap, addresses, workers)?;
+    let (items, next) = object_items(crew.alloc, scope.heap, addresses, counts.as_slice(), next)?;
     let items = items.as_slice();
     let (seat, won) = round_in(crew, scope, &claims, seat, items)?;
     let from = found.len();

@@ -1,6 +1,7 @@
 use Rattle.std.proofs.Common.{arith, refl, ap, sym, subst, ◌≡◌, ◌-◌, ◌++◌, ◌∙◌, [], ◌∷◌, All, length, length-append}
 use Rattle.std.proofs.lemmas.List.Elements.{All-push}
 use Rattle.g1_claim.specs.declared.rule.Hand.{Hand}
+use Rattle.g1_frontier.specs.declared.offering.Holder.{Holder}
 use Rattle.g1_frontier.specs.Round.{IsFreshHolder}
 use Rattle.g1_frontier.proofs.round.give_out.Goals as goal
 
@@ -19,6 +20,7 @@ returns c =
       shares = omega (arith, i.shares, i.len, c.loop-i.holders.ok);
       offers = i.offers;
       none_kept = c.new-2.ensures.items;
+      seen = subst (All (λ (h : Holder). h.seat.seen ≡ c.args.seat.seen)) (sym are) (All-push (λ (h : Holder). h.seat.seen ≡ c.args.seat.seen) c.loop-i.holders.items (record { seat = c.loop-i.seat; kept = c.new-2.result }) i.same i.seen);
     }
 
 pub loop-i-smaller : goal.loop-i-smaller
@@ -32,6 +34,8 @@ loop-i-init c =
       offers = refl;
       len = omega (arith, none.len);
       fresh = λ k d lt. absurd (omega (arith, lt, ap length none.items));
+      seen = refl;
+      same = λ k d lt. absurd (omega (arith, lt, ap length none.items));
     }
 
 pub loop-i-preserved : goal.loop-i-preserved
@@ -50,4 +54,7 @@ loop-i-preserved c =
             no_offers = ap (λ (h : Hand). h.offers) c.split-theirs.ensures.right;
             none_kept = c.new.ensures.items;
           }));
+      seen = c.split-theirs.ensures.same ∙ i.seen;
+      same = subst (All (λ (h : Holder). h.seat.seen ≡ c.args.seat.seen)) (sym c.in_ok-push.ensures.items) (All-push (λ (h : Holder). h.seat.seen ≡ c.args.seat.seen) c.loop-i.holders.items
+          (record { seat = c.split-theirs.result; kept = c.new.result }) i.same (c.split-theirs.ensures.seen ∙ i.seen));
     }

@@ -1,6 +1,7 @@
 use Rattle.std.proofs.Common.{◌≡◌, ◌+◌, vec_len}
 use Rattle.std.specs.List.{All}
 use Rattle.g1_claim.specs.Claims.{IsSeatOf}
+use Rattle.g1_frontier.specs.declared.offering.Holder.{Holder}
 use Rattle.g1_frontier.specs.Round.{IsFreshHolder}
 use Rattle.g1_frontier.proofs.round.give_out.Given as goal
 
@@ -11,4 +12,6 @@ invariant-loop-i l = record {
   offers : l.seat.hand.offers ≡ l.initial.seat.hand.offers;
   len : vec_len l.holders + 1 ≡ l._i;
   fresh : All (IsFreshHolder l.claims) l.holders.items;
+  seen : l.seat.seen ≡ l.initial.seat.seen;
+  same : All (λ (h : Holder). h.seat.seen ≡ l.initial.seat.seen) l.holders.items;
 }

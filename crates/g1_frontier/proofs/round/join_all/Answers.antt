@@ -7,6 +7,7 @@ use Rattle.std.proofs.lemmas.List.Sums.{sum_by-append}
 use Rattle.g1_claim.specs.Claims.{IsSeatOf}
 use Rattle.g1_claim.specs.declared.rule.Hand.{Hand}
 use Rattle.g1_claim.specs.declared.rule.Offer.{Offer}
+use Rattle.g1_claim.specs.declared.rule.Sight.{Sight}
 use Rattle.g1_frontier.specs.declared.offering.Holder.{Holder}
 use Rattle.g1_frontier.proofs.round.join_all.Goals as goal
 
@@ -17,6 +18,7 @@ loop-holder-init c = record {
   seat = c.requires.seat;
   shares = omega arith;
   offers = sym (append-nil c.args.seat.now.hand.offers);
+  sights = sym (append-nil c.args.seat.now.hand.sights);
   kept = sym (append-nil (map (λ (v : Vec (ℕ × ℕ) Global). v.items) c.args.lists.now.items));
 }
 
@@ -35,6 +37,8 @@ loop-holder-preserved c =
     let shares : c.join.new.seat.hand.shares ≡ c.loop-holder.seat.hand.shares + o.seat.hand.shares = ap (λ (h : Hand). h.shares) both in
     let offers : List Offer = c.args.seat.now.hand.offers in
     let offers_of : Holder → List Offer = λ h. h.seat.hand.offers in
+    let sights : List Sight = c.args.seat.now.hand.sights in
+    let sights_of : Holder → List Sight = λ h. h.seat.hand.sights in
     let lists : List (List (ℕ × ℕ)) = map (λ (v : Vec (ℕ × ℕ) Global). v.items) c.args.lists.now.items in
     record {
       more = tt;
@@ -43,6 +47,8 @@ loop-holder-preserved c =
       shares = omega (arith, shares, inv.shares, sum_by-append (λ (h : Holder). h.seat.hand.shares) ys (o ∷ []));
       offers = ap (λ (h : Hand). h.offers) both ∙ ap (λ (l : List Offer). l ++ o.seat.hand.offers) inv.offers
           ∙ append_assoc offers (flat_map offers_of ys) (offers_of o) ∙ ap (λ (l : List Offer). offers ++ l) (flat_map_more offers_of [] ys o);
+      sights = ap (λ (h : Hand). h.sights) both ∙ ap (λ (l : List Sight). l ++ o.seat.hand.sights) inv.sights
+          ∙ append_assoc sights (flat_map sights_of ys) (sights_of o) ∙ ap (λ (l : List Sight). sights ++ l) (flat_map_more sights_of [] ys o);
       kept = ap (map (λ (v : Vec (ℕ × ℕ) Global). v.items)) c.in_ok-push.ensures.items
           ∙ map-append (λ (v : Vec (ℕ × ℕ) Global). v.items) c.loop-holder.lists.items (o.kept ∷ []) ∙ ap (λ (l : List (List (ℕ × ℕ))). l ++ o.kept.items ∷ []) inv.kept
           ∙ append_assoc lists (map (λ (h : Holder). h.kept.items) ys) (o.kept.items ∷ [])
@@ -62,5 +68,6 @@ returns c =
       seat = inv.seat;
       shares = inv.shares ∙ ap (λ (l : List Holder). c.args.seat.now.hand.shares + sum_by (λ (h : Holder). h.seat.hand.shares) l) end;
       offers = inv.offers ∙ ap (λ (l : List Holder). c.args.seat.now.hand.offers ++ flat_map (λ (h : Holder). h.seat.hand.offers) l) end;
+      sights = inv.sights ∙ ap (λ (l : List Holder). c.args.seat.now.hand.sights ++ flat_map (λ (h : Holder). h.seat.hand.sights) l) end;
       kept = inv.kept ∙ ap (λ (l : List Holder). map (λ (v : Vec (ℕ × ℕ) Global). v.items) c.args.lists.now.items ++ map (λ (h : Holder). h.kept.items) l) end;
     }

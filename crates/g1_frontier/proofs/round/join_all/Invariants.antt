@@ -10,5 +10,6 @@ invariant-loop-holder l = record {
   seat : IsSeatOf l.claims l.seat;
   shares : l.seat.hand.shares ≡ l.initial.seat.hand.shares + sum_by (λ (h : Holder). h.seat.hand.shares) l.yielded;
   offers : l.seat.hand.offers ≡ l.initial.seat.hand.offers ++ flat_map (λ (h : Holder). h.seat.hand.offers) l.yielded;
+  sights : l.seat.hand.sights ≡ l.initial.seat.hand.sights ++ flat_map (λ (h : Holder). h.seat.hand.sights) l.yielded;
   kept : map (λ v. v.items) l.lists.items ≡ map (λ v. v.items) l.initial.lists.items ++ map (λ (h : Holder). h.kept.items) l.yielded;
 }

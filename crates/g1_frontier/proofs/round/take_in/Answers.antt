@@ -14,7 +14,9 @@ returns c = record {
   offers = c.in_ok-join_all.ensures.offers;
   kept = c.in_ok-join_all.ensures.kept ∙ ap (λ (l : List (Vec (ℕ × ℕ) Global)). map (λ (v : Vec (ℕ × ℕ) Global). v.items) l
       ++ map (λ h. h.kept.items) c.pop.new.self.items) (c.in_ok-push.ensures.items ∙ ap (λ (l : List (Vec (ℕ × ℕ) Global)). l ++ c.in-Some.last.kept ∷ []) c.new-lists.ensures.items);
+  sights = c.in_ok-join_all.ensures.sights;
   settled = c.settled.ensures.whole;
+  won = c.settled.ensures.sights;
 }
 
 pub join_all-requires-clause-seat : goal.join_all-requires-clause-seat

@@ -53,7 +53,7 @@ returns-clause-ok g c =
     let r = c.in_ok-seat.ensures.ok in
     first_search h c.requires.scope.valid window c.args.cards.now c.requires.scope.regions c.requires.cards c.requires.outside c.requires.lead_in
     (place_count c.args.scope.now) (place_in c.args.scope.now) c.requires.scope.numbers
-    (record { claims = c.in_ok-claims.claims; seat = c.in_ok-seat.seat; found = c.push_addresses.new.found; from = 0; next = length c.roots.result.now + length c.words.result.now })
+    (record { claims = c.in_ok-claims.claims; seat = c.in_ok-seat.seat; found = c.push_addresses.new.found; from = 0; next = length c.roots.result.now + c.len.result })
     r.table
     r.whole
     (c.in_ok-claims.ensures.places ∙ c.places.ensures)
@@ -62,7 +62,7 @@ returns-clause-ok g c =
     (c.in_ok-push_addresses.ensures ∙ (λ i. c.new-found.ensures.items i ++ map (λ (q : ℕ × ℕ). q.1)
     ((c.as_slice.ensures.value ∙ r.won ∙ ap (λ l. winners (place_in c.args.scope.now) c.in_ok-seat.seat.hand.offers (all_pairs h window l)) listed) i)))
     refl
-    (λ i. length (c.roots.ensures i) + length (c.words.ensures i))
+    (λ i. length (c.roots.ensures i) + (c.len.ensures ∙ ap length c.words.ensures.same) i)
 
 pub round_in-requires-clause-scope : goal.round_in-requires-clause-scope
 round_in-requires-clause-scope g c κs within = c.requires.scope

@@ -7,8 +7,8 @@ use Rattle.g1_frontier.proofs.Searching.{rest_objects, ranks_fit, rest_are_items
 use Rattle.g1_frontier.proofs.Turns.{rest_is}
 use Rattle.g1_frontier.proofs.survivors.next_round.Goals as goal
 
-pub object_items-requires-clause-objects : goal.object_items-requires-clause-objects
-object_items-requires-clause-objects g c =
+pub slot_counts_by-requires-clause-objects : goal.slot_counts_by-requires-clause-objects
+slot_counts_by-requires-clause-objects g c κs within =
     let h = c.args.scope.now.heap.now in
     let s = c.args.search in
     let cut : take (length c.deref.result.now - s.from) (drop s.from c.deref.result.now) ≡ drop s.from s.found.items =
@@ -84,7 +84,7 @@ returns-clause-ok g c =
     r.whole
     refl
     (subst (λ l. AddsOffers (place_in c.args.scope.now) (all_pairs h window l) s.seat.hand.offers c.in_ok-seat.seat.hand.offers) listed r.offers)
-    (c.in_ok-push_addresses.ensures ∙ ap (λ (l : List (ℕ × ℕ)). s.found.items ++ map (λ (q : ℕ × ℕ). q.1) l) (c.as_slice.ensures.value ∙ r.won
+    (c.in_ok-push_addresses.ensures ∙ ap (λ (l : List (ℕ × ℕ)). s.found.items ++ map (λ (q : ℕ × ℕ). q.1) l) (c.as_slice-2.ensures.value ∙ r.won
     ∙ ap (λ l. winners (place_in c.args.scope.now) c.in_ok-seat.seat.hand.offers (all_pairs h window l)) listed))
     (omega (arith, c.len-from.ensures, s.found.ok))
     (c.in_ok-items.ensures.next ∙ ap (λ l. s.next + sum_by (slot_count h) l) cut)
@@ -103,3 +103,6 @@ round_in-requires-clause-places g c κs within = omega (arith, c.requires.search
 
 pub returns-clause-from : goal.returns-clause-from
 returns-clause-from g c = c.len-from.ensures
+
+pub object_items-requires-clause-counts : goal.object_items-requires-clause-counts
+object_items-requires-clause-counts g c = c.as_slice.ensures.value ∙ c.in_ok-counts.ensures.ok

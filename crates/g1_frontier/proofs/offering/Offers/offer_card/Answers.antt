@@ -1,4 +1,4 @@
-use Rattle.std.proofs.Common.{arith, ◌+◌, ◌<◌, ◌∙◌, ◌^◌, ap, sym, subst, ℕ, length, get_or, flat_map}
+use Rattle.std.proofs.Common.{arith, ◌+◌, ◌<◌, ◌∙◌, ◌^◌, ap, sym, subst, ℕ, get_or, flat_map}
 use Rattle.g1_words.specs.Heap.{word}
 use Rattle.g1_words.specs.Valid.{IsReference}
 use Rattle.g1_words.proofs.Members.{In}
@@ -6,7 +6,7 @@ use Rattle.g1_rem.specs.Slots.{slots_on}
 use Rattle.g1_frontier.specs.Items.{AreRanks}
 use Rattle.g1_frontier.specs.Scope.{place_in, aims_in}
 use Rattle.g1_frontier.specs.Offering.{HasTried}
-use Rattle.g1_frontier.proofs.Names.{slot_in_words, card_reference}
+use Rattle.g1_frontier.proofs.Names.{card_reference}
 use Rattle.g1_frontier.proofs.Offerings.{tried_none, tried_more}
 use Rattle.g1_frontier.proofs.Scopes.{In-get, all_part}
 use Rattle.g1_frontier.proofs.Turns.{take_all}
@@ -15,29 +15,13 @@ use Rattle.g1_frontier.proofs.offering.Offers.offer_card.Goals as goal
 pub loop-slot-init : goal.loop-slot-init
 loop-slot-init c = tried_none (place_in c.args.self.now.scope.now) c.args.holder.now
 
-pub offset_bounds-words-slot : goal.offset_bounds-words-slot
-offset_bounds-words-slot c =
-    let s = c.args.self.now.scope.now in
-    let listed = c.as_slice-slot-items.ensures ∙ c.slots_on-slots.ensures.items in
-    let low = slot_in_words s.heap.now c.requires.places.scope.valid c.args.card (get_or c.as_slice-slot-items.result.now c.loop-slot.slot-index 0)
-    (subst (λ l. In l (get_or c.as_slice-slot-items.result.now c.loop-slot.slot-index 0)) listed (In-get c.as_slice-slot-items.result.now c.loop-slot.slot-index 0 c.loop-slot-test.true)) in
-    omega (arith, low, c.requires.places.scope.valid.word_count, c.requires.places.scope.valid.limits.words_most)
-
-pub bounds-words-slot : goal.bounds-words-slot
-bounds-words-slot c =
-    let s = c.args.self.now.scope.now in
-    let listed = c.as_slice-slot-items.ensures ∙ c.slots_on-slots.ensures.items in
-    let low = slot_in_words s.heap.now c.requires.places.scope.valid c.args.card (get_or c.as_slice-slot-items.result.now c.loop-slot.slot-index 0)
-    (subst (λ l. In l (get_or c.as_slice-slot-items.result.now c.loop-slot.slot-index 0)) listed (In-get c.as_slice-slot-items.result.now c.loop-slot.slot-index 0 c.loop-slot-test.true)) in
-    omega (arith, low, ap length c.words-words.ensures)
-
 pub offer_named-requires-clause-reference : goal.offer_named-requires-clause-reference
 offer_named-requires-clause-reference c =
     let s = c.args.self.now.scope.now in
     let xs = c.as_slice-slot-items.result.now in
     let p : ℕ = get_or xs c.loop-slot.slot-index 0 in
     let listed = c.as_slice-slot-items.ensures ∙ c.slots_on-slots.ensures.items in
-    subst (λ l. IsReference s.heap.now (get_or l p 0)) (sym c.words-words.ensures)
+    subst (λ x. IsReference s.heap.now x) (sym (c.at.ensures ∙ ap (λ l. get_or l p 0) c.words-words.ensures.same))
     (card_reference s.heap.now c.requires.places.scope.valid c.args.card p (subst (λ l. In l p) listed (In-get xs c.loop-slot.slot-index 0 c.loop-slot-test.true)))
 
 pub offer_named-requires-clause-ranks : goal.offer_named-requires-clause-ranks
@@ -46,7 +30,7 @@ offer_named-requires-clause-ranks c =
     let xs = c.as_slice-slot-items.result.now in
     let p : ℕ = get_or xs c.loop-slot.slot-index 0 in
     let listed = c.as_slice-slot-items.ensures ∙ c.slots_on-slots.ensures.items in
-    subst (λ l. AreRanks (aims_in s (c.args.base + p) (get_or l p 0))) (sym c.words-words.ensures)
+    subst (λ x. AreRanks (aims_in s (c.args.base + p) x)) (sym (c.at.ensures ∙ ap (λ l. get_or l p 0) c.words-words.ensures.same))
     (all_part (λ q. q.0 < 2 ^ 32) (λ p. aims_in s (c.args.base + p) (word s.heap.now p)) (slots_on s.heap.now c.args.card) p c.requires.ranks
     (subst (λ l. In l p) listed (In-get xs c.loop-slot.slot-index 0 c.loop-slot-test.true)))
 
@@ -57,7 +41,7 @@ loop-slot-preserved c =
     let i = c.loop-slot.slot-index in
     let p : ℕ = get_or xs i 0 in
     tried_more (place_in s) (λ p. aims_in s (c.args.base + p) (word s.heap.now p)) xs i 0 c.args.holder.now c.loop-slot.holder c.offer_named.new.holder c.loop-slot-test.true c.loop-slot.invariant
-    (subst (λ l. HasTried (place_in s) (aims_in s (c.args.base + p) (get_or l p 0)) c.loop-slot.holder c.offer_named.new.holder) c.words-words.ensures c.in_ok-offer_named.ensures)
+    (subst (λ x. HasTried (place_in s) (aims_in s (c.args.base + p) x) c.loop-slot.holder c.offer_named.new.holder) (c.at.ensures ∙ ap (λ l. get_or l p 0) c.words-words.ensures.same) c.in_ok-offer_named.ensures)
 
 pub returns : goal.returns
 returns c =

@@ -1,4 +1,4 @@
-use Rattle.std.proofs.Common.{arith, ℕ, List, [], ◌≡◌, ◌+◌, ◌-◌, ◌<◌, ◌%◌, ◌^◌, ◌∙◌, ap, sym, subst, length, get_or, flat_map}
+use Rattle.std.proofs.Common.{arith, ℕ, List, [], ◌≡◌, ◌+◌, ◌-◌, ◌<◌, ◌%◌, ◌^◌, ◌∙◌, ap, sym, subst, get_or, flat_map}
 use Rattle.std.specs.List.{range_with_len}
 use Rattle.std.proofs.lemmas.List.{flat_map_more}
 use Rattle.g1_words.specs.Heap.{word, object_at, slots}
@@ -31,19 +31,13 @@ loop-slot-init c =
     let none : 0 ≡ (c.args.at + 1) - (c.args.at + 1) = omega arith in
     subst (λ n. HasTried (place_in s) (flat_map (λ p. aims_in s (c.args.base + (p - (c.args.at + 1))) (word s.heap.now p)) (range_with_len (c.args.at + 1) n)) h h) none (tried_none (place_in s) h)
 
-pub bounds-words-slot : goal.bounds-words-slot
-bounds-words-slot c =
-    let b = object_in_words c.args.self.now.scope.now.heap.now c.requires.places.scope.valid c.args.at c.requires.object in
-    let refs : c.args.refs ≡ word c.args.self.now.scope.now.heap.now c.args.at % 2 ^ 32 = c.requires.slots in
-    omega (arith, b.1, refs, c.loop-slot-test.true, ap length c.words-words.ensures)
-
 pub offer_named-requires-clause-reference : goal.offer_named-requires-clause-reference
 offer_named-requires-clause-reference c =
     let s = c.args.self.now.scope.now in
     let p : ℕ = c.loop-slot.slot in
     let refs : c.args.refs ≡ word s.heap.now c.args.at % 2 ^ 32 = c.requires.slots in
     let there : In (slots (object_at s.heap.now c.args.at)) p = In-range (c.args.at + 1) (word s.heap.now c.args.at % 2 ^ 32) p c.loop-slot.auto.slot (omega (arith, refs, c.loop-slot-test.true)) in
-    subst (λ l. IsReference s.heap.now (get_or l p 0)) (sym c.words-words.ensures) (object_reference s.heap.now c.requires.places.scope.valid c.args.at p c.requires.object there)
+    subst (λ x. IsReference s.heap.now x) (sym (c.at.ensures ∙ ap (λ l. get_or l p 0) c.words-words.ensures.same)) (object_reference s.heap.now c.requires.places.scope.valid c.args.at p c.requires.object there)
 
 pub offer_named-requires-clause-ranks : goal.offer_named-requires-clause-ranks
 offer_named-requires-clause-ranks c =
@@ -52,7 +46,7 @@ offer_named-requires-clause-ranks c =
     let first : ℕ = c.args.at + 1 in
     let refs : c.args.refs ≡ word s.heap.now c.args.at % 2 ^ 32 = c.requires.slots in
     let there : In (slots (object_at s.heap.now c.args.at)) p = In-range first (word s.heap.now c.args.at % 2 ^ 32) p c.loop-slot.auto.slot (omega (arith, refs, c.loop-slot-test.true)) in
-    subst (λ l. AreRanks (aims_in s (c.args.base + (p - first)) (get_or l p 0))) (sym c.words-words.ensures)
+    subst (λ x. AreRanks (aims_in s (c.args.base + (p - first)) x)) (sym (c.at.ensures ∙ ap (λ l. get_or l p 0) c.words-words.ensures.same))
     (all_part (λ q. q.0 < 2 ^ 32) (λ p. aims_in s (c.args.base + (p - first)) (word s.heap.now p)) (slots (object_at s.heap.now c.args.at)) p c.requires.ranks there)
 
 pub loop-slot-preserved : goal.loop-slot-preserved
@@ -62,7 +56,7 @@ loop-slot-preserved c =
     let p : ℕ = c.loop-slot.slot in
     let f : ℕ → List (ℕ × ℕ) = λ p. aims_in s (c.args.base + (p - first)) (word s.heap.now p) in
     let one : HasTried (place_in s) (f p) c.loop-slot.holder c.offer_named.new.holder =
-    subst (λ l. HasTried (place_in s) (aims_in s (c.args.base + (p - first)) (get_or l p 0)) c.loop-slot.holder c.offer_named.new.holder) c.words-words.ensures c.in_ok-offer_named.ensures in
+    subst (λ x. HasTried (place_in s) (aims_in s (c.args.base + (p - first)) x) c.loop-slot.holder c.offer_named.new.holder) (c.at.ensures ∙ ap (λ l. get_or l p 0) c.words-words.ensures.same) c.in_ok-offer_named.ensures in
     subst (λ ps. HasTried (place_in s) ps c.args.holder.now c.offer_named.new.holder)
     (flat_map_more f [] (range_with_len first (p - first)) p ∙ ap (flat_map f) (range_more first p c.loop-slot.auto.slot))
     (tried_append (place_in s) (flat_map f (range_with_len first (p - first))) (f p) c.args.holder.now c.loop-slot.holder c.offer_named.new.holder c.loop-slot.invariant one)

@@ -1,31 +1,13 @@
-use Rattle.std.proofs.Common.{arith, ◌∙◌, ap, sym, subst, ℕ, length, get_or}
+use Rattle.std.proofs.Common.{◌∙◌, ap, sym, subst, ℕ, get_or}
 use Rattle.g1_words.specs.Heap.{word}
 use Rattle.g1_words.specs.Valid.{IsReference}
 use Rattle.g1_words.proofs.Members.{In}
 use Rattle.g1_frontier.specs.Scope.{names_in}
 use Rattle.g1_frontier.specs.Queue.{HasNoted}
-use Rattle.g1_frontier.proofs.Names.{slot_in_words, card_reference}
+use Rattle.g1_frontier.proofs.Names.{card_reference}
 use Rattle.g1_frontier.proofs.Queues.{noted_more}
 use Rattle.g1_frontier.proofs.Scopes.{In-get}
 use Rattle.g1_frontier.proofs.queue.Queue.note_card.Goals as goal
-
-pub offset_bounds-words-slot : goal.offset_bounds-words-slot
-offset_bounds-words-slot c =
-    let s = c.args.scope.now in
-    let xs = c.as_slice-slot-items.result.now in
-    let p : ℕ = get_or xs c.loop-slot.slot-index 0 in
-    let listed = c.as_slice-slot-items.ensures ∙ c.slots_on-slots.ensures.items in
-    let low = slot_in_words s.heap.now c.requires.scope.valid c.args.card p (subst (λ l. In l p) listed (In-get xs c.loop-slot.slot-index 0 c.loop-slot-test.true)) in
-    omega (arith, low, c.requires.scope.valid.word_count, c.requires.scope.valid.limits.words_most)
-
-pub bounds-words-slot : goal.bounds-words-slot
-bounds-words-slot c =
-    let s = c.args.scope.now in
-    let xs = c.as_slice-slot-items.result.now in
-    let p : ℕ = get_or xs c.loop-slot.slot-index 0 in
-    let listed = c.as_slice-slot-items.ensures ∙ c.slots_on-slots.ensures.items in
-    let low = slot_in_words s.heap.now c.requires.scope.valid c.args.card p (subst (λ l. In l p) listed (In-get xs c.loop-slot.slot-index 0 c.loop-slot-test.true)) in
-    omega (arith, low, ap length c.words-words.ensures)
 
 pub note-requires-clause-reference : goal.note-requires-clause-reference
 note-requires-clause-reference c =
@@ -33,7 +15,7 @@ note-requires-clause-reference c =
     let xs = c.as_slice-slot-items.result.now in
     let p : ℕ = get_or xs c.loop-slot.slot-index 0 in
     let listed = c.as_slice-slot-items.ensures ∙ c.slots_on-slots.ensures.items in
-    subst (λ l. IsReference s.heap.now (get_or l p 0)) (sym c.words-words.ensures)
+    subst (λ x. IsReference s.heap.now x) (sym (c.at.ensures ∙ ap (λ l. get_or l p 0) c.words-words.ensures.same))
     (card_reference s.heap.now c.requires.scope.valid c.args.card p (subst (λ l. In l p) listed (In-get xs c.loop-slot.slot-index 0 c.loop-slot-test.true)))
 
 pub loop-slot-preserved : goal.loop-slot-preserved
@@ -43,4 +25,4 @@ loop-slot-preserved c =
     let i : ℕ = c.loop-slot.slot-index in
     let p : ℕ = get_or xs i 0 in
     noted_more s c.requires.scope (λ p. names_in s (word s.heap.now p)) xs i 0 c.args.self.now c.loop-slot.self c.note.new.self c.loop-slot-test.true c.loop-slot.invariant
-    (subst (λ l. HasNoted s (names_in s (get_or l p 0)) c.loop-slot.self c.note.new.self) c.words-words.ensures c.in_ok-note.ensures)
+    (subst (λ x. HasNoted s (names_in s x) c.loop-slot.self c.note.new.self) (c.at.ensures ∙ ap (λ l. get_or l p 0) c.words-words.ensures.same) c.in_ok-note.ensures)

@@ -1,4 +1,4 @@
-use Rattle.std.proofs.Common.{arith, ℕ, List, [], ◌≡◌, ◌+◌, ◌-◌, ◌∙◌, ap, sym, subst, length, get_or, flat_map}
+use Rattle.std.proofs.Common.{arith, ℕ, List, [], ◌≡◌, ◌+◌, ◌-◌, ◌∙◌, ap, sym, subst, get_or, flat_map}
 use Rattle.std.specs.List.{range_with_len}
 use Rattle.std.proofs.lemmas.List.{flat_map_more}
 use Rattle.g1_words.specs.Heap.{word, objects, slots}
@@ -21,17 +21,6 @@ overflow_add-slot-end c =
     let b = slots_in_words c.args.scope.now.heap.now c.requires.scope.valid c.args.object.now c.requires.object in
     omega (arith, b, c.requires.scope.valid.word_count, c.requires.scope.valid.limits.words_most)
 
-pub offset_bounds-words-slot : goal.offset_bounds-words-slot
-offset_bounds-words-slot c =
-    let b = slots_in_words c.args.scope.now.heap.now c.requires.scope.valid c.args.object.now c.requires.object in
-    omega (arith, b, c.loop-slot-test.true, c.requires.scope.valid.word_count, c.requires.scope.valid.limits.words_most)
-
-pub bounds-words-slot : goal.bounds-words-slot
-bounds-words-slot c =
-    let b = slots_in_words c.args.scope.now.heap.now c.requires.scope.valid c.args.object.now c.requires.object in
-    let count = ap length c.words-words.ensures in
-    omega (arith, b, c.loop-slot-test.true, count)
-
 pub loop-slot-init : goal.loop-slot-init
 loop-slot-init c =
     let s = c.args.scope.now in
@@ -46,7 +35,7 @@ note-requires-clause-reference c =
     let o = c.args.object.now in
     let p : ℕ = c.loop-slot.slot in
     let there : In (slots o) p = In-range (o.at + 1) o.refs p c.loop-slot.auto.slot (omega (arith, c.loop-slot-test.true)) in
-    subst (λ l. IsReference s.heap.now (get_or l p 0)) (sym c.words-words.ensures)
+    subst (λ x. IsReference s.heap.now x) (sym (c.at.ensures ∙ ap (λ l. get_or l p 0) c.words-words.ensures.same))
     (slot_reference s.heap.now c.requires.scope.valid o p (In-from_contains (objects s.heap.now) o c.requires.object) there)
 
 pub loop-slot-preserved : goal.loop-slot-preserved
@@ -56,7 +45,7 @@ loop-slot-preserved c =
     let p : ℕ = c.loop-slot.slot in
     let f : ℕ → List ℕ = λ p. names_in s (word s.heap.now p) in
     let one : HasNoted s (f p) c.loop-slot.self c.note.new.self = subst
-    (λ l. HasNoted s (names_in s (get_or l p 0)) c.loop-slot.self c.note.new.self) c.words-words.ensures c.in_ok-note.ensures in
+    (λ x. HasNoted s (names_in s x) c.loop-slot.self c.note.new.self) (c.at.ensures ∙ ap (λ l. get_or l p 0) c.words-words.ensures.same) c.in_ok-note.ensures in
     subst (λ l. HasNoted s l c.args.self.now c.note.new.self)
     (flat_map_more f [] (range_with_len first (p - first)) p ∙ ap (flat_map f) (range_more first p c.loop-slot.auto.slot))
     (noted_append s c.requires.scope (flat_map f (range_with_len first (p - first))) (f p) c.args.self.now c.loop-slot.self c.note.new.self c.loop-slot.invariant one)
