@@ -35,6 +35,7 @@ pub mod AlwaysOne
 pub mod Covers
 pub mod Taken
 pub mod Laid
+pub mod Reached
 pub mod Told
 pub mod Sent
 pub mod StraySlots

@@ -195,6 +195,11 @@ memory_fault bytes (fault.Device device.Input) h = absurd (let clash : false ≡
 memory_fault bytes (fault.Device device.Output) h = absurd h
 memory_fault bytes e h = inr (subst (λ l. FaultOf l e) (sym h.1.2 ∙ append-nil bytes) h.1.1)
 
+-- a fault that isn't that memory is wanted is that of the bytes
+pub not_memory : (bytes : List ℕ) (e : Fault) → MayFail bytes e → e ≢ fault.Memory → FaultOf bytes e
+not_memory bytes e (inl p) ne = absurd (ne p)
+not_memory bytes e (inr h) ne = h
+
 -- a source at its end was read out, whatever the answer
 pub read_out_at_end : {X : Type 0} (left : Option (List ℕ)) (r : Result X Fault) → IsAtEnd left → IsReadOut left r
 read_out_at_end left (Ok x) h = h

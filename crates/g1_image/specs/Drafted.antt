@@ -1,6 +1,6 @@
 -- An image that was read, and whose heap and cards haven't been looked at.
 use Rattle.std.specs.Prelude.{◌≡◌, ℕ, List, map}
-use Rattle.g1_image.specs.declared.decoding.DraftImage.{DraftImage}
+use Rattle.g1_image.specs.declared.judging.DraftImage.{DraftImage}
 use Rattle.g1_image.specs.Text.{File, file_text}
 use Rattle.g1_image.specs.Image.{heap_of}
 use Rattle.g1_image.specs.Faults.{FileFits, AreKnown}

@@ -4,6 +4,7 @@ pub mod Reading
 pub mod Image
 pub mod Faults
 pub mod Plain
+pub mod TextParts
 pub mod Front
 pub mod Growing
 pub mod Draft

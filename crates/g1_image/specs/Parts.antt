@@ -3,7 +3,7 @@ use Rattle.std.specs.Prelude.{◌<◌, ◌^◌, ℕ, List, length, map, unwrap_o
 use Rattle.g1_image.specs.Text.{File}
 use Rattle.g1_image.specs.Image.{entry_of}
 use Rattle.g1_image.specs.declared.cursor.Version.TheVariants.{Two}
-use Rattle.g1_image.specs.declared.encoding.FileParts.{FileParts}
+use Rattle.g1_image.specs.declared.file_parts.FileParts.{FileParts}
 
 -- what stands in a file of these parts and these words
 abbrev pub file_of_parts : FileParts → List ℕ → File

@@ -13,7 +13,7 @@ fn copy_heap(alloc: Global, heap: &Heap) -> Result<Heap, AllocError>
 {
     Ok(Heap {
         geometry: heap.geometry(),
-        words: Vec::from_slice(alloc, heap.words())?,
+        words: heap.words().copy(alloc)?,
         regions: Vec::from_slice(alloc, heap.regions())?,
         roots: Vec::from_slice(alloc, heap.roots())?,
         current: heap.current(),

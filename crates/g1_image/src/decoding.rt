@@ -1,163 +1,199 @@
-ghost use Rattle.std.specs.Prelude.{◌≡◌, ◌<◌, ◌*◌, ◌^◌, ◌⊎◌, ℕ, List, All, length, OnOk, IfOk, IfErr};
+//! The image in bytes: in memory, or in a source.
+ghost use Rattle.std.specs.Prelude.{◌≡◌, ◌≢◌, ◌≤◌, ◌<◌, ◌⊎◌, ◌++◌, ℕ, List, [], length, drop, map, IfSome, OnOk, IfOk, IfErr, IsTrue, IsFalse};
+ghost use Rattle.std.specs.Io.KnownBytes.{IsAtEnd, Consumes};
+ghost use Rattle.g1_image.specs.Source.{HoldsOfLeft, IsReadOut, input_mark};
 ghost use Rattle.g1_image.specs.Image.{IsTextOf};
-ghost use Rattle.g1_image.specs.Faults.{MayFail, IsGoodHeading, IsGoodHeap, TableFault, AreKnown};
-ghost use Rattle.g1_image.specs.Plain.{heap_of_parts};
-ghost use Rattle.g1_image.specs.Front.{IsLaidOut};
-ghost use Rattle.g1_image.specs.Drafted.{IsDraftOf};
-ghost use Rattle.g1_image.specs.Stale.{IsTextWithout, FaultWithout};
+ghost use Rattle.g1_image.specs.Faults.{FaultOf, MayFail};
+ghost use Rattle.g1_image.specs.Front.{IsGoodFront, text_of, IsLaidOut, IsReachedBy};
+ghost use Rattle.g1_image.specs.Stale.{IsTextFault, IsTextWithout, FaultWithout};
+ghost use Rattle.g1_image.specs.Ahead.{to_take, KnowsEnd, TextFails};
 
-use crate::cards::check_cards;
-use crate::checks::{check_heap, check_heap_by};
-use crate::cursor::{Entry, Heading};
-use crate::draft::Draft;
+use crate::ahead::Ahead;
+use crate::buffer::PIECE;
+use crate::cursor::Cursor;
+use crate::front::{Front, read_front};
 use crate::image::Image;
-use crate::plain::Front;
-use crate::stale::{Stale, heap_without, stale_words};
-use crate::starts::shaped_starts;
-use crate::table::{check_flags, regions};
-use g1_words::{Fault, Geometry, Heap};
+use crate::judging::{image_of, image_of_by, image_without};
+use crate::pieces::lay_pieces;
+use crate::source::{Nothing, Source};
+use crate::stale::Stale;
+use g1_words::{Device, Fault, Words};
 use std::alloc::Global;
 use std::thread::Threads;
 
-/// The heap in a file, before it is checked.
-fn draft_heap(
+/// Returns whether a fault of some bytes is one of all bytes that begin with them, too.
+fn is_final(fault: &Fault) -> bool
+    ensures { IsTrue result → (bytes more : List ℕ) → FaultOf bytes fault.now → FaultOf (bytes ++ more) fault.now }
+{
+    match fault {
+        Fault::Magic => true,
+        Fault::Geometry => true,
+        Fault::Memory => true,
+        _ => false,
+    }
+}
+
+/// Returns whether a fault is one of the bytes that were read.
+pub(crate) fn is_of_bytes(fault: &Fault) -> bool
+    ensures yes { IsTrue result → (fault.now ≢ Fault.Memory) × (fault.now ≢ Fault.Device Device.Input) }
+    ensures no { IsFalse result → (fault.now ≡ Fault.Memory) ⊎ (fault.now ≡ Fault.Device Device.Input) }
+{
+    !matches!(fault, Fault::Memory | Fault::Device(Device::Input))
+}
+
+/// The front that the bytes begin with, and how many bytes it has.
+fn front_of(alloc: Global, bytes: &[u8]) -> Result<(Front, usize), Fault>
+    ensures ok { IfOk result (λ x. IsGoodFront x.0) }
+    ensures count { IfOk result (λ x. x.1 ≤ length bytes.now) }
+    ensures text { IfOk result (λ x. bytes.now ≡ text_of x.0 (drop x.1 bytes.now)) }
+    ensures err { IfErr result (MayFail bytes.now) }
+    ensures stage { IfErr result IsTextFault }
+{
+    let (front, rest) = read_front(alloc, bytes)?;
+    Ok((front, bytes.len() - rest.len()))
+}
+
+/// Takes the front of the text. Twice as many bytes are read until it is among them.
+fn take_front<S: Source>(alloc: Global, source: &mut S, ahead: &mut Ahead) -> Result<Front, Fault>
+    requires known { KnowsEnd ahead.old (S.left source.old) }
+    ensures known { KnowsEnd ahead.new (S.left source.new) }
+    ensures ok { IfOk result (λ x. IsGoodFront x) }
+    ensures taken { IfOk result (λ x. Consumes (to_take ahead.old (S.left source.old)) (to_take ahead.new (S.left source.new)) (text_of x [])) }
+    ensures mark { OnOk result (S.failed source.new ≡ S.failed source.old) }
+    ensures err { IfErr result (TextFails (S.failed source.old) (S.failed source.new) (to_take ahead.old (S.left source.old))) }
+    ensures stage { IfErr result IsTextFault }
+{
+    let mut wanted = PIECE;
+    loop {
+        let more = ahead.reach(source, wanted)?;
+        match front_of(alloc, ahead.bytes()) {
+            Ok((front, count)) => {
+                ahead.pass(count);
+                return Ok(front);
+            }
+            Err(fault) => {
+                if !more || is_final(&fault) {
+                    return Err(fault);
+                }
+            }
+        }
+        wanted = 2 * ahead.len();
+    }
+}
+
+/// The front and the words of the text.
+pub(crate) fn take_parts<S: Source>(
     alloc: Global,
-    h: &Heading,
-    table: &[Entry],
-    roots: Vec<u64>,
-    words: Vec<u64>,
-) -> Result<Draft, Fault>
-    requires good { IsGoodHeading h.now }
-    requires table { length table.now ≡ h.now.n }
-    requires roots { length roots.items ≡ h.now.roots }
-    requires words { length words.items ≡ h.now.n * h.now.w }
-    requires fit { All (λ x. x < 2 ^ 64) words.items }
-    ensures ok { IfOk result (λ d. d ≡ heap_of_parts h.now table.now roots.items words.items) }
-    ensures known { OnOk result (AreKnown table.now h.now.n) }
-    ensures err { IfErr result (λ e. (e ≡ Fault.Memory) ⊎ TableFault table.now h.now.n e) }
+    source: &mut S,
+    ahead: &mut Ahead,
+) -> Result<(Front, Words), Fault>
+    requires known { KnowsEnd ahead.old (S.left source.old) }
+    ensures known { KnowsEnd ahead.new (S.left source.new) }
+    ensures ok { IfOk result (λ x. HoldsOfLeft (to_take ahead.old (S.left source.old)) (λ xs. IsLaidOut xs x.0 x.1.items)) }
+    ensures laid { IfOk result (λ x. IsReachedBy x.0 x.1.laid) }
+    ensures end { OnOk result (IsAtEnd (S.left source.new)) }
+    ensures mark { OnOk result (S.failed source.new ≡ S.failed source.old) }
+    ensures err { IfErr result (TextFails (S.failed source.old) (S.failed source.new) (to_take ahead.old (S.left source.old))) }
+    ensures stage { IfErr result IsTextFault }
 {
-    let regions = regions(alloc, table)?;
-    check_flags(table)?;
-    let geometry = Geometry::new(u64::from(h.w), u64::from(h.k), u64::from(h.n))?;
-    let current = if h.current < h.n {
-        Some(h.current)
-    } else {
-        None
-    };
-    Ok(Draft {
-        geometry,
-        words,
-        regions,
-        roots,
-        current,
-    })
+    let front = take_front(alloc, source, ahead)?;
+    let words = lay_pieces(alloc, front.heading.w, &front.table, source, ahead)?;
+    if ahead.reach(source, 1)? {
+        return Err(Fault::Trailing);
+    }
+    Ok((front, words))
 }
 
-/// An image whose heap and cards haven't been looked at.
-#[derive(Drop)]
-struct DraftImage {
-    draft: Draft,
-    log: Vec<u32>,
-    remembered: Vec<Vec<u32>>,
-}
-
-/// The image in a whole file's front and words, before it is checked.
-fn draft_image(alloc: Global, front: Front, words: Vec<u64>) -> Result<DraftImage, Fault>
-    requires { (bytes : List ℕ) × IsLaidOut bytes front words.items }
-    ensures ok { IfOk result (λ d. (bytes : List ℕ) → IsLaidOut bytes front words.items → IsDraftOf bytes d) }
-    ensures err { IfErr result (λ e. (bytes : List ℕ) → IsLaidOut bytes front words.items → MayFail bytes e) }
-    ensures stage { IfErr result (λ e. (e ≡ Fault.Memory) ⊎ TableFault front.table.items front.heading.n e) }
+/// The front and the words of the text that is left in a source, read to its end.
+fn read_parts<S: Source>(alloc: Global, source: &mut S) -> Result<(Front, Words), Fault>
+    ensures ok { IfOk result (λ x. HoldsOfLeft (S.left source.old) (λ xs. IsLaidOut xs x.0 x.1.items)) }
+    ensures laid { IfOk result (λ x. IsReachedBy x.0 x.1.laid) }
+    ensures err { IfErr result (λ e. (e ≡ Fault.Device Device.Input) ⊎ HoldsOfLeft (S.left source.old) (λ xs. MayFail xs e)) }
+    ensures stage { IfErr result IsTextFault }
+    ensures end { IsReadOut (S.left source.new) result }
+    ensures marks { S.failed source.new ≡ input_mark (S.failed source.old) result }
 {
-    let Front {
-        version: _,
-        heading,
-        table,
-        roots,
-        log,
-        remembered,
-    } = front;
-    let draft = draft_heap(alloc, &heading, &table, roots, words)?;
-    Ok(DraftImage {
-        draft,
-        log,
-        remembered,
-    })
+    let mut ahead = Ahead::nothing(alloc);
+    match take_parts(alloc, source, &mut ahead) {
+        Ok(parts) => Ok(parts),
+        Err(fault) => {
+            // The rest is read too, so that a read that fails there is reported.
+            if is_of_bytes(&fault) {
+                ahead.drain(source)?;
+            }
+            Err(fault)
+        }
+    }
 }
 
-/// The image of a draft whose heap is good, or the first fault of its cards.
-fn finish(alloc: Global, drafted: DraftImage) -> Result<Image, Fault>
-    requires good { IsGoodHeap drafted.draft }
-    requires text { (bytes : List ℕ) × IsDraftOf bytes drafted }
-    ensures ok { IfOk result (λ i. (bytes : List ℕ) → IsDraftOf bytes drafted → IsTextOf bytes i) }
-    ensures err { IfErr result (λ e. (bytes : List ℕ) → IsDraftOf bytes drafted → MayFail bytes e) }
+/// The image whose text the bytes are, or the fault of the first stage that finds one.
+///
+/// # Errors
+///
+/// `Fault::Memory`, and the fault of the bytes.
+pub fn decode(alloc: Global, bytes: &[u8]) -> Result<Image, Fault>
+    ensures ok { IfOk result (λ i. IsTextOf bytes.now i) }
+    ensures err { IfErr result (MayFail bytes.now) }
 {
-    let log = check_cards(alloc, &drafted.draft, &drafted.log, &drafted.remembered)?;
-    let DraftImage {
-        draft,
-        remembered,
-        ..
-    } = drafted;
-    let heap = Heap {
-        geometry: draft.geometry,
-        words: draft.words,
-        regions: draft.regions,
-        roots: draft.roots,
-        current: draft.current,
-    };
-    Ok(Image {
-        heap,
-        remembered,
-        log,
-    })
+    let cursor = Cursor::new(bytes);
+    let (front, words) = take_parts(alloc, &mut Nothing, &mut Ahead::Whole(cursor))?;
+    image_of(alloc, front, words)
 }
 
-/// The image of a whole file's front and words.
-pub(crate) fn image_of(alloc: Global, front: Front, words: Vec<u64>) -> Result<Image, Fault>
-    requires { (bytes : List ℕ) × IsLaidOut bytes front words.items }
-    ensures ok { IfOk result (λ i. (bytes : List ℕ) → IsLaidOut bytes front words.items → IsTextOf bytes i) }
-    ensures err { IfErr result (λ e. (bytes : List ℕ) → IsLaidOut bytes front words.items → MayFail bytes e) }
+/// The image whose text is left in a source, read to its end: as `decode` of those bytes, but the words
+/// go straight to their places, and the text is never in memory as a whole. Their list grows with the
+/// words that are there: a short text that announces a large heap takes no room for it. If the source
+/// does not report its bytes, this is the image, or the fault, of some bytes.
+///
+/// # Errors
+///
+/// `Fault::Device(Device::Input)` if a read failed, `Fault::Memory`, and the fault of the bytes.
+pub fn read<S: Source>(alloc: Global, source: &mut S) -> Result<Image, Fault>
+    ensures ok { IfOk result (λ i. HoldsOfLeft (S.left source.old) (λ xs. IsTextOf xs i)) }
+    ensures err { IfErr result (λ e. (e ≡ Fault.Device Device.Input) ⊎ HoldsOfLeft (S.left source.old) (λ xs. MayFail xs e)) }
+    ensures end { IsReadOut (S.left source.new) result }
+    ensures marks { S.failed source.new ≡ input_mark (S.failed source.old) result }
 {
-    let drafted = draft_image(alloc, front, words)?;
-    check_heap(alloc, &drafted.draft)?;
-    finish(alloc, drafted)
+    let (front, words) = read_parts(alloc, source)?;
+    image_of(alloc, front, words)
 }
 
-/// As `image_of`, with this many workers at most. One if it is 0.
-pub(crate) fn image_of_by(
+/// As `read`, with the stale words taken for null: a root or a slot that references no object is none of
+/// the faults. Returns the image with null in them, and what they were.
+///
+/// # Errors
+///
+/// Those of `read`, except `Fault::Reference`.
+pub fn read_stale<S: Source>(alloc: Global, source: &mut S) -> Result<(Image, Stale), Fault>
+    ensures ok { IfOk result (λ x. HoldsOfLeft (S.left source.old) (λ xs. IsTextWithout xs x.0 x.1.roots.items x.1.slots.items)) }
+    ensures err { IfErr result (λ e. (e ≡ Fault.Device Device.Input) ⊎ HoldsOfLeft (S.left source.old) (λ xs. (e ≡ Fault.Memory) ⊎ FaultWithout xs e)) }
+    ensures end { IsReadOut (S.left source.new) result }
+    ensures marks { S.failed source.new ≡ input_mark (S.failed source.old) result }
+{
+    let (front, words) = read_parts(alloc, source)?;
+    image_without(alloc, front, words)
+}
+
+/// As `read`, with this many workers at most. One if it is 0.
+///
+/// The words are read and laid by the calling thread. The workers share the search for the first
+/// region that breaks a rule, the marks of the objects' starts, and the search for the first slot that
+/// references no object: each has a range of the regions.
+///
+/// # Errors
+///
+/// Those of `read`.
+pub fn read_by<S: Source>(
     rt: &(impl Threads + Sync),
     alloc: Global,
-    front: Front,
-    words: Vec<u64>,
+    source: &mut S,
     workers: u64,
 ) -> Result<Image, Fault>
-    requires { (bytes : List ℕ) × IsLaidOut bytes front words.items }
-    ensures ok { IfOk result (λ i. (bytes : List ℕ) → IsLaidOut bytes front words.items → IsTextOf bytes i) }
-    ensures err { IfErr result (λ e. (bytes : List ℕ) → IsLaidOut bytes front words.items → MayFail bytes e) }
+    ensures ok { IfOk result (λ i. HoldsOfLeft (S.left source.old) (λ xs. IsTextOf xs i)) }
+    ensures err { IfErr result (λ e. (e ≡ Fault.Device Device.Input) ⊎ HoldsOfLeft (S.left source.old) (λ xs. MayFail xs e)) }
+    ensures end { IsReadOut (S.left source.new) result }
+    ensures marks { S.failed source.new ≡ input_mark (S.failed source.old) result }
 {
-    let drafted = draft_image(alloc, front, words)?;
-    check_heap_by(rt, alloc, &drafted.draft, workers)?;
-    finish(alloc, drafted)
-}
-
-/// The image of a whole file's front and words, with null in its stale words, and what these were.
-pub(crate) fn image_without(
-    alloc: Global,
-    front: Front,
-    words: Vec<u64>,
-) -> Result<(Image, Stale), Fault>
-    requires { (bytes : List ℕ) × IsLaidOut bytes front words.items }
-    ensures ok { IfOk result (λ x. (bytes : List ℕ) → IsLaidOut bytes front words.items → IsTextWithout bytes x.0 x.1.roots.items x.1.slots.items) }
-    ensures err { IfErr result (λ e. (bytes : List ℕ) → IsLaidOut bytes front words.items → (e ≡ Fault.Memory) ⊎ FaultWithout bytes e) }
-{
-    let drafted = draft_image(alloc, front, words)?;
-    let marks = shaped_starts(alloc, &drafted.draft)?;
-    let log = check_cards(alloc, &drafted.draft, &drafted.log, &drafted.remembered)?;
-    let stale = stale_words(alloc, &drafted.draft, &marks)?;
-    let heap = heap_without(drafted.draft, &stale);
-    let image = Image {
-        heap,
-        remembered: drafted.remembered,
-        log,
-    };
-    Ok((image, stale))
+    let (front, words) = read_parts(alloc, source)?;
+    image_of_by(rt, alloc, front, words, workers)
 }

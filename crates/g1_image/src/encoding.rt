@@ -1,109 +1,81 @@
-ghost use Rattle.std.specs.Prelude.{◌≡◌, ◌++◌, ℕ, List, map, OnOk, IfOk};
-ghost use Rattle.g1_image.specs.Text.{table_text, words_text, file_text, heading_of};
-ghost use Rattle.g1_image.specs.Parts.{file_of_parts, CountsFit};
-ghost use Rattle.g1_image.specs.Image.{flags_of, entry_of, file_of, IsTextIn};
+//! The text of an image, to a sink or into a list.
+ghost use Rattle.std.specs.Prelude.{◌≡◌, ◌≤◌, ◌*◌, ℕ, List, length, All, OnOk, IfOk, IfErr};
+ghost use Rattle.g1_words.specs.Words.{AreLaid};
+ghost use Rattle.g1_image.specs.Text.{words_text};
+ghost use Rattle.g1_image.specs.Image.{used_words, IsTextIn};
+ghost use Rattle.g1_image.specs.Source.{marked};
+ghost use Rattle.g1_image.specs.Sink.{unsent, Sent, SendFails, Writes, output_mark};
 
-use crate::cursor::{Heading, Version};
+use crate::behind::Behind;
+use crate::cursor::Version;
+use crate::file_parts::encode_front;
 use crate::image::Image;
-use crate::writing::{count, push_heading, push_magic, push_numbers, push_remembered, push_words};
-use g1_words::{Geometry, Region};
-use std::alloc::{AllocError, Global};
+use crate::sink::Sink;
+use crate::std_streams::ToWriter;
+use g1_words::{Fault, Region};
+use std::alloc::Global;
 
-/// What precedes the words in the text of an image. Parts that are no image's can be written too.
-#[derive(Clone, Copy)]
-pub struct FileParts<'a> {
-    pub geometry: Geometry,
-    /// The number of the current region.
-    pub current: Option<u32>,
-    pub regions: &'a [Region],
-    /// References as words.
-    pub roots: &'a [u64],
-    /// The dirty cards.
-    pub log: &'a [u32],
-    /// The remembered cards of each region.
-    pub remembered: &'a [Vec<u32>],
-}
-
-/// The flags of a region that is pinned or isn't.
-fn flags_of(pinned: bool) -> u32
-    ensures { result ≡ flags_of pinned }
+/// Sends the used words of regions of this width.
+fn send_used<S: Sink>(
+    behind: &mut Behind,
+    sink: &mut S,
+    width: usize,
+    regions: &[Region],
+    words: &[u64],
+) -> Result<(), Fault>
+    requires laid { AreLaid width regions.now (length words.now) }
+    requires tops { All (λ q. q.top ≤ width) regions.now }
+    ensures ok { OnOk result (Sent (S.written sink.old) (S.written sink.new) (unsent behind.old) (words_text (used_words width regions.now words.now)) (unsent behind.new)) }
+    ensures err { IfErr result (SendFails (S.written sink.old) (S.written sink.new) (unsent behind.old) (words_text (used_words width regions.now words.now))) }
+    ensures mark { S.failed sink.new ≡ marked (S.failed sink.old) result }
 {
-    if pinned { 1 } else { 0 }
-}
-
-fn push_table(out: &mut Vec<u8>, regions: &[Region]) -> Result<(), AllocError>
-    ensures { OnOk result (out.new.items ≡ out.old.items ++ table_text Version.Two (map entry_of regions.now)) }
-{
-    for region in regions {
-        push_numbers(
-            out,
-            &[region.kind.number(), region.top, flags_of(region.pinned)],
-        )?;
+    let mut rest = words;
+    for r in regions {
+        let (region, after) = rest.split_at(rest.len().min(width));
+        behind.send(sink, &region[..r.top as usize])?;
+        rest = after;
     }
     Ok(())
 }
 
-fn heading_of(parts: &FileParts<'_>) -> Heading
-    ensures { (words : List ℕ) → CountsFit (file_of_parts parts.now words) → result ≡ heading_of (file_of_parts parts.now words) }
-{
-    let geometry = parts.geometry;
-    let regions = geometry.regions() as u32;
-    Heading {
-        w: geometry.region_words() as u32,
-        k: geometry.card_words() as u32,
-        n: regions,
-        roots: count(parts.roots.len()),
-        dirty: count(parts.log.len()),
-        current: parts.current.unwrap_or(regions),
-    }
-}
-
-/// Writes parts at the end. Their words follow.
-fn push_parts(out: &mut Vec<u8>, parts: &FileParts<'_>) -> Result<(), AllocError>
-    ensures { (words : List ℕ) → CountsFit (file_of_parts parts.now words) → OnOk result (out.new.items ++ words_text words ≡ out.old.items ++ file_text (file_of_parts parts.now words)) }
-{
-    push_magic(out, Version::Two)?;
-    push_heading(out, &heading_of(parts))?;
-    push_table(out, parts.regions)?;
-    push_words(out, parts.roots)?;
-    push_numbers(out, parts.log)?;
-    push_remembered(out, parts.remembered)
-}
-
-/// The bytes of parts and of the used words behind them, of version 2. If the parts are an image's, these are
-/// its text. Others are not judged: their bytes may have a fault, which `decode` reports, or be the text of
-/// another image, if `current` is no region or the lists do not have an entry for each region.
+/// Writes the text of an image, of version 2, to a sink: as `encode` gives it, but the words go out in
+/// pieces, and the text is never in memory as a whole. All memory is taken before the first byte is
+/// written. A sink that keeps bytes back is not flushed.
 ///
 /// # Errors
 ///
-/// `AllocError` if a growth was refused.
-pub fn encode_parts(
-    alloc: Global,
-    parts: &FileParts<'_>,
-    words: &[u64],
-) -> Result<Vec<u8>, AllocError>
-    ensures { CountsFit (file_of_parts parts.now words.now) → IfOk result (λ v. v.items ≡ file_text (file_of_parts parts.now words.now)) }
-{
-    let mut out = Vec::new(alloc);
-    push_parts(&mut out, parts)?;
-    push_words(&mut out, words)?;
-    Ok(out)
-}
-
-/// What precedes the words in the text of an image.
-pub(crate) fn encode_front(alloc: Global, image: &Image) -> Result<Vec<u8>, AllocError>
-    ensures { IfOk result (λ v. IsTextIn Version.Two (v.items ++ words_text (file_of Version.Two image.now).words) image.now) }
+/// `Fault::Memory`: nothing was written. `Fault::Device(Device::Output)` if a write failed: a
+/// beginning of the text was written.
+pub fn write<S: Sink>(alloc: Global, image: &Image, sink: &mut S) -> Result<(), Fault>
+    ensures text { (text : List ℕ) × IsTextIn Version.Two text image.now × Writes text (S.written sink.old) (S.written sink.new) result }
+    ensures mark { S.failed sink.new ≡ output_mark (S.failed sink.old) result }
 {
     let heap = image.heap();
-    let parts = FileParts {
-        geometry: heap.geometry(),
-        current: heap.current(),
-        regions: heap.regions(),
-        roots: heap.roots(),
-        log: image.log().as_slice(),
-        remembered: image.remembered(),
-    };
-    let mut out = Vec::new(alloc);
-    push_parts(&mut out, &parts)?;
-    Ok(out)
+    let front = encode_front(alloc, image)?;
+    let mut behind = Behind::new(front)?;
+    send_used(
+        &mut behind,
+        sink,
+        heap.geometry().region_words() as usize,
+        heap.regions(),
+        heap.words().laid(),
+    )?;
+    behind.flush(sink)
+}
+
+/// The text of an image, of version 2.
+///
+/// # Errors
+///
+/// `Fault::Memory` alone.
+pub fn encode(alloc: Global, image: &Image) -> Result<Vec<u8>, Fault>
+    ensures ok { IfOk result (λ v. IsTextIn Version.Two v.items image.now) }
+    ensures err { IfErr result (λ e. e ≡ Fault.Memory) }
+{
+    let mut sink = ToWriter::new(Vec::new(alloc));
+    match write(alloc, image, &mut sink) {
+        Ok(()) => Ok(sink.into_inner()),
+        // A list takes no more bytes only if memory runs out.
+        Err(_) => Err(Fault::Memory),
+    }
 }

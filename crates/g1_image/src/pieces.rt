@@ -1,9 +1,10 @@
 //! The words of an image, straight from their bytes to their places.
-ghost use Rattle.std.specs.Prelude.{◌≡◌, ◌≤◌, ◌<◌, ◌*◌, ◌^◌, ◌++◌, ◌+◌, ℕ, List, [], length, replicate, OnOk, IfOk, IfErr};
+ghost use Rattle.std.specs.Prelude.{◌≡◌, ◌≤◌, ◌<◌, ◌*◌, ◌^◌, ◌++◌, ◌+◌, ℕ, List, [], length, map, replicate, OnOk, IfOk, IfErr};
 ghost use Rattle.std.specs.Io.KnownBytes.{Keeps};
 ghost use Rattle.g1_words.specs.Geometry.{most_regions, most_words};
 ghost use Rattle.g1_image.specs.Text.{words_of, table_words};
-ghost use Rattle.g1_image.specs.Image.{all_words};
+ghost use Rattle.g1_words.specs.Words.{AreLaid};
+ghost use Rattle.g1_image.specs.Image.{all_words, region_of_entry};
 ghost use Rattle.g1_image.specs.Reading.{IsBytes};
 ghost use Rattle.g1_image.specs.Ahead.{waiting, to_take, KnowsEnd, Takes, TakeFails, region_words};
 ghost use Rattle.g1_image.specs.Growing.{laid_words};
@@ -13,7 +14,7 @@ use crate::cursor::Entry;
 use crate::source::Source;
 use crate::table::table_words as announced;
 use byteorder::{ByteOrder, LittleEndian};
-use g1_words::Fault;
+use g1_words::{Fault, Words};
 use std::alloc::{AllocError, Global};
 
 // So many words at most are read at once: few enough to be in the nearest cache when they are written at
@@ -162,6 +163,8 @@ fn push_region<S: Source>(
     ensures known { KnowsEnd ahead.new (S.left source.new) }
     ensures ok { OnOk result ((bs : List ℕ) × Takes (S.failed source.old) (S.failed source.new) (to_take ahead.old (S.left source.old)) (to_take ahead.new (S.left source.new)) bs × (length bs ≡ 8 * top) × (laid_words laid.new ≡ laid_words laid.old ++ region_words w top bs)) }
     ensures zeros { OnOk result (laid.new.zeros ≤ laid.old.zeros + w) }
+    ensures longer { OnOk result (length laid.old.words.items ≤ length laid.new.words.items) }
+    ensures used { OnOk result ((i : ℕ) → i < w → i < top → length (laid_words laid.old) + i < length laid.new.words.items) }
     ensures err { IfErr result (TakeFails (S.failed source.old) (S.failed source.new) (to_take ahead.old (S.left source.old)) (8 * words.left)) }
 {
     if top == 0 {
@@ -190,12 +193,13 @@ pub(crate) fn lay_pieces<S: Source>(
     table: &[Entry],
     source: &mut S,
     ahead: &mut Ahead,
-) -> Result<Vec<u64>, Fault>
+) -> Result<Words, Fault>
     requires count { length table.now ≤ most_regions }
     requires sizes { length table.now * w ≤ most_words }
     requires known { KnowsEnd ahead.old (S.left source.old) }
     ensures known { KnowsEnd ahead.new (S.left source.new) }
     ensures ok { IfOk result (λ v. (bs : List ℕ) × Takes (S.failed source.old) (S.failed source.new) (to_take ahead.old (S.left source.old)) (to_take ahead.new (S.left source.new)) bs × (length bs ≡ 8 * table_words table.now) × (v.items ≡ all_words w table.now (words_of (table_words table.now) bs))) }
+    ensures laid { IfOk result (λ v. AreLaid w (map region_of_entry table.now) v.laid) }
     ensures err { IfErr result (TakeFails (S.failed source.old) (S.failed source.new) (to_take ahead.old (S.left source.old)) (8 * table_words table.now)) }
 {
     let total = announced(table);
@@ -216,7 +220,6 @@ pub(crate) fn lay_pieces<S: Source>(
         )?;
         taken += u64::from(e.top);
     }
-    let Growing { mut words, zeros } = laid;
-    push_zeros(&mut words, zeros)?;
-    Ok(words)
+    let Growing { words, zeros } = laid;
+    Ok(Words::new(words, zeros as usize)?)
 }

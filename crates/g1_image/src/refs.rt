@@ -4,7 +4,7 @@ ghost use Rattle.g1_image.specs.Marks.{StartsAre};
 ghost use Rattle.g1_image.specs.Faults.{IsFirstBreach, IsGoodRoot, RootsAreGood};
 
 use crate::draft::Draft;
-use g1_words::{Fault, Marks, Place};
+use g1_words::{Fault, Marks, Object, Place, Words};
 
 /// Returns whether a word is null or references an object.
 pub(crate) fn is_reference(draft: &Draft, marks: &Marks, x: u64) -> bool
@@ -34,15 +34,22 @@ pub(crate) fn check_roots(draft: &Draft, marks: &Marks) -> Result<(), Fault>
     Ok(())
 }
 
-/// Returns the first of some words that references no object.
-pub(crate) fn first_stray(draft: &Draft, marks: &Marks, words: &[u64]) -> Option<usize>
-    requires { StartsAre draft.now marks.now }
-    ensures found { IfSome result (λ i. IsFirstBreach (λ i. IsReference draft.now (slice_index words.now i)) (length words.now) i) }
-    ensures none { IfNone result ((i : ℕ) → i < length words.now → IsReference draft.now (slice_index words.now i)) }
+/// Returns the first of an object's slots that references no object.
+pub(crate) fn first_stray(
+    draft: &Draft,
+    marks: &Marks,
+    words: &Words,
+    object: &Object,
+) -> Option<usize>
+    requires marked { StartsAre draft.now marks.now }
+    requires small { object.now.at + object.now.refs < 2 ^ 32 }
+    ensures found { IfSome result (λ i. IsFirstBreach (λ i. IsReference draft.now (slice_index words.now.items (object.now.at + 1 + i))) object.now.refs i) }
+    ensures none { IfNone result ((i : ℕ) → i < object.now.refs → IsReference draft.now (slice_index words.now.items (object.now.at + 1 + i))) }
 {
-    for (i, x) in words.iter().enumerate() {
-        if !is_reference(draft, marks, *x) {
-            return Some(i);
+    let first = object.at + 1;
+    for i in 0..object.refs {
+        if !is_reference(draft, marks, words.at(first + i)) {
+            return Some(i as usize);
         }
     }
     None

@@ -7,30 +7,30 @@ ghost use Rattle.g1_image.specs.Draft.{IsTiled, Latest, ShapedBelow};
 ghost use Rattle.g1_image.specs.Marks.{InRow, StartsIn, Marked};
 
 use crate::draft::Draft;
-use g1_words::{Geometry, Kind, Marks, header};
+use g1_words::{Geometry, Kind, Marks, Words};
 
 /// Returns whether objects that aren't humongous fill the words between two addresses, and marks
 /// them. The marks begin at the address `base`.
 fn mark_row(
     marks: &mut Marks,
     base: u64,
-    words: &[u64],
+    words: &Words,
     from: u64,
     to: u64,
     geometry: &Geometry,
 ) -> bool
     requires order { from ≤ to }
-    requires in_words { to ≤ length words.now }
+    requires in_words { to ≤ length words.now.items }
     requires sizes { to ≤ most_words }
     requires below { base ≤ from }
     requires above { to ≤ base + length marks.old }
-    ensures tiled { IsTrue result ↔ IsTiled words.now from to geometry.now.w }
-    ensures marked { IsTrue result → Marked (λ k. InRow words.now from to (base + k)) marks.old marks.new }
+    ensures tiled { IsTrue result ↔ IsTiled words.now.items from to geometry.now.w }
+    ensures marked { IsTrue result → Marked (λ k. InRow words.now.items from to (base + k)) marks.old marks.new }
     ensures size { length marks.new ≡ length marks.old }
 {
     let mut at = from;
     while at < to {
-        let o = header(words, at);
+        let o = words.header(at);
         if o.refs >= o.size {
             return false;
         }
@@ -96,7 +96,7 @@ fn humongous_shaped(draft: &Draft, r: u32) -> bool
     let geometry = draft.geometry();
     let region_words = geometry.region_words();
     let top = u64::from(draft.region(r).top);
-    let o = header(draft.words(), geometry.start(r));
+    let o = draft.words().header(geometry.start(r));
     if o.refs >= o.size {
         return false;
     }

@@ -9,7 +9,7 @@ ghost use Rattle.g1_image.specs.Stale.{IsStaleRoot, IsStaleSlot, IsPut, Lists, n
 
 use crate::draft::Draft;
 use crate::refs::is_reference;
-use g1_words::{Heap, Marks, header};
+use g1_words::{Heap, Marks, Words};
 use std::alloc::{AllocError, Global};
 
 /// The words of an image file that should be null or reference an object, and do neither.
@@ -59,9 +59,9 @@ fn stale_slots(alloc: Global, draft: &Draft, marks: &Marks) -> Result<Vec<(u64, 
     let mut slots_end = 0;
     for at in 0..words.len() {
         if at < slots_end {
-            put_stale(draft, marks, at as u64, words[at], &mut found)?;
+            put_stale(draft, marks, at as u64, words.at(at as u64), &mut found)?;
         } else if marks.is_set(at) {
-            slots_end = at + 1 + header(words, at as u64).refs as usize;
+            slots_end = at + 1 + words.header(at as u64).refs as usize;
         }
     }
     Ok(found)
@@ -90,6 +90,19 @@ fn with_nulls(words: Vec<u64>, found: &[(u64, u64)]) -> Vec<u64>
     nulled
 }
 
+/// The words of a heap, with null at each of these addresses.
+fn words_without(words: Words, found: &[(u64, u64)]) -> Words
+    requires { All (λ e. e.0 < length words.items) found.now }
+    ensures items { result.items ≡ nulled found.now words.items }
+    ensures laid { words.laid ≤ result.laid }
+{
+    let mut nulled = words;
+    for stale in found {
+        nulled.set(stale.0, 0);
+    }
+    nulled
+}
+
 /// The heap of a draft whose stale words these are, with null in each of them.
 pub(crate) fn heap_without(draft: Draft, stale: &Stale) -> Heap
     requires shaped { ShapedBelow draft draft.geometry.n }
@@ -109,7 +122,7 @@ pub(crate) fn heap_without(draft: Draft, stale: &Stale) -> Heap
     } = draft;
     Heap {
         geometry,
-        words: with_nulls(words, &stale.slots),
+        words: words_without(words, &stale.slots),
         regions,
         roots: with_nulls(roots, &stale.roots),
         current,

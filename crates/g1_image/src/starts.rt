@@ -8,7 +8,7 @@ ghost use Rattle.g1_image.specs.Shapes.{AreShaped, AreShapedRanges, IsShapedRang
 
 use crate::draft::Draft;
 use crate::shape::mark_region;
-use g1_words::{Fault, Marks, header};
+use g1_words::{Fault, Marks};
 use g1_work::{Make, WORDS_A_THREAD, cut_regions, make_each, threads_for};
 use std::alloc::{AllocError, Global};
 use std::thread::Threads;
@@ -25,7 +25,7 @@ fn latest(draft: &Draft, r: u32) -> (u32, u64)
         first -= 1;
         if draft.region(first).kind.is_humongous_first() {
             let start = draft.geometry().start(first);
-            return (first, header(draft.words(), start).size);
+            return (first, draft.words().header(start).size);
         }
     }
     (0, 0)
@@ -54,7 +54,7 @@ fn starts_between(
         }
         if draft.region(r).kind.is_humongous_first() {
             first = r;
-            size = header(draft.words(), geometry.start(r)).size;
+            size = draft.words().header(geometry.start(r)).size;
         }
     }
     Ok(Ok(marks))

@@ -9,7 +9,7 @@ ghost use Rattle.g1_image.specs.Checks.{AreShapedStarts, IsStrayFault};
 
 use crate::draft::Draft;
 use crate::refs::first_stray;
-use g1_words::{Fault, Kind, Marks, Place, Region, header, slots};
+use g1_words::{Fault, Kind, Marks, Place, Region};
 use g1_work::{Make, WORDS_A_THREAD, cut_regions, first_found, make_each, threads_for};
 use std::alloc::Global;
 use std::thread::Threads;
@@ -42,8 +42,8 @@ fn first_between(draft: &Draft, marks: &Marks, from: usize, to: usize) -> Option
     let mut at = from;
     while at < to {
         if marks.is_set(at) {
-            let o = header(words, at as u64);
-            if let Some(i) = first_stray(draft, marks, slots(words, &o)) {
+            let o = words.header(at as u64);
+            if let Some(i) = first_stray(draft, marks, words, &o) {
                 return Some((at + 1 + i) as u64);
             }
             at += o.size as usize;

@@ -5,6 +5,7 @@ use Rattle.g1_image.specs.Ahead.{region_words}
 use Rattle.g1_image.specs.Growing.{laid_words}
 use Rattle.g1_image.proofs.Taken.{takes_none, takes_more, fails_after}
 use Rattle.g1_image.proofs.Laid.{region_laid, none_laid}
+use Rattle.g1_image.proofs.Words.{length-words_of}
 use Rattle.g1_image.proofs.pieces.push_region.Goals as goal
 
 pub returns-then-top-eq0-clause-ok : goal.returns-then-top-eq0-clause-ok
@@ -72,3 +73,12 @@ returns-clause-known g c = c.skip_words.ensures.known
 
 pub returns-clause-zeros : goal.returns-clause-zeros
 returns-clause-zeros g c = omega arith
+
+pub returns-clause-used : goal.returns-clause-used
+returns-clause-used g c = λ i small few.
+    let used = c.min-used.result in
+    let first = c.in_ok-push_next.ensures.ok in
+    let grown : length c.push_next.new.out.items ≡ length (laid_words c.args.laid.now) + used =
+    ap length (first.3 ∙ ap (λ x. x ++ words_of used first.0) c.in_ok-push_gap.ensures.words) ∙ length-append (laid_words c.args.laid.now) (words_of used first.0)
+    ∙ ap (λ k. length (laid_words c.args.laid.now) + k) (length-words_of used first.0) in
+    omega (arith, grown, c.min-used.ensures, small, few)

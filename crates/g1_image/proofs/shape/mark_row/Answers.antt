@@ -7,17 +7,17 @@ use Rattle.g1_image.proofs.Rows.{Marked-start, Marked-step}
 use Rattle.g1_image.proofs.shape.mark_row.Goals as goal
 
 pub returns-then-o-clause-tiled : goal.returns-then-o-clause-tiled
-returns-then-o-clause-tiled c = never (λ t. let f = read_fits c.args.words.now c.args.from c.args.to c.args.geometry.now.w c.loop-at.at c.header-o.result
+returns-then-o-clause-tiled c = never (λ t. let f = read_fits c.args.words.now.items c.args.from c.args.to c.args.geometry.now.w c.loop-at.at c.header-o.result
     c.loop-at-test.true c.header-o.ensures.at c.header-o.ensures.word c.header-o.ensures.refs c.header-o.ensures.size
     (c.loop-at.invariant.checked.ahead t) in omega (arith, f.0, c.if-o.true))
 
 pub returns-then-is_humongous-clause-tiled : goal.returns-then-is_humongous-clause-tiled
-returns-then-is_humongous-clause-tiled c = never (λ t. let f = read_fits c.args.words.now c.args.from c.args.to c.args.geometry.now.w c.loop-at.at
+returns-then-is_humongous-clause-tiled c = never (λ t. let f = read_fits c.args.words.now.items c.args.from c.args.to c.args.geometry.now.w c.loop-at.at
     c.header-o.result c.loop-at-test.true c.header-o.ensures.at c.header-o.ensures.word c.header-o.ensures.refs c.header-o.ensures.size
     (c.loop-at.invariant.checked.ahead t) in omega (arith, f.1, c.is_humongous.ensures.0 c.if-is_humongous.true))
 
 pub returns-then-at-o-clause-tiled : goal.returns-then-at-o-clause-tiled
-returns-then-at-o-clause-tiled c = never (λ t. let f = read_fits c.args.words.now c.args.from c.args.to c.args.geometry.now.w c.loop-at.at c.header-o.result
+returns-then-at-o-clause-tiled c = never (λ t. let f = read_fits c.args.words.now.items c.args.from c.args.to c.args.geometry.now.w c.loop-at.at c.header-o.result
     c.loop-at-test.true c.header-o.ensures.at c.header-o.ensures.word c.header-o.ensures.refs c.header-o.ensures.size
     (c.loop-at.invariant.checked.ahead t) in omega (arith, f.2, c.if-at-o.true))
 
@@ -27,14 +27,14 @@ set-requires c = omega (arith, c.loop-at-test.true, c.requires.above, c.requires
 pub loop-at-init : goal.loop-at-init
 loop-at-init c = record {
   order = omega arith;
-  checked = Checked-start c.args.words.now c.args.from c.args.to c.args.geometry.now.w c.requires.order;
+  checked = Checked-start c.args.words.now.items c.args.from c.args.to c.args.geometry.now.w c.requires.order;
   count = refl;
-  marked = Marked-start c.args.words.now c.args.base c.args.from c.args.marks.now;
+  marked = Marked-start c.args.words.now.items c.args.base c.args.from c.args.marks.now;
 }
 
 pub loop-at-preserved : goal.loop-at-preserved
 loop-at-preserved c =
-    let words = c.args.words.now in
+    let words = c.args.words.now.items in
     let at = c.loop-at.at in
     let q = c.header-o.result in
     let row = c.loop-at.invariant.checked in
@@ -53,9 +53,9 @@ pub loop-at-smaller : goal.loop-at-smaller
 loop-at-smaller c = omega (arith, c.loop-at-test.true)
 
 pub returns-clause-tiled : goal.returns-clause-tiled
-returns-clause-tiled c = always (Checked-end c.args.words.now c.args.from c.args.to c.args.geometry.now.w c.loop-at.at c.loop-at.invariant.checked c.loop-at-test.false)
+returns-clause-tiled c = always (Checked-end c.args.words.now.items c.args.from c.args.to c.args.geometry.now.w c.loop-at.at c.loop-at.invariant.checked c.loop-at-test.false)
 
 pub returns-clause-marked : goal.returns-clause-marked
 returns-clause-marked c = λ t.
     let e : c.loop-at.at ≡ c.args.to = omega (arith, c.loop-at.invariant.checked.order, c.loop-at-test.false) in
-    subst (λ x. Marked (λ k. InRow c.args.words.now c.args.from x (c.args.base + k)) c.args.marks.now c.loop-at.marks) e c.loop-at.invariant.marked
+    subst (λ x. Marked (λ k. InRow c.args.words.now.items c.args.from x (c.args.base + k)) c.args.marks.now c.loop-at.marks) e c.loop-at.invariant.marked

@@ -18,8 +18,8 @@ loop-at-preserved c =
     let some : 0 < h.geometry.w = omega (arith, c.words-words.ensures.draft.limits.w_least) in
     elim c.if-at-slots_end.branch [
       | then-at-slots_end+in_ok-put_stale w ↦
-          rw (w.found-is, w.slots_end-is) (seen_put h at last found some c.requires.shaped seen w.if-at-slots_end.true (slice_index c.words-words.result.now at) w.put_stale.new.found.items
-          (ap (λ l. slice_index l at) (sym same)) w.in_ok-put_stale.ensures)
+          rw (w.found-is, w.slots_end-is) (seen_put h at last found some c.requires.shaped seen w.if-at-slots_end.true w.at.result w.put_stale.new.found.items
+          (sym (w.at.ensures ∙ ap (λ l. slice_index l at) same)) w.in_ok-put_stale.ensures)
       | else-at-slots_end+then-is_set w ↦
           let q = w.header.result in
           let start : StartsAt h at = c.requires.starts.each.sound at (sym w.is_set.ensures ∙ w.if-is_set.true) in
@@ -33,4 +33,4 @@ loop-at-preserved c =
 pub returns : goal.returns
 returns c =
     let h = c.args.draft.now in
-    seen_all h c.loop-at.at c.loop-at.slots_end c.loop-at.found.items c.requires.shaped (omega (arith, c.loop-at-test.false, ap length c.words-words.ensures.same, c.words-words.ensures.draft.word_count)) c.loop-at.invariant
+    seen_all h c.loop-at.at c.loop-at.slots_end c.loop-at.found.items c.requires.shaped (omega (arith, c.loop-at-test.false, c.len-at-end.ensures, ap length c.words-words.ensures.same, c.words-words.ensures.draft.word_count)) c.loop-at.invariant

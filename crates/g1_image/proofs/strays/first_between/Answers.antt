@@ -7,10 +7,9 @@ use Rattle.g1_image.proofs.Slots.{SlotsBetween-none, SlotsBetween-object, object
 use Rattle.g1_image.proofs.strays.first_between.Goals as goal
 use Rattle.g1_image.proofs.strays.first_between.Goals.{After-header-o}
 
--- a slot that was read among an object's is the heap's
-slot_is : (slots ws words : List ℕ) (q : Object) (at i : ℕ) → ((i : ℕ) → i < q.refs → slice_index slots i ≡ slice_index ws (q.at + 1 + i)) →
-    ws ≡ words → q.at ≡ at → i < q.refs → slice_index slots i ≡ slice_index words (at + 1 + i)
-slot_is slots ws words q at i each e here lt = each i lt ∙ (λ t. slice_index (e t) (here t + 1 + i))
+-- a slot of the object that was read is the heap's
+slot_is : (ws words : List ℕ) (q : Object) (at i : ℕ) → ws ≡ words → q.at ≡ at → slice_index ws (q.at + 1 + i) ≡ slice_index words (at + 1 + i)
+slot_is ws words q at i e here = λ t. slice_index (e t) (here t + 1 + i)
 
 -- what is known of an object whose header was read at a mark
 record IsRead (h : Heap) (ws : List ℕ) (at : ℕ) (q : Object) : Type 0 where
@@ -20,7 +19,7 @@ record IsRead (h : Heap) (ws : List ℕ) (at : ℕ) (q : Object) : Type 0 where
   refs : q.refs < q.size
   object_end : q.at + q.size ≤ length ws
 
-read : (c : After-header-o) → IsRead c.args.draft.now c.words-words.result.now c.loop-at.at c.header-o.result
+read : (c : After-header-o) → IsRead c.args.draft.now c.words-words.result.now.items c.loop-at.at c.header-o.result
 read c =
     let h = c.args.draft.now in
     let at = c.loop-at.at in
@@ -38,26 +37,25 @@ read c =
           (arith, c.header-o.ensures.at, fits.0, fits.1, c.words-words.ensures.draft.word_count, ap length c.words-words.ensures.same);
     }
 
-pub slots-requires-clause-refs : goal.slots-requires-clause-refs
-slots-requires-clause-refs c = (read (goal.at.slots-requires-clause-refs c).After-header-o).refs
-
-pub slots-requires-clause-within : goal.slots-requires-clause-within
-slots-requires-clause-within c = (read (goal.at.slots-requires-clause-within c).After-header-o).object_end
+pub first_stray-requires-clause-small : goal.first_stray-requires-clause-small
+first_stray-requires-clause-small c =
+    let r = read (goal.at.first_stray-requires-clause-small c).After-header-o in
+    omega (arith, r.refs, r.object_end, c.words-words.ensures.draft.limits.words_most, c.words-words.ensures.draft.word_count, ap length c.words-words.ensures.same)
 
 pub returns-in-Some : goal.returns-in-Some
 returns-in-Some c =
     let h = c.args.draft.now in
-    let ws = c.words-words.result.now in
+    let ws = c.words-words.result.now.items in
     let at = c.loop-at.at in
     let q = c.header-o.result in
     let i = c.in-Some.i in
     let r = read (goal.at.returns-in-Some c).After-header-o in
     let first = c.in-Some.ensures.found in
-    let lt : i < q.refs = omega (arith, first.within, c.slots.ensures.count) in
+    let lt : i < q.refs = first.within in
     slot_breach h at q r.some c.requires.marked.shaped r.start r.word c.header-o.ensures.refs c.header-o.ensures.size c.args.from c.loop-at.invariant.1 c.loop-at.invariant.0 i lt
-    (λ r. first.breach (subst (λ x. IsReference h x) (sym (slot_is c.slots.result.now ws h.words q at i c.slots.ensures.each c.words-words.ensures.same c.header-o.ensures.at lt)) r))
-    (λ k less. subst (λ x. IsReference h x) (slot_is c.slots.result.now ws h.words q at k c.slots.ensures.each c.words-words.ensures.same
-    c.header-o.ensures.at (omega (arith, less, lt))) (first.before k less))
+    (λ r. first.breach (subst (λ x. IsReference h x) (sym (slot_is ws h.words q at i c.words-words.ensures.same c.header-o.ensures.at)) r))
+    (λ k less. subst (λ x. IsReference h x) (slot_is ws h.words q at k c.words-words.ensures.same
+    c.header-o.ensures.at) (first.before k less))
 
 pub loop-at-smaller-then-is_set : goal.loop-at-smaller-then-is_set
 loop-at-smaller-then-is_set c = omega (arith, (read (goal.at.loop-at-smaller-then-is_set c).After-header-o).refs, c.loop-at-test.true)
@@ -65,13 +63,13 @@ loop-at-smaller-then-is_set c = omega (arith, (read (goal.at.loop-at-smaller-the
 pub loop-at-preserved-then-is_set : goal.loop-at-preserved-then-is_set
 loop-at-preserved-then-is_set c =
     let h = c.args.draft.now in
-    let ws = c.words-words.result.now in
+    let ws = c.words-words.result.now.items in
     let at = c.loop-at.at in
     let q = c.header-o.result in
     let r = read (goal.at.loop-at-preserved-then-is_set c).After-header-o in (
       SlotsBetween-object h at q r.some c.requires.marked.shaped r.start r.word c.header-o.ensures.refs c.header-o.ensures.size c.args.from c.loop-at.invariant.0
-          (λ i lt. subst (λ x. IsReference h x) (slot_is c.slots.result.now ws h.words q at i c.slots.ensures.each c.words-words.ensures.same
-          c.header-o.ensures.at lt) (c.in_default.ensures.none i (omega (arith, c.slots.ensures.count, lt)))),
+          (λ i lt. subst (λ x. IsReference h x) (slot_is ws h.words q at i c.words-words.ensures.same
+          c.header-o.ensures.at) (c.in_default.ensures.none i lt)),
       omega (arith, c.loop-at.invariant.1),
     )
 
