@@ -6,7 +6,7 @@ use Rattle.g1_words.specs.Geometry.{most_words}
 use Rattle.g1_words.specs.Heap.{Heap, word, object_at, objects}
 use Rattle.g1_words.specs.Valid.{IsValid}
 use Rattle.g1_same.specs.declared.walk.Walk.{Walk}
-use Rattle.g1_same.specs.Walk.{IsIndex, AreAlike, IsPaired, IsLinked, IsWay, IsWalk, IsEarlier, IsBelow, HasGrown}
+use Rattle.g1_same.specs.Walk.{IsIndex, AreAlike, IsPaired, IsLinked, IsWay, IsWalkOf, IsEarlier, IsBelow, HasGrown}
 use Rattle.g1_words.proofs.Sound.{object_in}
 use Rattle.g1_same.proofs.Tables.{index_more, index_few}
 
@@ -60,17 +60,17 @@ grown_more w v u a b = record {
 }
 
 -- the pairs of a walk are within its tables
-pub before_within : (g h : Heap) (w : Walk) → IsValid g → IsWalk g h w → (i : ℕ) → i < length w.before.items → slice_index w.before.items i < length w.new_of.items
+pub before_within : {R : ℕ → ℕ → Type 0} (g h : Heap) (w : Walk) → IsValid g → IsWalkOf R g h w → (i : ℕ) → i < length w.before.items → slice_index w.before.items i < length w.new_of.items
 before_within g h w valid walk i p = let o = object_in g (slice_index w.before.items i) valid (walk.names_before i p) in omega (arith, o.0, o.1, walk.table_before)
 
-pub after_within : (g h : Heap) (w : Walk) → IsValid h → IsWalk g h w → (i : ℕ) → i < length w.after.items → slice_index w.after.items i < length w.old_of.items
+pub after_within : {R : ℕ → ℕ → Type 0} (g h : Heap) (w : Walk) → IsValid h → IsWalkOf R g h w → (i : ℕ) → i < length w.after.items → slice_index w.after.items i < length w.old_of.items
 after_within g h w valid walk i p = let o = object_in h (slice_index w.after.items i) valid (walk.names_after i (omega (arith, p, walk.pairs))) in omega (arith, o.0, o.1, walk.table_after)
 
-pub few_pairs : (g h : Heap) (w : Walk) → IsValid g → IsWalk g h w → length w.before.items ≤ length g.words
+pub few_pairs : {R : ℕ → ℕ → Type 0} (g h : Heap) (w : Walk) → IsValid g → IsWalkOf R g h w → length w.before.items ≤ length g.words
 few_pairs g h w valid walk = let k = index_few w.new_of.items w.before.items walk.index_before (before_within g h w valid walk) in omega (arith, k, walk.table_before)
 
 -- so their places fit the tables
-pub pairs_fit : (g h : Heap) (w : Walk) → IsValid g → IsWalk g h w → length w.before.items ≤ most_words
+pub pairs_fit : {R : ℕ → ℕ → Type 0} (g h : Heap) (w : Walk) → IsValid g → IsWalkOf R g h w → length w.before.items ≤ most_words
 pairs_fit g h w valid walk = let k = few_pairs g h w valid walk in omega (arith, k, valid.word_count, valid.limits.words_most)
 
 pub record IsAdded (w v : Walk) (f n a b : ℕ) : Type 0 where
@@ -90,7 +90,7 @@ pushed_new xs ys x i e p = ap (λ l. slice_index l i) e ∙ get_or_push xs x 0 i
 pushed_length : (xs ys : List ℕ) (x : ℕ) → ys ≡ xs ++ x ∷ [] → length ys ≡ length xs + 1
 pushed_length xs ys x e = ap length e ∙ length_push xs x
 
-module _ (g h : Heap) (w v : Walk) (f n a b : ℕ) (walk : IsWalk g h w) (e : IsAdded w v f n a b) where
+module _ {R : ℕ → ℕ → Type 0} (g h : Heap) (w v : Walk) (f n a b : ℕ) (walk : IsWalkOf R g h w) (e : IsAdded w v f n a b) where
   len : length v.before.items ≡ length w.before.items + 1
   len = pushed_length w.before.items v.before.items a e.before
 
@@ -124,6 +124,17 @@ module _ (g h : Heap) (w v : Walk) (f n a b : ℕ) (walk : IsWalk g h w) (e : Is
   split : (i : ℕ) → i < length v.before.items → (i < length w.before.items) ⊎ (i ≡ length w.before.items)
   split i p = elim (cases_lt i (length w.before.items)) [ inl q ↦ inl q | inr q ↦ inr (omega (arith, p, q, len)) ]
 
+  -- this way found what is new
+  pub added_only : (i : ℕ) → length w.before.items ≤ i → i < length v.before.items → (slice_index v.from.items i ≡ f) × (slice_index v.number.items i ≡ n)
+  added_only i ge lt = elim (split i lt) [ inl q ↦ absurd (omega (arith, ge, q)) | inr q ↦ (from_new i q, number_new i q) ]
+
+  -- and it is alike, if the objects are
+  pub added_alike : AreAlike g h a b → (i : ℕ) → length w.before.items ≤ i → i < length v.before.items → AreAlike g h (slice_index v.before.items i) (slice_index v.after.items i)
+  added_alike alike i ge lt = elim (split i lt) [
+    | inl q ↦ absurd (omega (arith, ge, q))
+    | inr q ↦ subst (λ z. AreAlike g h z (slice_index v.after.items i)) (sym (before_new i q)) (subst (λ z. AreAlike g h a z) (sym (after_new i q)) alike)
+  ]
+
   -- the two words now name a pair
   pub added_linked : IsLinked v f n (suc a) (suc b)
   added_linked =
@@ -136,7 +147,7 @@ module _ (g h : Heap) (w v : Walk) (f n a b : ℕ) (walk : IsWalk g h w) (e : Is
     | inr q ↦ inr (from_new i q, let k = number_new i q in omega (arith, k))
   ]
 
-  module _ (x_in : Contains (objects g) (object_at g a)) (y_in : Contains (objects h) (object_at h b)) (alike : AreAlike g h a b)
+  module _ (x_in : Contains (objects g) (object_at g a)) (y_in : Contains (objects h) (object_at h b)) (alike : R a b)
       (a_lt : a < length w.new_of.items) (b_lt : b < length w.old_of.items)
       (a_new : slice_index w.new_of.items a ≡ 0) (b_new : slice_index w.old_of.items b ≡ 0)
       (way : IsWay g h w.before.items w.after.items f n (suc a) (suc b)) (back : f ≤ length w.before.items) (below : IsBelow w f n) where
@@ -167,7 +178,7 @@ module _ (g h : Heap) (w v : Walk) (f n a b : ℕ) (walk : IsWalk g h w) (e : Is
           earlier_along _ _ _ _ _ _ _ _ (from_old i r) (number_old i r) (from_new j q) (number_new j q) (below i r)
     ]
 
-    pub added_walk : IsWalk g h v
+    pub added_walk : IsWalkOf R g h v
     added_walk = record {
       table_before = ap length e.new_of ∙ length-set w.new_of.items a (suc (length w.before.items)) ∙ walk.table_before;
       table_after = ap length e.old_of ∙ length-set w.old_of.items b (suc (length w.before.items)) ∙ walk.table_after;
@@ -187,9 +198,9 @@ module _ (g h : Heap) (w v : Walk) (f n a b : ℕ) (walk : IsWalk g h w) (e : Is
         | inr q ↦ subst (λ z. Contains (objects h) (object_at h z)) (sym (after_new i q)) y_in
       ];
       alike = λ i p. elim (split i p) [
-        | inl q ↦ subst (λ z. AreAlike g h z (slice_index v.after.items i)) (sym (added_grown.olds i q))
-            (subst (λ z. AreAlike g h (slice_index w.before.items i) z) (sym (added_grown.news i q)) (walk.alike i q))
-        | inr q ↦ subst (λ z. AreAlike g h z (slice_index v.after.items i)) (sym (before_new i q)) (subst (λ z. AreAlike g h a z) (sym (after_new i q)) alike)
+        | inl q ↦ subst (λ z. R z (slice_index v.after.items i)) (sym (added_grown.olds i q))
+            (subst (λ z. R (slice_index w.before.items i) z) (sym (added_grown.news i q)) (walk.alike i q))
+        | inr q ↦ subst (λ z. R z (slice_index v.after.items i)) (sym (before_new i q)) (subst (λ z. R a z) (sym (after_new i q)) alike)
       ];
       backward = λ i p. elim (split i p) [
         | inl q ↦ subst (λ z. z ≤ i) (sym (from_old i q)) (walk.backward i q)

@@ -9,19 +9,19 @@ use Rattle.g1_words.specs.Graph.{SameGraph}
 use Rattle.g1_words.proofs.Sound.{object_in}
 use Rattle.g1_image.proofs.Decided.{decided_eq}
 use Rattle.g1_same.specs.declared.walk.Walk.{Walk}
-use Rattle.g1_same.specs.declared.walk.Stop.{Stop}
 use Rattle.g1_same.specs.declared.meeting.Met.{Met}
 use Rattle.g1_same.specs.declared.meeting.Met.TheVariants.{Known, New, Clash}
 use Rattle.g1_same.specs.declared.difference.How.{How}
 use Rattle.g1_same.specs.declared.difference.Difference.{Difference}
 use Rattle.g1_same.specs.declared.difference.Difference.TheVariants.{Roots, At}
 use Rattle.g1_same.specs.Same.{IsFirstDifference}
-use Rattle.g1_same.specs.Walk.{IsWalk, IsWay, IsBelow, IsEarlier, IsLinked, HasGrown, IsMet, IsSeen, IsLeast, IsStop, LinksRoots, LinksSlots, LinksPairs, LinksTo}
+use Rattle.g1_same.specs.Walk.{IsWalk, IsWay, IsBelow, IsEarlier, IsLinked, HasGrown, IsMet, IsSeen, IsLeast, IsRoute, root, slot}
+use Rattle.g1_same.proofs.Linked.{Stop, IsStop, LinksRoots, LinksSlots, LinksPairs, LinksTo}
 use Rattle.g1_same.specs.Laws.{SameOrDiffers}
 use Rattle.g1_same.proofs.Heaps.{object_named, root_names, slot_names}
 use Rattle.g1_same.proofs.Adding.{IsAdded, added_grown, added_walk, added_linked, added_below, linked_by, earlier_next, grown_same, few_pairs, pairs_fit}
 use Rattle.g1_same.proofs.Steps.{roots_more, roots_kept, slots_more, pairs_more, pairs_kept}
-use Rattle.g1_same.proofs.Routes.{IsRoute, root, slot, route_of}
+use Rattle.g1_same.proofs.Routes.{route_of}
 use Rattle.g1_same.proofs.Renamed.{same}
 use Rattle.g1_same.proofs.First.{first}
 use Rattle.g1_same.proofs.Made.{listed, empty_walk, empty_is_walk, more_walk, more_added}

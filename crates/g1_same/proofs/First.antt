@@ -5,17 +5,17 @@ use Rattle.std.proofs.lemmas.List.{length_push}
 use Rattle.g1_words.specs.Heap.{Heap, word, object_at}
 use Rattle.g1_words.specs.Valid.{IsValid}
 use Rattle.g1_same.specs.declared.walk.Walk.{Walk}
-use Rattle.g1_same.specs.declared.walk.Stop.{Stop}
 use Rattle.g1_same.specs.declared.difference.How.{How}
 use Rattle.g1_same.specs.declared.difference.How.TheVariants.{NullBefore, NullAfter, Split, Joined, Size, Slots, Data}
 use Rattle.g1_same.specs.declared.difference.Difference.TheVariants.{At}
 use Rattle.g1_same.specs.Path.{Leads, LeadsTo, Together, Lower, Before}
 use Rattle.g1_same.specs.Same.{IsClash, ClashAt, rank, IsFirstDifference}
-use Rattle.g1_same.specs.Walk.{AreAlike, IsWay, IsWalk, IsEarlier, IsLinked, IsNew, IsLeast, IsStop, LinksTo}
+use Rattle.g1_same.specs.Walk.{AreAlike, IsWay, IsWalk, IsEarlier, IsLinked, IsNew, IsLeast, IsRoute, root, slot}
+use Rattle.g1_same.proofs.Linked.{Stop, IsStop, LinksTo}
 use Rattle.g1_same.proofs.Excludes.{leads_to_one}
 use Rattle.g1_same.proofs.Tables.{index_apart}
 use Rattle.g1_same.proofs.Adding.{before_within, after_within}
-use Rattle.g1_same.proofs.Routes.{IsRoute, root, slot, route_of, route_one, route_before, before_push, stopped, route_leads, seen_clash}
+use Rattle.g1_same.proofs.Routes.{route_of, route_one, route_before, before_push, stopped, route_leads, seen_clash}
 
 -- ---- the order of paths
 
@@ -78,7 +78,7 @@ leads_to_last : (h : Heap) (p : List ℕ) (s y : ℕ) → 0 < length p → Leads
 leads_to_last h [] s y lt l = absurd (omega (arith, lt))
 leads_to_last h (k ∷ ss) s y lt l = let r = leads_last h ss s (slice_index h.roots k) y l.1 in (r.0, (l.0, r.1), r.2, r.3)
 
-way_cases : (f m k n : ℕ) → IsEarlier f m k n ⊎ (((f ≡ k) × (m ≡ n)) ⊎ IsEarlier k n f m)
+pub way_cases : (f m k n : ℕ) → IsEarlier f m k n ⊎ (((f ≡ k) × (m ≡ n)) ⊎ IsEarlier k n f m)
 way_cases f m k n = elim (cases_lt f k) [
   | inl a ↦ inl (inl a)
   | inr a ↦ elim (cases_lt k f) [

@@ -1,4 +1,5 @@
 pub mod Heaps
+pub mod Linked
 pub mod Excludes
 pub mod Tables
 pub mod Adding
@@ -10,6 +11,8 @@ pub mod OneRenaming
 pub mod Steps
 pub mod OneFirst
 pub mod First
+pub mod Between
+pub mod Behind
 pub mod Made
 pub mod Meets
 pub mod Always

@@ -15,7 +15,8 @@ use Rattle.g1_words.proofs.Firsts.{In-firsts, firsts_member, firsts-append}
 use Rattle.g1_words.proofs.Indices.{In-take, take_cases, get_or-In, not_has}
 use Rattle.g1_same.specs.declared.walk.Walk.{Walk}
 use Rattle.g1_same.specs.Same.{IsRenaming}
-use Rattle.g1_same.specs.Walk.{IsWay, IsWalk, IsEarlier, IsLinked, LinksRoots, LinksPairs}
+use Rattle.g1_same.specs.Walk.{IsWay, IsWalk, IsEarlier, IsLinked}
+use Rattle.g1_same.proofs.Linked.{LinksRoots, LinksPairs}
 use Rattle.g1_same.proofs.Adding.{earlier_next}
 use Rattle.g1_same.proofs.Tables.{place_of}
 use Rattle.g1_same.proofs.Renamed.{found, live_at, once, same, images}

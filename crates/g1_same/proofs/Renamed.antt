@@ -10,7 +10,8 @@ use Rattle.g1_words.specs.Copy.{renamed, words_at, renamed_words, IsCopy}
 use Rattle.g1_words.specs.Graph.{SameGraph}
 use Rattle.g1_after.proofs.CopyWords.{renamed_word, length-renamed_words}
 use Rattle.g1_same.specs.declared.walk.Walk.{Walk}
-use Rattle.g1_same.specs.Walk.{IsLinked, IsWay, IsWalk, LinksRoots, LinksPairs}
+use Rattle.g1_same.specs.Walk.{IsLinked, IsWay, IsWalk}
+use Rattle.g1_same.proofs.Linked.{LinksRoots, LinksPairs}
 use Rattle.g1_words.proofs.Sound.{object_in}
 use Rattle.g1_same.proofs.Heaps.{root_of, slot_of, root_live, slot_live}
 use Rattle.g1_same.proofs.Tables.{index_apart}

@@ -3,17 +3,12 @@ use Rattle.std.proofs.Common.{◌≡◌, ℕ, zero, suc, ◌+◌, ◌<◌, ◌�
 use Rattle.std.proofs.lemmas.List.{length_push}
 use Rattle.g1_words.specs.Heap.{Heap, word, object_at}
 use Rattle.g1_same.specs.declared.walk.Walk.{Walk}
-use Rattle.g1_same.specs.declared.walk.Stop.{Stop}
 use Rattle.g1_same.specs.declared.difference.How.{How}
 use Rattle.g1_same.specs.declared.difference.How.TheVariants.{NullBefore, NullAfter, Split, Joined, Size, Slots, Data}
 use Rattle.g1_same.specs.Path.{Leads, LeadsTo, Together, Lower, Before}
 use Rattle.g1_same.specs.Same.{IsClash, ClashAt}
-use Rattle.g1_same.specs.Walk.{IsWay, IsWalk, IsEarlier, IsBelow, IsSeen, IsStop}
-
--- the path of a way: that of the pair whose slot it is, and then the slot's number
-pub data IsRoute (w : Walk) : ℕ → ℕ → List ℕ → Type 0 where
-  root : (n : ℕ) → IsRoute w zero n (n ∷ [])
-  slot : (j n : ℕ) (p : List ℕ) → j < length w.before.items → IsRoute w (slice_index w.from.items j) (slice_index w.number.items j) p → IsRoute w (suc j) n (p ++ n ∷ [])
+use Rattle.g1_same.specs.Walk.{IsWay, IsWalkOf, IsEarlier, IsBelow, IsSeen, IsRoute, root, slot}
+use Rattle.g1_same.proofs.Linked.{Stop, IsStop}
 
 -- ---- order
 
@@ -60,7 +55,7 @@ pub route_one : (w : Walk) (f n : ℕ) (p q : List ℕ) → IsRoute w f n p → 
 route_one w f n p q (root m) (root k) = refl
 route_one w f n p q (slot j m a lt r) (slot k l b gt s) = ap (λ z. z ++ m ∷ []) (route_one w _ _ a b r s)
 
-module _ (g h : Heap) (w : Walk) (walk : IsWalk g h w) where
+module _ {R : ℕ → ℕ → Type 0} (g h : Heap) (w : Walk) (walk : IsWalkOf R g h w) where
   -- a way has a path
   route_by : (t f n : ℕ) → f ≤ t → f ≤ length w.before.items → (p : List ℕ) × IsRoute w f n p
   route_by t zero n le lt = (n ∷ [], root n)

@@ -1,11 +1,13 @@
 -- One more root, slot or pair is linked.
 use Rattle.std.proofs.Common.{◌≡◌, ℕ, suc, ◌+◌, ◌%◌, ◌^◌, ◌<◌, ◌≤◌, inl, inr, List, length, get_or, refl, sym, ap, subst, ◌∙◌, arith, slice_index, Contains, Option, Some, None, IfSome, IfNone}
+use Rattle.std.specs.Prelude.{Result, Ok, Err, IfOk, OnOk}
 use Rattle.std.proofs.lemmas.Bool.{cases_lt}
 use Rattle.std.proofs.lemmas.List.{get_or_read}
 use Rattle.g1_words.specs.declared.object.Object.{Object}
 use Rattle.g1_words.specs.Heap.{Heap, word, object_at, objects}
 use Rattle.g1_same.specs.declared.walk.Walk.{Walk}
-use Rattle.g1_same.specs.Walk.{IsWalk, IsLinked, IsWay, IsBelow, HasGrown, LinksRoots, LinksSlots, LinksPairs}
+use Rattle.g1_same.specs.Walk.{IsTour, IsLinked, IsWay, IsBelow, HasGrown}
+use Rattle.g1_same.proofs.Linked.{LinksRoots, LinksSlots, LinksPairs}
 use Rattle.g1_same.proofs.Adding.{linked_more}
 
 pub none_then : {X : Type 0} (P : Type 0) (o : Option X) → ((x : X) → o ≡ Some x → ⊥) → IfNone o P → P
@@ -14,6 +16,22 @@ none_then P (Some x) none h = absurd (none x refl)
 
 pub some_then : {X : Type 0} (P : X → Type 0) (o : Option X) (x : X) → o ≡ Some x → IfSome o P → P x
 some_then P o x e h = subst (λ o. IfSome o P) e h
+
+pub on_ok : {T E : Type 0} (r : Result T E) (P Q : T → Type 0) → ((x : T) → P x → Q x) → IfOk r P → IfOk r Q
+on_ok (Ok x) P Q f h = f x h
+on_ok (Err e) P Q f h = h
+
+pub both_ok : {T E : Type 0} (r : Result T E) (G : Type 0) (P Q : T → Type 0) → ((x : T) → G → P x → Q x) → OnOk r G → IfOk r P → IfOk r Q
+both_ok (Ok x) G P Q f g h = f x g h
+both_ok (Err e) G P Q f g h = h
+
+pub some_map : {X : Type 0} (o : Option X) (P Q : X → Type 0) → ((x : X) → P x → Q x) → IfSome o P → IfSome o Q
+some_map None P Q f h = h
+some_map (Some x) P Q f h = f x h
+
+pub none_map : {X : Type 0} (o : Option X) (P Q : Type 0) → (P → Q) → IfNone o P → IfNone o Q
+none_map None P Q f h = f h
+none_map (Some x) P Q f h = h
 
 pub roots_more : (g h : Heap) (w v : Walk) (k : ℕ) → HasGrown w v → LinksRoots g h w k → IsLinked v 0 k (slice_index g.roots k) (slice_index h.roots k) → LinksRoots g h v (k + 1)
 roots_more g h w v k grown linked new n lt = elim (cases_lt n k) [
@@ -94,7 +112,7 @@ pub record IsPair (g h : Heap) (w : Walk) (i a b : ℕ) : Type 0 where
   pub after_in : Contains (objects h) (object_at h b)
   pub refs : (object_at g a).refs ≡ (object_at h b).refs
 
-pub pair_read : (g h : Heap) (w : Walk) (i a b : ℕ) → IsWalk g h w → i < length w.before.items → a ≡ get_or w.before.items i a → b ≡ get_or w.after.items i b → IsPair g h w i a b
+pub pair_read : (g h : Heap) (w : Walk) (i a b : ℕ) → IsTour g h w → i < length w.before.items → a ≡ get_or w.before.items i a → b ≡ get_or w.after.items i b → IsPair g h w i a b
 pair_read g h w i a b walk lt read_a read_b =
     let a_is : a ≡ slice_index w.before.items i = get_or_read w.before.items i a lt read_a 0 in
     let b_is : b ≡ slice_index w.after.items i = get_or_read w.after.items i b (omega (arith, lt, walk.pairs)) read_b 0 in
@@ -104,5 +122,5 @@ pair_read g h w i a b walk lt read_a read_b =
       after = sym b_is;
       before_in = subst (λ z. Contains (objects g) (object_at g z)) (sym a_is) (walk.names_before i lt);
       after_in = subst (λ z. Contains (objects h) (object_at h z)) (sym b_is) (walk.names_after i lt);
-      refs = ap (λ q. q % 2 ^ 32) (ap (word g) a_is ∙ (walk.alike i lt).header ∙ ap (word h) (sym b_is));
+      refs = ap (λ q. q % 2 ^ 32) (ap (word g) a_is ∙ walk.alike i lt ∙ ap (word h) (sym b_is));
     }

@@ -7,7 +7,7 @@ use Rattle.g1_same.specs.declared.difference.How.{How}
 use Rattle.g1_same.specs.declared.difference.How.TheVariants.{NullBefore, NullAfter, Split, Joined, Size, Slots, Data}
 use Rattle.g1_same.specs.Path.{Before}
 use Rattle.g1_same.specs.Same.{IsClash}
-use Rattle.g1_same.specs.Walk.{IsSeen, IsPaired, IsLeast, IsLower, IsNew, IsWalk}
+use Rattle.g1_same.specs.Walk.{IsSeen, IsPaired, IsLeast, IsLower, IsNew, IsWalkOf}
 use Rattle.g1_words.proofs.Sound.{object_in}
 use Rattle.g1_same.proofs.Heaps.{object_named}
 use Rattle.g1_same.proofs.Tables.{index_none, index_some}
@@ -18,7 +18,7 @@ named h x valid some names = object_named h x (x - 1) valid names (omega arith)
 pub named_below : (h : Heap) (x : ℕ) → IsValid h → x ≢ 0 → IsReference h x → x - 1 < length h.words
 named_below h x valid some names = let o = object_in h (x - 1) valid (named h x valid some names) in omega (arith, o.0, o.1)
 
-module _ (g h : Heap) (w : Walk) (left : IsValid g) (right : IsValid h) (walk : IsWalk g h w) (a b i j : ℕ)
+module _ {R : ℕ → ℕ → Type 0} (g h : Heap) (w : Walk) (left : IsValid g) (right : IsValid h) (walk : IsWalkOf R g h w) (a b i j : ℕ)
     (a_lt : a < length w.new_of.items) (b_lt : b < length w.old_of.items) (is_i : i ≡ slice_index w.new_of.items a) (is_j : j ≡ slice_index w.old_of.items b) where
   in_before : i ≢ 0 → (i - 1 < length w.before.items) × (slice_index w.before.items (i - 1) ≡ a)
   in_before some = subst (λ m. (m - 1 < length w.before.items) × (slice_index w.before.items (m - 1) ≡ a)) (sym is_i)

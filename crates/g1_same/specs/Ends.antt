@@ -6,6 +6,8 @@ use Rattle.g1_same.specs.declared.difference.How.TheVariants.{Data}
 use Rattle.g1_same.specs.declared.difference.Difference.{Difference}
 use Rattle.g1_same.specs.declared.difference.Difference.TheVariants.{Roots, At}
 use Rattle.g1_same.specs.declared.ending.Ends.{Ends}
+use Rattle.g1_same.specs.declared.walk.What.{What}
+use Rattle.g1_same.specs.declared.walk.What.TheVariants as what
 use Rattle.g1_same.specs.Path.{Together}
 
 -- the data word of this number of the object that a reference word names
@@ -24,6 +26,11 @@ pub record HasDataWord (h : Heap) (x k : ℕ) : Type 0 where
 abbrev pub AreValues : Heap → Heap → How → ℕ → ℕ → ℕ → ℕ → Type 0
 AreValues g h (Data k) x y u v = (u ≡ data_word g x k) × (v ≡ data_word h y k)
 AreValues g h _ x y u v = (u ≡ 0) × (v ≡ 0)
+
+-- the values at a difference of a walk; at a stale word, none
+abbrev pub AreFoundValues : Heap → Heap → What → Ends → Type 0
+AreFoundValues g h (what.Stale z) e = (e.word_before ≡ 0) × (e.word_after ≡ 0)
+AreFoundValues g h (what.How how) e = AreValues g h how e.before e.after e.word_before e.word_after
 
 -- the reference words that the path leads to in both heaps, and the values; another number of roots has no path
 abbrev pub AreEnds : Heap → Heap → Difference → Ends → Type 0

@@ -1,8 +1,7 @@
 -- What the walk over both heaps has found.
-use Rattle.std.specs.Prelude.{◌≡◌, ◌≢◌, ◌<◌, ◌≤◌, ◌↔◌, ◌⊎◌, ℕ, zero, suc, List, ◌+◌, length, slice_index, Contains}
+use Rattle.std.specs.Prelude.{◌≡◌, ◌≢◌, ◌<◌, ◌≤◌, ◌↔◌, ◌⊎◌, ℕ, zero, suc, List, [], ◌∷◌, ◌+◌, ◌++◌, length, slice_index, Contains}
 use Rattle.g1_words.specs.Heap.{Heap, word, object_at, objects}
 use Rattle.g1_same.specs.declared.walk.Walk.{Walk}
-use Rattle.g1_same.specs.declared.walk.Stop.{Stop}
 use Rattle.g1_same.specs.declared.meeting.Met.{Met}
 use Rattle.g1_same.specs.declared.meeting.Met.TheVariants.{Known, New, Clash}
 use Rattle.g1_same.specs.declared.difference.How.{How}
@@ -44,8 +43,8 @@ IsWay g h olds news (suc j) n x y =
     (j < length olds) × (n < (object_at g (slice_index olds j)).refs) × (n < (object_at h (slice_index news j)).refs)
     × (word g (slice_index olds j + 1 + n) ≡ x) × (word h (slice_index news j + 1 + n) ≡ y)
 
--- The pairs are objects of both heaps, alike and told by the tables, and each was found by a way, in the order of the ways.
-pub record IsWalk (g h : Heap) (w : Walk) : Type 0 where
+-- The pairs are objects of both heaps of which R holds, told by the tables, and each was found by a way, in the order of the ways.
+pub record IsWalkOf (R : ℕ → ℕ → Type 0) (g h : Heap) (w : Walk) : Type 0 where
   pub table_before : length w.new_of.items ≡ length g.words
   pub table_after : length w.old_of.items ≡ length h.words
   pub index_before : IsIndex w.new_of.items w.before.items
@@ -55,13 +54,31 @@ pub record IsWalk (g h : Heap) (w : Walk) : Type 0 where
   pub numbers : length w.number.items ≡ length w.before.items
   pub names_before : (i : ℕ) → i < length w.before.items → Contains (objects g) (object_at g (slice_index w.before.items i))
   pub names_after : (i : ℕ) → i < length w.before.items → Contains (objects h) (object_at h (slice_index w.after.items i))
-  pub alike : (i : ℕ) → i < length w.before.items → AreAlike g h (slice_index w.before.items i) (slice_index w.after.items i)
+  pub alike : (i : ℕ) → i < length w.before.items → R (slice_index w.before.items i) (slice_index w.after.items i)
   pub backward : (i : ℕ) → i < length w.before.items → slice_index w.from.items i ≤ i
   pub ways : (i : ℕ) → i < length w.before.items
       → IsWay g h w.before.items w.after.items (slice_index w.from.items i) (slice_index w.number.items i)
       (suc (slice_index w.before.items i)) (suc (slice_index w.after.items i))
   pub rising : (i j : ℕ) → i < j → j < length w.before.items
       → IsEarlier (slice_index w.from.items i) (slice_index w.number.items i) (slice_index w.from.items j) (slice_index w.number.items j)
+
+-- a walk that has met no difference
+abbrev pub IsWalk : Heap → Heap → Walk → Type 0
+IsWalk g h w = IsWalkOf (AreAlike g h) g h w
+
+-- two objects have one header
+abbrev pub HaveOneHeader : Heap → Heap → ℕ → ℕ → Type 0
+HaveOneHeader g h a b = word g a ≡ word h b
+
+-- a walk that goes on behind objects whose data words alone differ
+abbrev pub IsTour : Heap → Heap → Walk → Type 0
+IsTour g h w = IsWalkOf (HaveOneHeader g h) g h w
+
+-- each pair has a way, which leads back to a pair before it or to a root
+pub record HasWays (w : Walk) : Type 0 where
+  pub froms : length w.from.items ≡ length w.before.items
+  pub numbers : length w.number.items ≡ length w.before.items
+  pub backward : (i : ℕ) → i < length w.before.items → slice_index w.from.items i ≤ i
 
 -- all pairs were found by ways before this one
 abbrev pub IsBelow : Walk → ℕ → ℕ → Type 0
@@ -74,24 +91,6 @@ pub record HasGrown (w v : Walk) : Type 0 where
   pub news : (i : ℕ) → i < length w.before.items → slice_index v.after.items i ≡ slice_index w.after.items i
   pub froms : (i : ℕ) → i < length w.before.items → slice_index v.from.items i ≡ slice_index w.from.items i
   pub numbers : (i : ℕ) → i < length w.before.items → slice_index v.number.items i ≡ slice_index w.number.items i
-
--- the first roots are linked
-abbrev pub LinksRoots : Heap → Heap → Walk → ℕ → Type 0
-LinksRoots g h w k = (n : ℕ) → n < k → IsLinked w 0 n (slice_index g.roots n) (slice_index h.roots n)
-
--- the first slots of the pair at place i are linked
-abbrev pub LinksSlots : Heap → Heap → Walk → ℕ → ℕ → Type 0
-LinksSlots g h w i k = (n : ℕ) → n < k
-    → IsLinked w (suc i) n (word g (slice_index w.before.items i + 1 + n)) (word h (slice_index w.after.items i + 1 + n))
-
--- all slots of the first pairs are linked
-abbrev pub LinksPairs : Heap → Heap → Walk → ℕ → Type 0
-LinksPairs g h w m = (i : ℕ) → i < m → LinksSlots g h w i (object_at g (slice_index w.before.items i)).refs
-
--- all ways before this one are linked
-abbrev pub LinksTo : Heap → Heap → Walk → ℕ → ℕ → Type 0
-LinksTo g h w zero n = LinksRoots g h w n
-LinksTo g h w (suc j) n = LinksRoots g h w (length g.roots) × LinksPairs g h w j × LinksSlots g h w j n
 
 -- the address is none of the list
 abbrev pub IsNew : List ℕ → ℕ → Type 0
@@ -126,7 +125,7 @@ IsMet g h w x y (New a b) =
     (x ≡ suc a) × (y ≡ suc b) × (slice_index w.new_of.items a ≡ 0) × (slice_index w.old_of.items b ≡ 0) × AreAlike g h a b
 IsMet g h w x y (Clash how) = IsSeen g h w how x y × IsLeast g h w how x y
 
--- the walk ends at two words that disagree
-abbrev pub IsStop : Heap → Heap → Walk → Stop → Type 0
-IsStop g h w s =
-    (x : ℕ) × (y : ℕ) × IsWay g h w.before.items w.after.items s.way.from s.way.number x y × IsSeen g h w s.how x y × IsBelow w s.way.from s.way.number × IsLeast g h w s.how x y
+-- the path of a way: that of the pair whose slot it is, and then the slot's number
+pub data IsRoute (w : Walk) : ℕ → ℕ → List ℕ → Type 0 where
+  root : (n : ℕ) → IsRoute w zero n (n ∷ [])
+  slot : (j n : ℕ) (p : List ℕ) → j < length w.before.items → IsRoute w (slice_index w.from.items j) (slice_index w.number.items j) p → IsRoute w (suc j) n (p ++ n ∷ [])

@@ -2,10 +2,12 @@
 ghost use Rattle.std.specs.Prelude.{◌≡◌, ◌∷◌, ℕ, List};
 ghost use Rattle.g1_same.specs.Path.{LeadsTo};
 ghost use Rattle.g1_same.specs.Same.{IsClash, IsDifference};
-ghost use Rattle.g1_same.specs.Ends.{AreEnds, AreValues, HasDataWord, data_word};
+ghost use Rattle.g1_same.specs.Ends.{AreEnds, AreValues, AreFoundValues, HasDataWord, data_word};
+ghost use Rattle.g1_same.specs.Behind.{ShowsAt};
 
 use crate::difference::{Difference, How};
-use g1_words::{Heap, header};
+use crate::walk::{Found, Place, What};
+use g1_words::Heap;
 
 /// The words that a path leads to in two heaps, null if there is no path.
 #[derive(Debug, Clone, Copy, PartialEq, Eq, Drop)]
@@ -28,7 +30,7 @@ fn follow(heap: &Heap, root: u64, slots: &[u64]) -> u64
     g1_words::laws::valid(heap);
     let mut reference = heap.roots()[root as usize];
     for slot in slots {
-        reference = heap.words()[(reference + *slot) as usize];
+        reference = heap.words().at(reference + *slot);
     }
     reference
 }
@@ -39,8 +41,8 @@ fn value(heap: &Heap, reference: u64, number: u64) -> u64
     ensures { result ≡ data_word heap.now reference number }
 {
     g1_words::laws::valid(heap);
-    let object = header(heap.words(), reference - 1);
-    heap.words()[(reference + object.refs + number) as usize]
+    let object = heap.words().header(reference - 1);
+    heap.words().at(reference + object.refs + number)
 }
 
 // The values of two data words that differ.
@@ -53,6 +55,29 @@ fn values(before: &Heap, after: &Heap, how: &How, old: u64, new: u64) -> (u64, u
     match how {
         How::Data { word } => (value(before, old, *word), value(after, new, *word)),
         _ => (0, 0),
+    }
+}
+
+/// What stands at a difference that a walk over two heaps returned.
+pub fn ends_at(before: &Heap, after: &Heap, found: &Found) -> Ends
+    requires { (p : List ℕ) × ShowsAt before.now after.now p found.now }
+    ensures words { (result.before ≡ found.now.place.before) × (result.after ≡ found.now.place.after) }
+    ensures values { AreFoundValues before.now after.now found.now.what result }
+{
+    let Place {
+        before: old,
+        after: new,
+        ..
+    } = found.place;
+    let (word_before, word_after) = match &found.what {
+        What::Stale(_) => (0, 0),
+        What::How(how) => values(before, after, how, old, new),
+    };
+    Ends {
+        before: old,
+        after: new,
+        word_before,
+        word_after,
     }
 }
 

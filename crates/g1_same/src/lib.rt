@@ -14,13 +14,16 @@
 //! 3. Two tables say which: by an object's address before, and by its address after, the place of its
 //!    pair. Two equal entries are a pair or two new objects. Else one object before is two after, or
 //!    two before are one after.
-//! 4. At the first two words that disagree the search ends. The path to them is found by going back
+//! 4. At the first two words that disagree `compare` ends. The path to them is found by going back
 //!    from a pair to the one whose slot referenced it. Since pairs are found in breadth-first
 //!    order, no path that comes before leads to a difference.
 //! 5. If no slot is left, the pairs are the renaming.
+//! 6. `Differences` returns one difference after another, by the same search. It goes on behind two objects
+//!    whose data words alone differ, as a pair, and behind no other difference. Words of the second heap
+//!    that reference no object may be lent to it: they are null in the heap, and are differences, too.
 //!
 //! `ends_of` follows the path to a difference in both heaps: the words that it leads to, and of two data
-//! words that differ their values.
+//! words that differ their values. `ends_at` says so of what `Differences` returned.
 //!
 //! Each reached object, slot and data word is looked at once. The tables have 4 bytes for each word of
 //! their heap, and the list of pairs 24 bytes for each.
@@ -28,14 +31,22 @@
 
 mod comparing;
 mod difference;
+mod differences;
 mod ending;
 pub mod laws;
 mod meeting;
+mod path;
 mod renaming;
+mod searching;
+mod stale;
 mod walk;
 
 pub use comparing::compare;
 pub use difference::{Difference, How};
-pub use ending::{Ends, ends_of};
+pub use differences::Differences;
+pub use ending::{Ends, ends_at, ends_of};
 pub use meeting::first_other;
+pub use path::Path;
 pub use renaming::Renaming;
+pub use stale::StaleWords;
+pub use walk::{Found, Place, Way, What};

@@ -2,11 +2,12 @@ ghost use Rattle.std.specs.Prelude.{◌≡◌, ◌≢◌, ◌<◌, ◌≤◌, �
 ghost use Rattle.g1_words.specs.Heap.{object_at, objects};
 ghost use Rattle.g1_words.specs.Valid.{IsValid, IsReference};
 ghost use Rattle.g1_same.specs.Same.{IsClash};
-ghost use Rattle.g1_same.specs.Walk.{IsWalk, IsWay, IsBelow, IsLinked, HasGrown, AreAlike, IsMet, IsSeen, IsLeast, IsLower};
+ghost use Rattle.g1_same.specs.Walk.{IsTour, IsWay, IsBelow, IsLinked, HasGrown, AreAlike, IsMet, IsSeen, IsLeast, IsLower};
+ghost use Rattle.g1_same.specs.Behind.{FindsAlike};
 
 use crate::difference::How;
 use crate::walk::{Walk, Way};
-use g1_words::{Heap, data};
+use g1_words::Heap;
 use std::alloc::AllocError;
 
 /// What two words are to the walk.
@@ -57,8 +58,8 @@ fn objects_differ(before: &Heap, after: &Heap, a: u64, b: u64) -> Option<How>
             after: new.refs,
         });
     }
-    let here = data(before.words(), &old);
-    let there = data(after.words(), &new);
+    let here = before.data(&old);
+    let there = after.data(&new);
     match first_other(here, there) {
         Some(word) => Some(How::Data { word: word as u64 }),
         None => None,
@@ -67,7 +68,7 @@ fn objects_differ(before: &Heap, after: &Heap, a: u64, b: u64) -> Option<How>
 
 // What two words are to the walk.
 fn meet(before: &Heap, after: &Heap, walk: &Walk, x: u64, y: u64) -> Met
-    requires walk { IsWalk before.now after.now walk.now }
+    requires walk { IsTour before.now after.now walk.now }
     requires x { IsReference before.now x }
     requires y { IsReference after.now y }
     ensures { IsMet before.now after.now walk.now x y result }
@@ -119,14 +120,15 @@ pub fn link(
     x: u64,
     y: u64,
 ) -> Result<Option<How>, AllocError>
-    requires walk { IsWalk before.now after.now walk.old }
+    requires walk { IsTour before.now after.now walk.old }
     requires below { IsBelow walk.old way.from way.number }
     requires way { IsWay before.now after.now walk.old.before.items walk.old.after.items way.from way.number x y }
     requires backward { way.from ≤ length walk.old.before.items }
     requires x { IsReference before.now x }
     requires y { IsReference after.now y }
-    ensures walk { OnOk result (IsWalk before.now after.now walk.new) }
+    ensures walk { OnOk result (IsTour before.now after.now walk.new) }
     ensures grown { OnOk result (HasGrown walk.old walk.new) }
+    ensures alike { OnOk result (FindsAlike before.now after.now walk.old walk.new) }
     ensures linked { IfOk result (λ o. IfNone o (IsLinked walk.new way.from way.number x y)) }
     ensures below { OnOk result (IsBelow walk.new way.from (way.number + 1)) }
     ensures clash { IfOk result (λ o. IfSome o (λ how. IsSeen before.now after.now walk.new how x y × IsBelow walk.new way.from way.number × IsLeast before.now after.now walk.new how x y)) }

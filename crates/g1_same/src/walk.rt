@@ -2,7 +2,7 @@ ghost use Rattle.std.specs.Prelude.{◌≡◌, ◌<◌, ◌≤◌, ◌++◌, ◌
 ghost use Rattle.g1_words.specs.Geometry.{most_words};
 ghost use Rattle.g1_words.specs.Heap.{object_at, objects};
 ghost use Rattle.g1_words.specs.Valid.{IsValid};
-ghost use Rattle.g1_same.specs.Walk.{IsWalk, IsWay, IsBelow, IsLinked, HasGrown, AreAlike};
+ghost use Rattle.g1_same.specs.Walk.{IsTour};
 
 use crate::difference::How;
 use g1_words::Heap;
@@ -33,16 +33,32 @@ pub struct Way {
     pub number: u32,
 }
 
-/// Where a walk ends at two words that disagree: the way to them, and how.
+/// Two reference words that are compared, and the way to them.
 #[derive(Clone, Copy, Drop)]
-pub struct Stop {
+pub struct Place {
     pub way: Way,
-    pub how: How,
+    pub before: u64,
+    pub after: u64,
+}
+
+/// How the two words of a place differ.
+#[derive(Debug, Clone, Copy, PartialEq, Eq, Drop)]
+pub enum What {
+    /// The word after is this one. It references no object, and is null in the heap.
+    Stale(u64),
+    How(How),
+}
+
+/// Two words that differ: where, and how.
+#[derive(Clone, Copy, Drop)]
+pub struct Found {
+    pub place: Place,
+    pub what: What,
 }
 
 /// A walk that has found nothing.
 pub fn start(alloc: Global, before: &Heap, after: &Heap) -> Result<Walk, AllocError>
-    ensures walk { IfOk result (λ w. IsWalk before.now after.now w) }
+    ensures walk { IfOk result (λ w. IsTour before.now after.now w) }
     ensures none { IfOk result (λ w. w.before.items ≡ []) }
     ensures before { IsValid before.now }
     ensures after { IsValid after.now }

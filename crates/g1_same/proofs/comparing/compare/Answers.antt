@@ -1,9 +1,12 @@
-use Rattle.std.proofs.Common.{ap, sym, ◌∙◌, ◌≡◌, length}
+use Rattle.std.proofs.Common.{arith, ap, sym, refl, subst, ◌∙◌, ◌≡◌, ◌+◌, length, Option, IfNone}
 use Rattle.g1_words.specs.Heap.{Heap}
 use Rattle.g1_same.specs.declared.walk.Walk.{Walk}
-use Rattle.g1_same.specs.Walk.{LinksPairs}
-use Rattle.g1_same.proofs.Steps.{none_then}
+use Rattle.g1_same.specs.declared.walk.Found.{Found}
+use Rattle.g1_same.specs.Walk.{IsWalk}
+use Rattle.g1_same.specs.Behind.{IsNext, LinksBetween}
+use Rattle.g1_same.proofs.Steps.{some_then}
 use Rattle.g1_same.proofs.Order.{renaming}
+use Rattle.g1_same.proofs.Between.{walk_of, all_roots, all_pairs}
 use Rattle.g1_same.proofs.Excludes.{same_count, no_difference}
 use Rattle.g1_same.proofs.comparing.compare.Goals as goal
 
@@ -27,26 +30,36 @@ returns-then-roots-clause-never c = λ s. c.if-roots.true (ap length c.roots-roo
 pub returns-then-roots-clause-memory : goal.returns-then-roots-clause-memory
 returns-then-roots-clause-memory c = tt
 
-pub returns-in-Some-clause-never : goal.returns-in-Some-clause-never
-returns-in-Some-clause-never c = λ s. no_difference c.args.before.now c.args.after.now c.in_ok-walk.ensures.before s c.in_ok-report_difference.field-0 c.in_ok-report_difference.ensures.is
+pub returns-in_ok-difference_at-in-Some-clause-never : goal.returns-in_ok-difference_at-in-Some-clause-never
+returns-in_ok-difference_at-in-Some-clause-never c =
+    λ s. no_difference c.args.before.now c.args.after.now c.in_ok-walk.ensures.before s c.in_ok-difference_at-in-Some.field-0 c.in_ok-difference_at-in-Some.ensures.is
 
-pub returns-in-Some-2-clause-never : goal.returns-in-Some-2-clause-never
-returns-in-Some-2-clause-never c = λ s. no_difference c.args.before.now c.args.after.now c.in_ok-walk.ensures.before s c.in_ok-report_difference-2.field-0 c.in_ok-report_difference-2.ensures.is
+pub difference_at-requires-clause-none : goal.difference_at-requires-clause-none
+difference_at-requires-clause-none c = (refl, refl)
 
-pub link_roots-requires-clause-roots : goal.link_roots-requires-clause-roots
-link_roots-requires-clause-roots c = ap length (sym c.roots-roots.ensures) ∙ c.if-roots.false ∙ ap length c.roots.ensures
+pub difference_at-requires-clause-walk : goal.difference_at-requires-clause-walk
+difference_at-requires-clause-walk c =
+    let none : length c.in_ok-walk.walk.before.items ≡ 0 = ap length c.in_ok-walk.ensures.none in
+    walk_of c.args.before.now c.args.after.now c.search.new.walk c.in_ok-met.ensures.walk (λ i lt. c.in_ok-met.ensures.alike i (omega (arith, none)) lt)
 
-pub report_difference-requires-clause-roots : goal.report_difference-requires-clause-roots
-report_difference-requires-clause-roots c = ap length (sym c.roots-roots.ensures) ∙ c.if-roots.false ∙ ap length c.roots.ensures
+pub difference_at-requires-clause-found : goal.difference_at-requires-clause-found
+difference_at-requires-clause-found c = some_then _ c.in_ok-met.met c.in-Some.found c.in-Some.is c.in_ok-met.ensures.found
 
-pub report_difference-requires-in-Some-2-clause-roots : goal.report_difference-requires-in-Some-2-clause-roots
-report_difference-requires-in-Some-2-clause-roots c = ap length (sym c.roots-roots.ensures) ∙ c.if-roots.false ∙ ap length c.roots.ensures
+pub difference_at-requires-clause-until : goal.difference_at-requires-clause-until
+difference_at-requires-clause-until c =
+    (some_then (λ (f : Found). IsNext c.args.before.now c.args.after.now c.search.new.walk 0 0 f) c.in_ok-met.met c.in-Some.found c.in-Some.is c.in_ok-met.ensures.until).1
 
-pub returns-clause-same : goal.returns-clause-same
-returns-clause-same c =
+pub difference_at-requires-clause-roots : goal.difference_at-requires-clause-roots
+difference_at-requires-clause-roots c = ap length (sym c.roots-roots.ensures) ∙ c.if-roots.false ∙ ap length c.roots.ensures
+
+pub returns-in-None-clause-same : goal.returns-in-None-clause-same
+returns-in-None-clause-same c =
     let g : Heap = c.args.before.now in
     let h : Heap = c.args.after.now in
-    let w : Walk = c.link_pairs.new.walk in
+    let w : Walk = c.search.new.walk in
     let count : length g.roots ≡ length h.roots = ap length (sym c.roots-roots.ensures) ∙ c.if-roots.false ∙ ap length c.roots.ensures in
-    renaming g h c.in_ok-walk.ensures.before c.in_ok-walk.ensures.after w c.in_ok-stop-2.ensures.walk count c.in_ok-stop-2.ensures.roots
-    (none_then (LinksPairs g h w (length w.before.items)) c.in_ok-stop-2.field-0 c.in_default-2.not-Some c.in_ok-stop-2.ensures.pairs)
+    let none : length c.in_ok-walk.walk.before.items ≡ 0 = ap length c.in_ok-walk.ensures.none in
+    let walk : IsWalk g h w = walk_of g h w c.in_ok-met.ensures.walk (λ i lt. c.in_ok-met.ensures.alike i (omega (arith, none)) lt) in
+    let links : LinksBetween g h w 0 0 (length w.before.items + 1) 0 = subst (λ (o : Option Found). IfNone o (LinksBetween g h w 0 0 (length w.before.items + 1) 0)) c.in-None.is c.in_ok-met.ensures.linked in
+    renaming g h c.in_ok-walk.ensures.before c.in_ok-walk.ensures.after w walk count
+    (all_roots g h w c.in_ok-met.ensures.walk count links) (all_pairs g h w c.in_ok-met.ensures.walk count links)

@@ -1,5 +1,5 @@
-use Rattle.std.proofs.Common.{◌≡◌, ◌+◌, length, ap, sym, subst, get_or, arith, slice_index}
-use Rattle.g1_same.proofs.Following.{IsOn, on_start, on_within, on_step}
+use Rattle.std.proofs.Common.{◌+◌, ◌∙◌, ap, sym, subst, get_or, slice_index}
+use Rattle.g1_same.proofs.Following.{IsOn, on_start, on_step}
 use Rattle.g1_same.proofs.ending.follow.Goals as goal
 
 pub loop-slot-init : goal.loop-slot-init
@@ -9,18 +9,11 @@ loop-slot-init c =
     subst (λ roots. IsOn h c.args.root slots 0 (slice_index roots c.args.root)) (sym c.roots.ensures)
     (on_start h c.valid.ensures c.args.root slots c.requires.0 c.requires.1)
 
-pub bounds-words-reference : goal.bounds-words-reference
-bounds-words-reference c =
-    let h = c.args.heap.now in
-    let within = on_within h c.valid.ensures c.args.root c.args.slots.now c.requires.0 c.requires.1 c.loop-slot.slot-index c.loop-slot.reference c.loop-slot.invariant c.loop-slot-test.true in
-    let count : length c.words.result.now ≡ length h.words = ap length c.words.ensures in
-    omega (arith, within, count)
-
 pub loop-slot-preserved : goal.loop-slot-preserved
 loop-slot-preserved c =
     let h = c.args.heap.now in
     let slots = c.args.slots.now in
     let i = c.loop-slot.slot-index in
     let x = c.loop-slot.reference in
-    subst (λ words. IsOn h c.args.root slots (i + 1) (slice_index words (x + get_or slots i 0))) (sym c.words.ensures)
+    subst (IsOn h c.args.root slots (i + 1)) (sym (c.at-reference.ensures ∙ ap (λ words. slice_index words (x + get_or slots i 0)) c.words.ensures.same))
     (on_step h c.valid.ensures c.args.root slots c.requires.0 c.requires.1 i x c.loop-slot.invariant c.loop-slot-test.true)

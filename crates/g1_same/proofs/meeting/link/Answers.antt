@@ -2,7 +2,8 @@ use Rattle.std.proofs.Common.{arith, subst, sym, suc, ℕ, ◌<◌, length}
 use Rattle.g1_same.specs.Walk.{IsLinked, IsWay}
 use Rattle.g1_words.proofs.Sound.{object_in}
 use Rattle.g1_same.proofs.Heaps.{object_named}
-use Rattle.g1_same.proofs.Adding.{IsAdded, earlier_next, grown_same, added_grown, added_walk, added_linked, added_below, linked_by, pairs_fit}
+use Rattle.g1_same.proofs.Adding.{IsAdded, earlier_next, grown_same, added_grown, added_walk, added_linked, added_below, added_alike, linked_by, pairs_fit}
+use Rattle.g1_same.proofs.Between.{alike_none}
 use Rattle.g1_same.proofs.meeting.link.Goals as goal
 
 added : (c : goal.In_ok-add-in-New) → IsAdded c.args.walk.now c.add.new.self c.args.way.from c.args.way.number c.in-New.a c.in-New.b
@@ -44,7 +45,7 @@ returns-in_ok-add-in-New-clause-walk c =
     let way : IsWay g h w.before.items w.after.items c.args.way.from c.args.way.number (suc a) (suc b) =
     subst (λ z. IsWay g h w.before.items w.after.items c.args.way.from c.args.way.number z (suc b)) met.0
     (subst (λ z. IsWay g h w.before.items w.after.items c.args.way.from c.args.way.number c.args.x z) met.1 c.requires.way) in
-    added_walk g h w v c.args.way.from c.args.way.number a b c.requires.walk (added c) x_in y_in met.4 x_lt y_lt met.2 met.3 way c.requires.backward c.requires.below
+    added_walk g h w v c.args.way.from c.args.way.number a b c.requires.walk (added c) x_in y_in met.4.header x_lt y_lt met.2 met.3 way c.requires.backward c.requires.below
 
 pub returns-in_ok-add-in-New-clause-linked : goal.returns-in_ok-add-in-New-clause-linked
 returns-in_ok-add-in-New-clause-linked c =
@@ -105,3 +106,13 @@ returns-in-Clash-clause-clash c = (c.in-Clash.ensures.0, c.requires.below, c.in-
 pub returns-in_ok-add-in-New-clause-grown : goal.returns-in_ok-add-in-New-clause-grown
 returns-in_ok-add-in-New-clause-grown c =
     added_grown c.args.before.now c.args.after.now c.args.walk.now c.add.new.self c.args.way.from c.args.way.number c.in-New.a c.in-New.b c.requires.walk (added c)
+
+pub returns-in-Known-clause-alike : goal.returns-in-Known-clause-alike
+returns-in-Known-clause-alike c = alike_none c.args.before.now c.args.after.now c.args.walk.now
+
+pub returns-in-Clash-clause-alike : goal.returns-in-Clash-clause-alike
+returns-in-Clash-clause-alike c = alike_none c.args.before.now c.args.after.now c.args.walk.now
+
+pub returns-in_ok-add-in-New-clause-alike : goal.returns-in_ok-add-in-New-clause-alike
+returns-in_ok-add-in-New-clause-alike c =
+    added_alike c.args.before.now c.args.after.now c.args.walk.now c.add.new.self c.args.way.from c.args.way.number c.in-New.a c.in-New.b c.requires.walk (added c) c.in-New.ensures.4

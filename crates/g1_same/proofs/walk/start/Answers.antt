@@ -4,8 +4,8 @@ use Rattle.g1_same.proofs.walk.start.Goals as goal
 
 pub returns-clause-walk : goal.returns-clause-walk
 returns-clause-walk c =
-    let m : ℕ = length c.words.result.now in
-    let n : ℕ = length c.words-2.result.now in
+    let m : ℕ = c.len.result in
+    let n : ℕ = c.len-2.result in
     let before : length c.new.result.items ≡ 0 = ap length c.new.ensures.items in
     let after : length c.new-2.result.items ≡ 0 = ap length c.new-2.ensures.items in
     let from : length c.new-3.result.items ≡ 0 = ap length c.new-3.ensures.items in
@@ -15,8 +15,8 @@ returns-clause-walk c =
     let new_of : length c.in_ok-new_of.new_of.items ≡ m = ap length zeros ∙ length-replicate {A = ℕ} m 0 in
     let old_of : length c.in_ok-old_of.old_of.items ≡ n = ap length more_zeros ∙ length-replicate {A = ℕ} n 0 in
     record {
-      table_before = new_of ∙ ap length c.words.ensures;
-      table_after = old_of ∙ ap length c.words-2.ensures;
+      table_before = new_of ∙ c.len.ensures ∙ ap length c.words.ensures.same;
+      table_after = old_of ∙ c.len-2.ensures ∙ ap length c.words-2.ensures.same;
       index_before = λ a i lt. (
         λ e.
             let none : slice_index c.in_ok-new_of.new_of.items a ≡ 0 = ap (λ l. slice_index l a) zeros ∙ get_or-replicate m a 0 0 (omega (arith, lt, new_of)) in
