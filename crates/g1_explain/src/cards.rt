@@ -1,5 +1,4 @@
 //! Cards: what the dirty ones add, and which slots lead into a set.
-use crate::objects::word_at;
 use crate::walkable::Walkable;
 use g1_image::Image;
 use g1_words::{Heap, Marks, region_of};
@@ -29,10 +28,8 @@ fn gained_cards(
     after: &[Vec<u32>],
 ) -> Result<Vec<(u32, usize)>, AllocError> {
     let mut gained = Vec::new(alloc);
-    for (region, old) in before.iter().enumerate() {
-        if let Some(new) = after.get(region) {
-            add_gained(alloc, &mut gained, region, old.as_slice(), new.as_slice())?;
-        }
+    for (region, (old, new)) in before.iter().zip(after.iter()).enumerate() {
+        add_gained(alloc, &mut gained, region, old.as_slice(), new.as_slice())?;
     }
     gained.sort_unstable();
     Ok(gained)
@@ -78,8 +75,7 @@ fn push_dirty_card(
     write!(text, "dirty {card} adds")?;
     let first = gained.partition_point(|pair| pair.0 < card);
     let mut some = false;
-    let after = gained.get(first..).unwrap_or(&[]);
-    for (gained_card, region) in after {
+    for (gained_card, region) in &gained[first..] {
         if *gained_card != card {
             break;
         }
@@ -119,7 +115,7 @@ pub(crate) fn push_leading(
     let geometry = heap.geometry();
     let mut some = false;
     for slot in slots {
-        if let Some(target) = word_at(heap, *slot).checked_sub(1) {
+        if let Some(target) = heap.words().at(*slot).checked_sub(1) {
             if set.has(region_of(&geometry, target) as usize) {
                 write!(text, " {slot}")?;
                 some = true;

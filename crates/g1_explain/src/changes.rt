@@ -1,65 +1,73 @@
 //! What the pause writes outside the copies.
 use crate::cards::{joined_cards, push_numbers};
-use crate::objects::word_at;
 use g1_copy::Prepared;
 use g1_image::Image;
 use g1_words::{Heap, Region, region_of};
 use std::alloc::{AllocError, Global};
 
-/// Adds a line for each root, and then for each slot that is patched, that references a survivor.
+/// Adds a line for each root that references a survivor.
+pub(crate) fn push_roots(
+    text: &mut String,
+    before: &[u64],
+    after: &[u64],
+) -> Result<(), AllocError> {
+    for (number, (old, new)) in before.iter().zip(after.iter()).enumerate() {
+        push_move(text, "root", number as u64, *old, *new)?;
+    }
+    Ok(())
+}
+
+/// Adds a line for each of these patches: the address of a slot, and its new word.
 pub(crate) fn push_patches(
     text: &mut String,
     heap: &Heap,
-    prepared: &Prepared,
+    patches: &[(u64, u64)],
 ) -> Result<(), AllocError> {
-    push_roots(text, heap.roots(), prepared.roots())?;
-    for (slot, new) in prepared.patches() {
-        if is_kept(heap, prepared, *slot) {
-            push_patch(text, "slot", *slot, word_at(heap, *slot), *new)?;
-        }
+    for (slot, new) in patches {
+        push_move(text, "slot", *slot, heap.words().at(*slot), *new)?;
     }
     Ok(())
 }
 
-// A line for each root that changes.
-fn push_roots(text: &mut String, before: &[u64], after: &[u64]) -> Result<(), AllocError> {
-    for (number, old) in before.iter().enumerate() {
-        let new = after.get(number).copied().unwrap_or(*old);
-        if *old != new {
-            push_patch(text, "root", number as u64, *old, new)?;
-        }
-    }
-    Ok(())
-}
-
-/// Whether a slot outside the set is there after the pause: a humongous object that is freed takes its own
-/// with it.
-pub(crate) fn is_kept(heap: &Heap, prepared: &Prepared, slot: u64) -> bool {
-    let region = region_of(&heap.geometry(), slot) as usize;
-    matches!(prepared.regions().get(region), Some(region) if region.kind.is_used())
-}
-
-/// How many slots are patched.
-pub(crate) fn patch_count(heap: &Heap, prepared: &Prepared) -> u64 {
-    let mut count = 0u64;
-    for (slot, _) in prepared.patches() {
-        if is_kept(heap, prepared, *slot) {
-            count = count.saturating_add(1);
-        }
-    }
-    count
-}
-
-// A line for a reference word that changes. Neither word is null.
-fn push_patch(
+// A line for a reference word, if what it references moves. A null word stays null.
+fn push_move(
     text: &mut String,
     place: &str,
     number: u64,
     old: u64,
     new: u64,
 ) -> Result<(), AllocError> {
-    let (from, to) = (old.saturating_sub(1), new.saturating_sub(1));
-    writeln!(text, "{place} {number} from {from} to {to}")
+    match (old.checked_sub(1), new.checked_sub(1)) {
+        (Some(from), Some(to)) if from != to => {
+            writeln!(text, "{place} {number} from {from} to {to}")
+        }
+        _ => Ok(()),
+    }
+}
+
+/// The patches of the slots outside the set that are there after the pause: a humongous object that is freed
+/// takes its own with it.
+pub(crate) fn kept_patches(
+    alloc: Global,
+    heap: &Heap,
+    prepared: &Prepared,
+) -> Result<Vec<(u64, u64)>, AllocError> {
+    let geometry = heap.geometry();
+    let mut kept = Vec::new(alloc);
+    for patch in prepared.patches() {
+        if is_used(prepared.regions(), region_of(&geometry, patch.0)) {
+            kept.push(*patch)?;
+        }
+    }
+    Ok(kept)
+}
+
+// Whether the region of this number is not free.
+fn is_used(regions: &[Region], number: u64) -> bool {
+    match regions.get(number as usize) {
+        Some(region) => region.kind.is_used(),
+        None => false,
+    }
 }
 
 /// Adds the lines of each remembered set that changes: the cards that join it, and those that leave it.
@@ -69,11 +77,9 @@ pub(crate) fn push_remembered(
     refined: &[Vec<u32>],
     after: &[Vec<u32>],
 ) -> Result<(), AllocError> {
-    for (region, old) in refined.iter().enumerate() {
-        if let Some(new) = after.get(region) {
-            push_set_change(alloc, text, region, "gains", old, new)?;
-            push_set_change(alloc, text, region, "loses", new, old)?;
-        }
+    for (region, (old, new)) in refined.iter().zip(after.iter()).enumerate() {
+        push_set_change(alloc, text, region, "gains", old, new)?;
+        push_set_change(alloc, text, region, "loses", new, old)?;
     }
     Ok(())
 }
@@ -101,10 +107,9 @@ pub(crate) fn push_regions(
     before: &[Region],
     after: &[Region],
 ) -> Result<(), AllocError> {
-    for (number, old) in before.iter().enumerate() {
-        let new = after.get(number).copied().unwrap_or(*old);
-        if *old != new {
-            let Region { kind, top, .. } = new;
+    for (number, (old, new)) in before.iter().zip(after.iter()).enumerate() {
+        if *old != *new {
+            let Region { kind, top, .. } = *new;
             writeln!(text, "region {number} {kind} top {top}")?;
         }
     }
@@ -124,9 +129,8 @@ pub(crate) fn push_heading_changes(text: &mut String, image: &Image) -> Result<(
 
 /// How many of some regions are free.
 pub(crate) fn free_count(regions: &[Region]) -> u64 {
-    let mut count = 0u64;
-    for region in regions {
-        count = count.saturating_add(u64::from(region.kind.is_free()));
-    }
-    count
+    regions
+        .iter()
+        .filter(|region| region.kind.is_free())
+        .count() as u64
 }

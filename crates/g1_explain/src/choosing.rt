@@ -24,11 +24,15 @@ fn push_live(
     remembered: &[Vec<u32>],
     live: &[u64],
 ) -> Result<(), AllocError> {
-    for (number, region) in heap.regions().iter().enumerate() {
+    let rows = heap
+        .regions()
+        .iter()
+        .zip(live.iter())
+        .zip(remembered.iter());
+    for (number, ((region, bytes), cards)) in rows.enumerate() {
         if region.kind.is_ordinary() {
-            let bytes = live.get(number).copied().unwrap_or(0);
-            let garbage = garbage_in(*region, bytes);
-            let cards = remembered.get(number).map_or(0, Vec::len);
+            let garbage = garbage_in(*region, *bytes);
+            let cards = cards.len();
             writeln!(
                 text,
                 "live {number} {bytes} garbage {garbage} cards {cards}"
@@ -44,9 +48,8 @@ fn garbage_in(region: Region, live: u64) -> u64 {
 }
 
 fn push_excluded(text: &mut String, heap: &Heap, live: &[u64]) -> Result<(), AllocError> {
-    for (number, region) in heap.regions().iter().enumerate() {
-        let bytes = live.get(number).copied().unwrap_or(0);
-        if let Some(reason) = reason_against(*region, bytes) {
+    for (number, (region, bytes)) in heap.regions().iter().zip(live.iter()).enumerate() {
+        if let Some(reason) = reason_against(*region, *bytes) {
             writeln!(text, "excluded {number} {reason}")?;
         }
     }

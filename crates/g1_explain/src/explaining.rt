@@ -1,15 +1,16 @@
 //! The lines of a pause.
-use crate::checking::check_pause;
+use crate::cards::push_dirty;
 use crate::failure::Failure;
 use crate::form::Form;
 use crate::places::push_map;
 use crate::steps::push_steps;
-use crate::totals::{Written, push_room};
+use crate::totals::push_refusal;
 use g1_image::Image;
-use g1_pause::Settings;
+use g1_pause::{Before, Outcome, Settings, Steps, take_steps};
 use g1_rem::{Tracked, verify};
 use g1_text::push_heading;
 use g1_words::Fault;
+use g1_work::Open;
 use std::alloc::Global;
 use std::thread::Threads;
 
@@ -21,11 +22,11 @@ pub struct Explanation {
 }
 
 /// What a pause of an image does, as lines. If it is refused, they are those of the steps up to there, and
-/// of the refusal.
+/// of the refusal; a map has none then.
 ///
 /// # Errors
 ///
-/// `Fault::Memory`; `Failure::Contradiction` if `evacuate` answers another thing than what the lines say.
+/// `Fault::Memory`; `Failure::Contradiction` if the references don't lead to what the steps found.
 pub fn explain<R: Threads + Sync>(
     rt: &R,
     alloc: Global,
@@ -34,7 +35,28 @@ pub fn explain<R: Threads + Sync>(
     form: Form,
 ) -> Result<Explanation, Failure> {
     let mut text = String::new(alloc);
-    let refused = push_lines(rt, alloc, &mut text, image, settings, form)?;
+    let refused = match form {
+        Form::Steps => push_lines(rt, alloc, &mut text, image, settings)?,
+        Form::Map => push_map_lines(rt, alloc, &mut text, image, settings)?,
+    };
+    Ok(Explanation { text, refused })
+}
+
+/// The lines of a pause of which the steps were taken.
+///
+/// # Errors
+///
+/// `Fault::Memory`; `Failure::Contradiction` if the references don't lead to what the steps found.
+pub fn explain_steps(
+    alloc: Global,
+    before: &Before<'_>,
+    settings: &Settings,
+    steps: &Steps,
+) -> Result<Explanation, Failure> {
+    let mut text = String::new(alloc);
+    push_heading(&mut text, before.image())?;
+    push_covered(alloc, &mut text, before)?;
+    let refused = push_steps(alloc, &mut text, before, settings, steps)?;
     Ok(Explanation { text, refused })
 }
 
@@ -45,11 +67,10 @@ fn push_lines<R: Threads + Sync>(
     text: &mut String,
     image: Image,
     settings: &Settings,
-    form: Form,
 ) -> Result<Option<Fault>, Failure> {
     push_heading(text, &image)?;
     match verify(rt, alloc, image) {
-        Ok(tracked) => push_tracked(rt, alloc, text, tracked, settings, form),
+        Ok(tracked) => push_tracked(rt, alloc, text, &tracked, settings),
         Err((_, fault)) => push_refusal(text, fault),
     }
 }
@@ -58,46 +79,76 @@ fn push_tracked<R: Threads + Sync>(
     rt: &R,
     alloc: Global,
     text: &mut String,
-    tracked: Tracked,
+    tracked: &Tracked,
     settings: &Settings,
-    form: Form,
 ) -> Result<Option<Fault>, Failure> {
-    let written = push_steps(rt, alloc, text, form, &tracked, settings);
-    check_pause(rt, alloc, tracked, settings, &written)?;
-    push_outcome(text, form, &written)
+    let before = Before::new(rt, alloc, tracked, settings.workers())?;
+    push_covered(alloc, text, &before)?;
+    match take_steps(rt, alloc, &before, settings, &Open) {
+        Ok(steps) => push_steps(alloc, text, &before, settings, &steps),
+        Err(fault) => push_refusal(text, fault),
+    }
 }
 
-// Adds the lines of the answer, or the refusal.
-fn push_outcome(
+// Adds the line that the image is covered, and those of the dirty cards.
+fn push_covered(alloc: Global, text: &mut String, before: &Before<'_>) -> Result<(), Failure> {
+    text.push_str("covered\n")?;
+    push_dirty(alloc, text, before.image(), before.remembered())?;
+    Ok(())
+}
+
+// Adds the lines of a map, unless the pause is refused.
+fn push_map_lines<R: Threads + Sync>(
+    rt: &R,
+    alloc: Global,
     text: &mut String,
-    form: Form,
-    written: &Result<Written, Failure>,
+    image: Image,
+    settings: &Settings,
 ) -> Result<Option<Fault>, Failure> {
-    match written {
-        Ok(written) => push_answer(text, written, form),
-        Err(Failure::Fault(fault)) => push_refusal(text, *fault),
-        Err(Failure::Contradiction) => Err(Failure::Contradiction),
+    match verify(rt, alloc, image) {
+        Ok(tracked) => map_tracked(rt, alloc, text, &tracked, settings),
+        Err((_, fault)) => refuse(fault),
     }
 }
 
-// A map has the lines of its own alone.
-fn push_answer(text: &mut String, written: &Written, form: Form) -> Result<Option<Fault>, Failure> {
-    if form == Form::Map {
-        text.clear();
-        push_map(text, &written.plan, &written.sizes)?;
+fn map_tracked<R: Threads + Sync>(
+    rt: &R,
+    alloc: Global,
+    text: &mut String,
+    tracked: &Tracked,
+    settings: &Settings,
+) -> Result<Option<Fault>, Failure> {
+    let before = Before::new(rt, alloc, tracked, settings.workers())?;
+    match take_steps(rt, alloc, &before, settings, &Open) {
+        Ok(steps) => map_steps(text, &before, settings, &steps),
+        Err(fault) => refuse(fault),
     }
-    Ok(None)
 }
 
-// Adds the refusal of the pause. Running out of memory is none.
-fn push_refusal(text: &mut String, fault: Fault) -> Result<Option<Fault>, Failure> {
-    if fault == Fault::Memory {
-        return Err(Failure::Fault(fault));
+fn map_steps(
+    text: &mut String,
+    before: &Before<'_>,
+    settings: &Settings,
+    steps: &Steps,
+) -> Result<Option<Fault>, Failure> {
+    match &steps.outcome {
+        Outcome::NoRoom { need, free, .. } => {
+            refuse(Fault::Room {
+                need: *need,
+                free: *free,
+            })
+        }
+        Outcome::Ready { plan, .. } => {
+            push_map(text, before.image().heap(), plan)?;
+            Ok(None)
+        }
     }
-    if let Fault::Room { need, free } = fault {
-        push_room(text, need, free)?;
+}
+
+// The fault for which a pause is refused. Running out of memory is none.
+fn refuse(fault: Fault) -> Result<Option<Fault>, Failure> {
+    match fault {
+        Fault::Memory => Err(Failure::Fault(fault)),
+        _ => Ok(Some(fault)),
     }
-    let number = fault.number();
-    writeln!(text, "refused fault {number}: {fault}")?;
-    Ok(Some(fault))
 }

@@ -7,7 +7,7 @@ use std::alloc::{AllocError, AllocFailed};
 pub enum Failure {
     /// A fault of the image, or of the machine.
     Fault(Fault),
-    /// The pause answers another thing than what its steps gave.
+    /// The references that were found are not those of what the steps or a search found.
     Contradiction,
 }
 

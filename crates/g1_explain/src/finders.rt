@@ -1,8 +1,7 @@
 //! What finds each object: the first reference to it, in the order of the search.
 use crate::failure::Failure;
-use crate::finder::Finder;
-use crate::objects::{slots_at, word_at};
-use crate::places::push_each;
+use crate::finder::{Finder, push_found, push_object};
+use crate::objects::slots_at;
 use crate::walkable::Walkable;
 use g1_words::Heap;
 use std::alloc::{AllocError, Global};
@@ -19,59 +18,61 @@ pub(crate) fn push_survivors(
     cards: &[u32],
     survivors: &[u64],
 ) -> Result<(), Failure> {
-    let finders = finders(alloc, walkable, cards, survivors)?;
+    let heap = walkable.heap();
+    let finders = finders(alloc, walkable, cards, survivors, survivors.len())?;
     if finders.len() < survivors.len() {
         return Err(Failure::Contradiction);
     }
-    push_each(text, walkable.heap(), survivors, &finders)?;
+    for (at, finder) in survivors.iter().zip(finders.iter()) {
+        push_object(text, "survivor", &heap.words().header(*at))?;
+        push_found(text, *finder)?;
+    }
     Ok(())
 }
 
-// The objects in the order in which a search finds them, the finders of the first ones, and the reference
-// word to the next one, or 0 if each has its finder.
+// The objects in the order in which a search finds them, the finders of the first ones, and how many finders
+// are wanted.
 #[derive(Drop)]
 struct Meeting<'a> {
     found: &'a [u64],
     finders: Vec<Finder>,
-    next: u64,
+    wanted: usize,
 }
 
 impl<'a> Meeting<'a> {
     // A reference word, where it is the first one to an object: that object is the next.
     fn meet(&mut self, word: u64, finder: Finder) -> Result<(), AllocError> {
-        if word == self.next && word > 0 {
+        let target = word.checked_sub(1);
+        if target.is_some() && target == self.next() {
             self.finders.push(finder)?;
-            self.next = word_to(self.found, self.finders.len());
         }
         Ok(())
     }
 
+    // The object that is to be found next.
+    fn next(&self) -> Option<u64> {
+        self.found.get(self.finders.len()).copied()
+    }
+
     fn is_whole(&self) -> bool {
-        self.next == 0
+        self.finders.len() >= self.wanted
     }
 }
 
-// The reference word to the object at a place of a list.
-fn word_to(found: &[u64], place: usize) -> u64 {
-    match found.get(place) {
-        Some(at) => at.saturating_add(1),
-        None => 0,
-    }
-}
-
-/// The finder of each object of a list that `discover` gave for these cards, or of a beginning of such a
-/// list. There are fewer if the list is another.
+/// The finders of the first ones of the objects at some addresses, which `discover` found from these cards, as
+/// many as are wanted. There are fewer if the cards lead to others.
 pub(crate) fn finders(
     alloc: Global,
     walkable: &Walkable<'_>,
     cards: &[u32],
     found: &[u64],
+    wanted: usize,
 ) -> Result<Vec<Finder>, AllocError> {
     let heap = walkable.heap();
     let mut meeting = Meeting {
         found,
-        finders: Vec::with_capacity(alloc, found.len())?,
-        next: word_to(found, 0),
+        finders: Vec::with_capacity(alloc, wanted)?,
+        wanted,
     };
     meet_roots(heap, &mut meeting)?;
     meet_cards(alloc, walkable, cards, &mut meeting)?;
@@ -107,7 +108,7 @@ fn meet_card(
 ) -> Result<(), AllocError> {
     for slot in slots {
         let finder = Finder::Card { card, slot: *slot };
-        meeting.meet(word_at(heap, *slot), finder)?;
+        meeting.meet(heap.words().at(*slot), finder)?;
     }
     Ok(())
 }
@@ -117,14 +118,19 @@ fn meet_objects(heap: &Heap, found: &[u64], meeting: &mut Meeting<'_>) -> Result
         if meeting.is_whole() {
             break;
         }
-        meet_slots(index, slots_at(heap, *at), meeting)?;
+        meet_slots(index, *at, slots_at(heap, *at), meeting)?;
     }
     Ok(())
 }
 
-fn meet_slots(index: usize, slots: &[u64], meeting: &mut Meeting<'_>) -> Result<(), AllocError> {
+fn meet_slots(
+    index: usize,
+    at: u64,
+    slots: &[u64],
+    meeting: &mut Meeting<'_>,
+) -> Result<(), AllocError> {
     for (slot, word) in slots.iter().enumerate() {
-        meeting.meet(*word, Finder::Object { index, slot })?;
+        meeting.meet(*word, Finder::Object { index, at, slot })?;
     }
     Ok(())
 }

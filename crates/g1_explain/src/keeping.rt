@@ -1,16 +1,18 @@
 //! What keeps an object.
+ghost use Rattle.std.specs.Prelude.{◌<◌, IfSome, length};
+
 use crate::cards::mark_regions;
 use crate::failure::Failure;
 use crate::finder::{Finder, push_object};
 use crate::finders::finders;
 use crate::humongous::card_keeper;
-use crate::paths::{push_card, push_garbage, push_path, push_path_line, push_pin};
+use crate::paths::{Leg, push_card, push_garbage, push_path, push_path_line, push_pin};
 use crate::walkable::Walkable;
 use g1_frontier::discover;
 use g1_image::Image;
 use g1_mark::live_objects;
 use g1_rem::{Starts, cards_into_region};
-use g1_words::{Heap, region_of};
+use g1_words::{Heap, object_at, region_of};
 use g1_work::{Open, Team};
 use std::alloc::{AllocError, Global};
 use std::thread::Threads;
@@ -89,42 +91,38 @@ fn explain_live<R: Threads + Sync>(
     let Some(path) = path_to(alloc, walkable, &[], &live, at)? else {
         return Ok(false);
     };
-    push_live(text, heap, &live, at, &path)?;
+    push_live(text, at, &path)?;
     Ok(true)
 }
 
-fn push_live(
-    text: &mut String,
-    heap: &Heap,
-    live: &[u64],
-    at: u64,
-    path: &[Finder],
-) -> Result<(), AllocError> {
+fn push_live(text: &mut String, at: u64, path: &[Leg]) -> Result<(), AllocError> {
     push_path_line(text, "live", at, path)?;
-    push_path(text, heap, live, path)
+    push_path(text, path)
 }
 
-// Among those that a search found for these cards: the finders that lead to the object at an address, the
-// first one first.
+// Among those that a search found for these cards: the path to the object at an address, from its first
+// object on.
 fn path_to(
     alloc: Global,
     walkable: &Walkable<'_>,
     cards: &[u32],
     found: &[u64],
     at: u64,
-) -> Result<Option<Vec<Finder>>, Failure> {
+) -> Result<Option<Vec<Leg>>, Failure> {
     let Some(index) = index_of(found, at) else {
         return Ok(None);
     };
-    let until = found.get(..index.saturating_add(1)).unwrap_or(found);
-    let finders = finders(alloc, walkable, cards, until)?;
-    if finders.len() < until.len() {
+    let finders = finders(alloc, walkable, cards, found, index + 1)?;
+    if finders.len() <= index {
         return Err(Failure::Contradiction);
     }
-    Ok(Some(path_back(alloc, &finders, index)?))
+    let heap = walkable.heap();
+    Ok(Some(path_back(alloc, heap, found, &finders, index)?))
 }
 
-fn index_of(found: &[u64], at: u64) -> Option<usize> {
+fn index_of(found: &[u64], at: u64) -> Option<usize>
+    ensures { IfSome result (λ i. i < length found.now) }
+{
     for (index, address) in found.iter().enumerate() {
         if *address == at {
             return Some(index);
@@ -133,17 +131,30 @@ fn index_of(found: &[u64], at: u64) -> Option<usize> {
     None
 }
 
-// The finders from the one of an object back to the first one, in the order of the path.
-fn path_back(alloc: Global, finders: &[Finder], index: usize) -> Result<Vec<Finder>, AllocError> {
+// The legs from that of an object back to the first one, in the order of the path.
+fn path_back(
+    alloc: Global,
+    heap: &Heap,
+    found: &[u64],
+    finders: &[Finder],
+    index: usize,
+) -> Result<Vec<Leg>, AllocError> {
     let mut path = Vec::new(alloc);
-    let mut next = finders.get(index);
+    let mut next = Some(index);
     for _ in 0..finders.len() {
-        let Some(finder) = next else {
+        let Some(index) = next else {
             break;
         };
-        path.push(*finder)?;
+        let (Some(at), Some(finder)) = (found.get(index), finders.get(index)) else {
+            break;
+        };
+        let object = heap.words().header(*at);
+        path.push(Leg {
+            object,
+            finder: *finder,
+        })?;
         next = match finder {
-            Finder::Object { index, .. } => finders.get(*index),
+            Finder::Object { index, .. } => Some(*index),
             Finder::Root { .. } | Finder::Card { .. } => None,
         };
     }
@@ -204,9 +215,10 @@ fn explain_humongous(
     } = *target;
     let heap = walkable.heap();
     let none = mark_regions(alloc, heap, &[])?;
-    match card_keeper(alloc, walkable, &none, u64::from(region), cards) {
-        Some(finder) => push_kept(text, target, &[at], &[finder]),
-        None => push_garbage(text, heap, region, at),
+    let keeper = card_keeper(alloc, walkable, &none, region, cards);
+    match (object_at(heap, at), keeper) {
+        (Some(object), Some(finder)) => push_kept(text, target, &[Leg { object, finder }]),
+        _ => push_garbage(text, heap, region, at),
     }
 }
 
@@ -219,7 +231,7 @@ fn explain_ordinary(
     found: &[u64],
 ) -> Result<(), Failure> {
     match path_to(alloc, target.walkable, cards, found, target.at)? {
-        Some(path) => Ok(push_kept(text, target, found, &path)?),
+        Some(path) => Ok(push_kept(text, target, &path)?),
         None => {
             let heap = target.walkable.heap();
             Ok(push_garbage(text, heap, target.region, target.at)?)
@@ -227,20 +239,21 @@ fn explain_ordinary(
     }
 }
 
-fn push_kept(
-    text: &mut String,
-    target: &Target<'_>,
-    found: &[u64],
-    path: &[Finder],
-) -> Result<(), AllocError> {
+fn push_kept(text: &mut String, target: &Target<'_>, path: &[Leg]) -> Result<(), AllocError> {
     let walkable = target.walkable;
     let heap = walkable.heap();
     push_path_line(text, "kept", target.at, path)?;
-    if let Some(Finder::Card { card, slot }) = path.first() {
+    if let Some(
+        Leg {
+            finder: Finder::Card { card, slot },
+            ..
+        },
+    ) = path.first()
+    {
         push_card(text, walkable.image, target.region, *card)?;
         push_holder(text, walkable, *card, *slot)?;
     }
-    push_path(text, heap, found, path)?;
+    push_path(text, path)?;
     push_pin(text, heap, target.region)
 }
 
@@ -251,7 +264,7 @@ fn push_holder(
     slot: u64,
 ) -> Result<(), AllocError> {
     if let Some(at) = walkable.holder(card, slot) {
-        push_object(text, walkable.heap(), "holder", at)?;
+        push_object(text, "holder", &walkable.heap().words().header(at))?;
         writeln!(text, " slot {slot}")?;
     }
     Ok(())

@@ -1,20 +1,26 @@
 //! The lines of what keeps an object: a path from a root or a card, or that it is garbage.
 use crate::finder::{Finder, push_found, push_object};
-use crate::objects::{slots_at, word_at};
 use g1_image::Image;
-use g1_words::Heap;
+use g1_words::{Heap, Object};
 use std::alloc::AllocError;
+
+/// An object on a path, and what leads to it.
+#[derive(Clone, Copy)]
+pub(crate) struct Leg {
+    pub(crate) object: Object,
+    pub(crate) finder: Finder,
+}
 
 /// Adds the first line of a path to the object at an address.
 pub(crate) fn push_path_line(
     text: &mut String,
     word: &str,
     at: u64,
-    path: &[Finder],
+    path: &[Leg],
 ) -> Result<(), AllocError> {
     write!(text, "{word} {at}")?;
-    for finder in path {
-        push_reference(text, *finder)?;
+    for leg in path {
+        push_reference(text, leg.finder)?;
     }
     text.push('\n')
 }
@@ -28,30 +34,12 @@ fn push_reference(text: &mut String, finder: Finder) -> Result<(), AllocError> {
 }
 
 /// Adds a line for each object on a path.
-pub(crate) fn push_path(
-    text: &mut String,
-    heap: &Heap,
-    found: &[u64],
-    path: &[Finder],
-) -> Result<(), AllocError> {
-    for finder in path {
-        push_object(text, heap, "object", target_of(heap, found, *finder))?;
-        push_found(text, found, *finder)?;
+pub(crate) fn push_path(text: &mut String, path: &[Leg]) -> Result<(), AllocError> {
+    for leg in path {
+        push_object(text, "object", &leg.object)?;
+        push_found(text, leg.finder)?;
     }
     Ok(())
-}
-
-// The address of the object that a finder leads to.
-fn target_of(heap: &Heap, found: &[u64], finder: Finder) -> u64 {
-    let word = match finder {
-        Finder::Root { number } => heap.roots().get(number).copied(),
-        Finder::Card { slot, .. } => Some(word_at(heap, slot)),
-        Finder::Object { index, slot } => {
-            let at = found.get(index).copied().unwrap_or(0);
-            slots_at(heap, at).get(slot).copied()
-        }
-    };
-    word.unwrap_or(0).saturating_sub(1)
 }
 
 /// Adds that an object of a region is garbage, with the region's pin.

@@ -1,125 +1,86 @@
 //! The lines of a pause's steps.
-use crate::cards::{mark_regions, push_cards, push_dirty};
+use crate::cards::{mark_regions, push_cards};
 use crate::changes::{
-    free_count, push_heading_changes, push_patches, push_regions, push_remembered,
+    free_count, kept_patches, push_heading_changes, push_patches, push_regions, push_remembered,
+    push_roots,
 };
 use crate::choosing::push_bought;
 use crate::failure::Failure;
 use crate::finders::push_survivors;
-use crate::form::Form;
 use crate::humongous::{keepers, push_humongous};
-use crate::objects::sizes_of;
 use crate::places::push_places;
-use crate::totals::{Written, push_room, push_totals};
+use crate::totals::{Written, push_refusal, push_room, push_totals};
 use crate::walkable::Walkable;
 use g1_choose::total;
-use g1_pause::{Before, Outcome, Settings, Steps, take_steps};
-use g1_rem::Tracked;
+use g1_copy::Prepared;
+use g1_layout::Plan;
+use g1_pause::{Before, Outcome, Settings, Steps};
 use g1_words::Fault;
-use g1_work::Open;
 use std::alloc::Global;
-use std::thread::Threads;
 
-/// Takes the steps of a pause, and adds the lines of each to the text, below the line that the image is
-/// covered. The image stays as it is. For a map the lines that take long are left out: none of them is
-/// wanted.
+/// Adds the lines of the steps of a pause, and returns the fault for which the pause is refused, if it is.
 ///
 /// # Errors
 ///
-/// The fault for which the pause is refused: the lines are then those of the steps before it.
-pub(crate) fn push_steps<R: Threads + Sync>(
-    rt: &R,
+/// `Fault::Memory`; `Failure::Contradiction` if the references don't lead to what the steps found.
+pub(crate) fn push_steps(
     alloc: Global,
     text: &mut String,
-    form: Form,
-    tracked: &Tracked,
-    settings: &Settings,
-) -> Result<Written, Failure> {
-    text.push_str("covered\n")?;
-    let before = Before::new(rt, alloc, tracked, settings.workers())?;
-    push_dirty(alloc, text, before.image(), before.remembered())?;
-    let steps = take_steps(rt, alloc, &before, settings, &Open)?;
-    push_search(alloc, text, form, &before, settings, &steps)?;
-    push_written(alloc, text, form, &before, steps)
-}
-
-// The lines of the choice, of the cards that lead into the set and of the survivors. A map has those of the choice.
-fn push_search(
-    alloc: Global,
-    text: &mut String,
-    form: Form,
     before: &Before<'_>,
     settings: &Settings,
     steps: &Steps,
-) -> Result<(), Failure> {
+) -> Result<Option<Fault>, Failure> {
     if let Some(bought) = &steps.collection.bought {
         let base = total(&settings.cost(), before.image().log().len() as u64, &[]);
         push_bought(text, before, base, bought)?;
     }
-    if form == Form::Map {
-        return Ok(());
-    }
     let walkable = Walkable::of(before);
     let set = steps.collection.regions.as_slice();
     push_cards(alloc, text, &walkable, set, &steps.cards)?;
-    let survivors = match &steps.outcome {
-        Outcome::Ready { plan, .. } => plan.survivors(),
-        Outcome::NoRoom { survivors, .. } => survivors.as_slice(),
-    };
-    push_survivors(alloc, text, &walkable, &steps.cards, survivors)
-}
-
-// Adds the lines of what the pause writes, and of the totals, unless the survivors have no room.
-fn push_written(
-    alloc: Global,
-    text: &mut String,
-    form: Form,
-    before: &Before<'_>,
-    steps: Steps,
-) -> Result<Written, Failure> {
-    let written = written_of(alloc, before, steps)?;
-    push_writes(alloc, text, form, before, &written)?;
-    push_totals(text, before.image().heap(), &written)?;
-    Ok(written)
-}
-
-// What the pause writes, unless the survivors have no room.
-fn written_of(alloc: Global, before: &Before<'_>, steps: Steps) -> Result<Written, Failure> {
-    let Steps { cards, outcome, .. } = steps;
-    match outcome {
-        Outcome::NoRoom { need, free, .. } => Err(Failure::Fault(Fault::Room { need, free })),
+    match &steps.outcome {
+        Outcome::NoRoom {
+            survivors,
+            need,
+            free,
+        } => {
+            let (need, free) = (*need, *free);
+            push_survivors(alloc, text, &walkable, &steps.cards, survivors)?;
+            push_refusal(text, Fault::Room { need, free })
+        }
         Outcome::Ready { plan, prepared } => {
-            let sizes = sizes_of(alloc, before.image().heap(), plan.survivors())?;
-            Ok(Written {
-                plan,
-                prepared,
-                cards: cards.len(),
-                sizes,
-            })
+            push_survivors(alloc, text, &walkable, &steps.cards, plan.survivors())?;
+            push_ready(alloc, text, before, &steps.cards, plan, prepared)?;
+            Ok(None)
         }
     }
 }
 
-// The lines of what the pause writes. A map has none.
-fn push_writes(
+// Adds the lines of what the pause writes, and of the totals.
+fn push_ready(
     alloc: Global,
     text: &mut String,
-    form: Form,
     before: &Before<'_>,
-    written: &Written,
+    cards: &[u32],
+    plan: &Plan,
+    prepared: &Prepared,
 ) -> Result<(), Failure> {
-    if form == Form::Map {
-        return Ok(());
-    }
     let heap = before.image().heap();
-    let (plan, prepared) = (&written.plan, &written.prepared);
+    let patches = kept_patches(alloc, heap, prepared)?;
     push_room(text, plan.need(), free_count(heap.regions()))?;
-    push_places(text, heap, plan, &written.sizes)?;
-    push_patches(text, heap, prepared)?;
-    push_humongous_objects(alloc, text, before, written)?;
+    push_places(text, heap, plan)?;
+    push_roots(text, heap.roots(), prepared.roots())?;
+    push_patches(text, heap, &patches)?;
+    push_humongous_objects(alloc, text, before, plan, prepared)?;
     push_remembered(alloc, text, before.remembered(), prepared.remembered())?;
     push_regions(text, heap.regions(), prepared.regions())?;
     push_heading_changes(text, before.image())?;
+    let written = Written {
+        plan,
+        prepared,
+        cards: cards.len(),
+        slots: patches.len(),
+    };
+    push_totals(text, heap, &written)?;
     Ok(())
 }
 
@@ -128,18 +89,18 @@ fn push_humongous_objects(
     alloc: Global,
     text: &mut String,
     before: &Before<'_>,
-    written: &Written,
+    plan: &Plan,
+    prepared: &Prepared,
 ) -> Result<(), Failure> {
     let walkable = Walkable::of(before);
     let heap = walkable.heap();
-    let survivors = written.plan.survivors();
-    let set = mark_regions(alloc, heap, written.plan.set())?;
-    let keepers = keepers(alloc, &walkable, before.remembered(), &set, survivors)?;
-    push_humongous(
-        text,
-        heap,
-        survivors,
-        &keepers,
-        written.prepared.humongous(),
-    )
+    let set = mark_regions(alloc, heap, plan.set())?;
+    let keepers = keepers(
+        alloc,
+        &walkable,
+        before.remembered(),
+        &set,
+        plan.survivors(),
+    )?;
+    push_humongous(text, heap, &keepers, prepared.humongous())
 }

@@ -1,20 +1,20 @@
-//! What a pause writes, and its totals.
-use crate::changes::{free_count, patch_count};
-use crate::objects::sum_of;
+//! What a pause writes, its totals, and its refusal.
+use crate::changes::free_count;
+use crate::failure::Failure;
 use g1_copy::Prepared;
 use g1_layout::Plan;
-use g1_words::Heap;
+use g1_words::{Fault, Heap};
 use std::alloc::AllocError;
 
-/// What the steps of a pause give.
+/// What a pause writes, and what of it is counted.
 #[derive(Drop)]
-pub(crate) struct Written {
-    pub(crate) plan: Plan,
-    pub(crate) prepared: Prepared,
+pub(crate) struct Written<'a> {
+    pub(crate) plan: &'a Plan,
+    pub(crate) prepared: &'a Prepared,
     /// How many cards lead into the set.
     pub(crate) cards: usize,
-    /// The words of each survivor.
-    pub(crate) sizes: Vec<u64>,
+    /// How many slots are patched.
+    pub(crate) slots: usize,
 }
 
 /// Adds the line of the regions that the survivors need.
@@ -22,25 +22,37 @@ pub(crate) fn push_room(text: &mut String, need: u64, free: u64) -> Result<(), A
     writeln!(text, "room need {need} free {free}")
 }
 
+/// Adds the refusal of a pause, and returns its fault. Running out of memory is none.
+pub(crate) fn push_refusal(text: &mut String, fault: Fault) -> Result<Option<Fault>, Failure> {
+    if fault == Fault::Memory {
+        return Err(Failure::Fault(fault));
+    }
+    if let Fault::Room { need, free } = fault {
+        push_room(text, need, free)?;
+    }
+    let number = fault.number();
+    writeln!(text, "refused fault {number}: {fault}")?;
+    Ok(Some(fault))
+}
+
 /// Adds the line of the totals: what the pause collects, moves and writes.
 pub(crate) fn push_totals(
     text: &mut String,
     heap: &Heap,
-    written: &Written,
+    written: &Written<'_>,
 ) -> Result<(), AllocError> {
     let regions = written.plan.set().len();
     let humongous = written.prepared.humongous().len();
-    let objects = written.sizes.len();
-    let bytes = sum_of(&written.sizes).saturating_mul(8);
+    let objects = written.plan.survivors().len();
+    let bytes = written.plan.words().saturating_mul(8);
     write!(text, "pause regions {regions} humongous {humongous}")?;
     write!(text, " objects {objects} bytes {bytes}")?;
     push_counts(text, heap, written)
 }
 
 // Ends the line of the totals with what is counted: cards, slots, and free regions before and after.
-fn push_counts(text: &mut String, heap: &Heap, written: &Written) -> Result<(), AllocError> {
-    let cards = written.cards;
-    let slots = patch_count(heap, &written.prepared);
+fn push_counts(text: &mut String, heap: &Heap, written: &Written<'_>) -> Result<(), AllocError> {
+    let (cards, slots) = (written.cards, written.slots);
     let before = free_count(heap.regions());
     let after = free_count(written.prepared.regions());
     writeln!(text, " cards {cards} slots {slots} free {before} {after}")

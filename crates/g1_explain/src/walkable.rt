@@ -1,7 +1,6 @@
 //! A heap whose objects can be found from its cards.
-ghost use Rattle.std.specs.Prelude.{◌<◌};
+ghost use Rattle.std.specs.Prelude.{◌≡◌, ◌<◌};
 
-use crate::objects::size_in;
 use g1_image::Image;
 use g1_pause::Before;
 use g1_rem::{Starts, slots_on};
@@ -30,14 +29,18 @@ impl<'a> Model for Walkable<'a> {
 
 impl<'a> Walkable<'a> {
     /// The image of a pause before it.
-    pub(crate) fn of(before: &'a Before<'_>) -> Walkable<'a> {
+    pub(crate) fn of(before: &'a Before<'_>) -> Walkable<'a>
+        ensures { result ≡ before.now }
+    {
         Walkable {
             image: before.image(),
             starts: before.starts(),
         }
     }
 
-    pub(crate) fn heap(&self) -> &'a Heap {
+    pub(crate) fn heap(&self) -> &'a Heap
+        ensures { result.now ≡ self.now.heap }
+    {
         self.image.heap()
     }
 
@@ -60,7 +63,7 @@ impl<'a> Walkable<'a> {
         }
         let mut at = u64::from(self.starts.first(card)?);
         for _ in 0..geometry.card_words() {
-            let next = at.saturating_add(size_in(heap, at));
+            let next = at.saturating_add(heap.words().header(at).size);
             if slot < next {
                 break;
             }

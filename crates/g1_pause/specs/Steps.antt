@@ -5,8 +5,12 @@ use Rattle.g1_words.specs.Layout.{need, free_regions}
 use Rattle.g1_image.specs.Image.{Image}
 use Rattle.g1_copy.specs.Plans.{IsPauseOf}
 use Rattle.g1_copy.specs.Prepared.{IsMadeFor}
+use Rattle.g1_choose.specs.declared.parameters.Cost.{Cost}
+use Rattle.g1_pause.specs.declared.settings.Choice.{Choice}
 use Rattle.g1_pause.specs.declared.steps.Outcome.{Outcome}
 use Rattle.g1_pause.specs.declared.steps.Outcome.TheVariants.{Ready, NoRoom}
+use Rattle.g1_pause.specs.declared.steps.Steps.{Steps}
+use Rattle.g1_pause.specs.Answer.{IsSetFor}
 
 -- the survivors need more regions than are free
 pub record LacksRoom (i : Image) (set survivors : List ℕ) (needed free : ℕ) : Type 0 where
@@ -19,3 +23,8 @@ pub record LacksRoom (i : Image) (set survivors : List ℕ) (needed free : ℕ) 
 abbrev pub IsOutcome : Image → List ℕ → Outcome → Type 0
 IsOutcome i set (Ready plan prepared) = IsPauseOf i.heap set plan × IsMadeFor prepared i set plan.survivors
 IsOutcome i set (NoRoom survivors needed free) = LacksRoom i set survivors.items needed free
+
+-- the steps are those of this pause of the image: its set, and what follows from it
+abbrev pub AreStepsOf : Cost → Choice → Image → Steps → Type 0
+AreStepsOf cost choice i steps =
+    IsSetFor cost i choice steps.collection.regions.items × IsOutcome i steps.collection.regions.items steps.outcome

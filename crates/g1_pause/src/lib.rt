@@ -13,7 +13,8 @@
 //! 4. Each survivor gets its place in a free region, or the pause is refused for want of room.
 //! 5. All that the pause writes is prepared, and its report with it. Up to here memory may be
 //!    refused, and the image is as it was.
-//! 6. A commit puts it in place. It takes no memory and refuses nothing.
+//! 6. A commit puts it in place. It takes no memory and refuses nothing. `carry_out` does so for a
+//!    caller of `take_steps` that looks at the steps before.
 //!
 //! The answer is determined by the image, the choice and the cost. The workers, the chunk and the
 //! gate leave no trace in it.
@@ -21,6 +22,7 @@
 
 mod before;
 mod bytes;
+mod carrying;
 mod choosing;
 mod evacuating;
 pub mod laws;
@@ -31,6 +33,7 @@ mod steps;
 
 pub use before::Before;
 pub use bytes::pause_bytes;
+pub use carrying::carry_out;
 pub use choosing::{Bought, CollectionSet, collection_set, count_live};
 pub use evacuating::evacuate;
 pub use g1_image::{FromReader, Sink, Source, ToWriter};

@@ -27,4 +27,7 @@ mod words;
 pub use expected::{Expected, Wrong};
 pub use making::make;
 pub use named::{Graph, is_graph, make_graph, read_graph};
-pub use printing::{image_lines, object_line, push_heading, push_region_line, region_lines};
+pub use printing::{
+    image_lines, object_line, push_heading, push_log, push_object, push_region_line,
+    push_remembered, push_root, region_lines,
+};

@@ -3,7 +3,7 @@ ghost use Rattle.g1_words.specs.Heap.{objects_in, objects, regions};
 ghost use Rattle.g1_text.specs.Lines.{line_text, further, text_of, reference_word, heading, root_lines, root_line, cards_words, log_lines, region_line, remembered_lines, object_line, region_lines, image_text};
 
 use g1_image::Image;
-use g1_words::{Fault, Heap, Object, Region, data, laws, objects_in, slots};
+use g1_words::{Fault, Heap, Object, Region, Words, data, laws, objects_in, slots};
 use itoa::Buffer;
 use std::alloc::{AllocError, Global};
 
@@ -50,10 +50,11 @@ pub fn object_line(alloc: Global, heap: &Heap, object: &Object) -> Result<String
 {
     laws::valid(heap);
     let mut text = String::new(alloc);
-    let length = heap.words().len() as u64;
+    let words = heap.words();
+    let laid = words.laid().len() as u64;
     let Object { at, size, refs } = *object;
-    if refs < size && size <= length && at <= length - size {
-        push_object(&mut text, heap.words(), object)?;
+    if refs < size && size <= laid && at <= laid - size {
+        push_object(&mut text, words, object)?;
     }
     Ok(text)
 }
@@ -93,7 +94,12 @@ fn push_roots(text: &mut String, roots: &[u64]) -> Result<(), AllocError>
     Ok(())
 }
 
-fn push_root(text: &mut String, number: usize, root: u64) -> Result<(), AllocError>
+/// Adds the line of a root.
+///
+/// # Errors
+///
+/// `AllocError`.
+pub fn push_root(text: &mut String, number: usize, root: u64) -> Result<(), AllocError>
     ensures { OnOk result (string_bytes text.new ≡ string_bytes text.old ++ line_text (root_line number root)) }
 {
     push_field(text, "root ", number as u64)?;
@@ -101,7 +107,12 @@ fn push_root(text: &mut String, number: usize, root: u64) -> Result<(), AllocErr
     text.push_str("\n")
 }
 
-fn push_log(text: &mut String, cards: &[u32]) -> Result<(), AllocError>
+/// Adds the line of the dirty cards, if there are any.
+///
+/// # Errors
+///
+/// `AllocError`.
+pub fn push_log(text: &mut String, cards: &[u32]) -> Result<(), AllocError>
     ensures { OnOk result (string_bytes text.new ≡ string_bytes text.old ++ text_of (log_lines cards.now)) }
 {
     if cards.is_empty() {
@@ -166,7 +177,12 @@ pub fn push_region_line(
     )
 }
 
-fn push_remembered(text: &mut String, region: u32, cards: &[u32]) -> Result<(), AllocError>
+/// Adds the line of a remembered set, if it has cards.
+///
+/// # Errors
+///
+/// `AllocError`.
+pub fn push_remembered(text: &mut String, region: u32, cards: &[u32]) -> Result<(), AllocError>
     ensures { OnOk result (string_bytes text.new ≡ string_bytes text.old ++ text_of (remembered_lines region cards.now)) }
 {
     if cards.is_empty() {
@@ -194,15 +210,20 @@ fn push_objects(
     Ok(())
 }
 
-// An object's address, its header, its slots as addresses, and its data words.
-fn push_object(text: &mut String, words: &[u64], object: &Object) -> Result<(), AllocError>
+/// Adds the line of an object: its address, its header, its slots as addresses, and its data words.
+///
+/// # Errors
+///
+/// `AllocError`.
+pub fn push_object(text: &mut String, words: &Words, object: &Object) -> Result<(), AllocError>
     requires refs { object.now.refs < object.now.size }
-    requires within { object.now.at + object.now.size ≤ length words.now }
-    ensures { OnOk result (string_bytes text.new ≡ string_bytes text.old ++ line_text (object_line words.now object.now)) }
+    requires laid { object.now.at + object.now.size ≤ words.now.laid }
+    ensures { OnOk result (string_bytes text.new ≡ string_bytes text.old ++ line_text (object_line words.now.items object.now)) }
 {
+    let laid = words.laid();
     push_header(text, object)?;
-    push_references(text, slots(words, object))?;
-    push_data(text, data(words, object))?;
+    push_references(text, slots(laid, object))?;
+    push_data(text, data(laid, object))?;
     text.push_str("\n")
 }
 

@@ -36,3 +36,4 @@ pub mod Deciding
 pub mod Tellings
 pub mod Existing
 pub mod Sessions
+pub mod LaidWords

@@ -4,6 +4,9 @@ use Rattle.g1_words.specs.Geometry.{Geometry}
 use Rattle.g1_words.specs.declared.fault.Fault.TheVariants.{Memory, Geometry as OutOfRange}
 use Rattle.g1_image.specs.Image.{Image}
 use Rattle.g1_choose.specs.declared.parameters.Cost.{Cost}
+use Rattle.g1_pause.specs.declared.settings.Choice.{Choice}
+use Rattle.g1_pause.specs.declared.steps.Steps.{Steps}
+use Rattle.g1_pause.specs.Steps.{AreStepsOf}
 use Rattle.g1_trace.specs.declared.command.Command.{Command}
 use Rattle.g1_trace.specs.declared.command.Command.TheVariants.{Pause}
 use Rattle.g1_trace.specs.declared.command.Reply.{Reply as ReplyOf}
@@ -67,3 +70,7 @@ image_of (Open i n) = Some i
 abbrev pub AsksPause : Session → List ℕ → ℕ → Type 0
 AsksPause Begun line budget = ⊥
 AsksPause (Open i n) line budget = (budget < 2 ^ 64) × (line ≡ command_line (Pause budget))
+
+-- the steps are those of this pause of the session's heap
+abbrev pub AreStepsFor : Cost → Choice → Session → Steps → Type 0
+AreStepsFor cost choice s steps = (i : Image) × (image_of s ≡ Some i) × AreStepsOf cost choice i steps

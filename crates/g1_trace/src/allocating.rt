@@ -135,7 +135,8 @@ fn place_ordinary(heap: &mut Heap, r: u32, root: u64, size: u64, refs: u64)
 {
     let Region { top, pinned, .. } = heap.regions[r as usize];
     let at = heap.geometry.start(r) + u64::from(top);
-    heap.words[at as usize] = header_word(size, refs);
+    heap.words.lay_to(heap.words.len());
+    heap.words.set(at, header_word(size, refs));
     heap.roots[root as usize] = at + 1;
     heap.regions[r as usize] = Region {
         kind: Kind::Ordinary,
@@ -159,7 +160,8 @@ fn place_humongous(heap: &mut Heap, r: u32, root: u64, size: u64, refs: u64)
     ensures { heap.new ≡ humongous_heap heap.old r size refs root }
 {
     let at = heap.geometry.start(r);
-    heap.words[at as usize] = header_word(size, refs);
+    heap.words.lay_to(heap.words.len());
+    heap.words.set(at, header_word(size, refs));
     heap.roots[root as usize] = at + 1;
     take_run(&mut heap.regions, &heap.geometry, r, size);
 }

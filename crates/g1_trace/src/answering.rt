@@ -75,7 +75,7 @@ fn answer_get(heap: &Heap, root: u64, from: u64, slot: u64) -> Result<Answer, Re
     root_value(heap, root)?;
     let source = object_of(heap, from)?;
     check_index(slot, source.refs)?;
-    let value = heap.words()[(source.at + 1 + slot) as usize];
+    let value = heap.words().at(source.at + 1 + slot);
     Ok(done(Effect::SetRoot { root, value }))
 }
 
@@ -109,7 +109,7 @@ fn answer_say(heap: &Heap, root: u64, word: u64) -> Result<Answer, Reply>
 {
     let source = object_of(heap, root)?;
     check_index(word, source.size - 1 - source.refs)?;
-    let value = heap.words()[(source.at + 1 + source.refs + word) as usize];
+    let value = heap.words().at(source.at + 1 + source.refs + word);
     Ok(number(value))
 }
 

@@ -1,9 +1,11 @@
-ghost use Rattle.std.specs.Prelude.{◌≡◌, ◌≤◌, ◌<◌, ◌⊎◌, slice_set, IfOk, IfErr};
+ghost use Rattle.std.specs.Prelude.{◌≡◌, ℕ, ◌≤◌, ◌<◌, ◌⊎◌, slice_set, IfOk, IfErr};
 ghost use Rattle.g1_words.specs.Geometry.{most_roots};
 ghost use Rattle.g1_image.specs.Cards.{IsTracked};
 ghost use Rattle.g1_image.specs.Image.{Image as ImageOf};
 ghost use Rattle.g1_choose.specs.Cost.{IsCost};
 ghost use Rattle.g1_work.specs.Team.{IsTeam};
+ghost use Rattle.g1_pause.specs.declared.settings.Choice.TheVariants.{Budget};
+ghost use Rattle.g1_pause.specs.Steps.{AreStepsOf};
 ghost use Rattle.g1_trace.specs.declared.command.Reply.{Reply as ReplyOf};
 ghost use Rattle.g1_trace.specs.Mutator.{heap_view, value_address, with_words, IsStep, IsEffect};
 ghost use Rattle.g1_trace.specs.Run.{empty_image};
@@ -19,9 +21,10 @@ use crate::laws;
 use crate::writing::{set_root, set_slot, set_value};
 use g1_choose::Cost;
 use g1_image::Image;
+use g1_pause::{Settings, Steps};
 use g1_rem::{Tracked, image, no_cards};
-use g1_words::{Fault, Geometry, Heap, Kind, MOST_ROOTS, Region, header};
-use g1_work::{Gate, Team};
+use g1_words::{Fault, Geometry, Heap, Kind, MOST_ROOTS, Region, Words};
+use g1_work::{Gate, Open, Team};
 use indexmap::IndexSet;
 use std::alloc::Global;
 use std::marker::Model;
@@ -55,7 +58,7 @@ fn free_heap(alloc: Global, geometry: Geometry, roots: u64) -> Result<Heap, Faul
     };
     Ok(Heap {
         geometry,
-        words: vec![in alloc; 0u64; geometry.words() as usize]?,
+        words: Words::new(Vec::new(alloc), geometry.words() as usize)?,
         regions: vec![in alloc; free; regions as usize]?,
         roots: vec![in alloc; 0u64; roots as usize]?,
         current: None,
@@ -68,7 +71,7 @@ fn set_data(tracked: &mut Tracked, object: u64, word: u64, value: u64)
     requires fits { EffectFits (heap_view tracked.old.heap) (Effect.SetValue object word value) }
     ensures { tracked.new ≡ with_words tracked.old (slice_set tracked.old.heap.words (value_address tracked.old.heap object word) value) tracked.old.log }
 {
-    let refs = header(image(tracked).heap().words(), object).refs;
+    let refs = image(tracked).heap().words().header(object).refs;
     set_value(tracked, object + 1 + refs + word, value);
 }
 
@@ -154,6 +157,30 @@ impl Mutator {
         ensures { result.now ≡ self.now }
     {
         image(&self.tracked)
+    }
+
+    /// The same, as what a pause is made of.
+    pub(crate) fn tracked(&self) -> &Tracked
+        ensures { result.now ≡ self.now }
+    {
+        &self.tracked
+    }
+
+    /// Does the pause whose steps were taken of this very heap.
+    pub(crate) fn carry_out_pause<R: Threads + Sync>(
+        self,
+        rt: &R,
+        settings: &Settings,
+        steps: Steps,
+    ) -> (Mutator, Reply)
+        requires taken { AreStepsOf settings.now.cost settings.now.choice self steps }
+        ensures done { (b : ℕ) → settings.now.choice ≡ Budget b → IsStep settings.now.cost self (Command.Pause b) result.1 result.0 }
+    {
+        let Mutator { tracked } = self;
+        match g1_pause::carry_out(rt, tracked, settings, steps, &Open) {
+            Ok(tracked) => (Mutator { tracked }, Reply::Ok),
+            Err((tracked, _)) => (Mutator { tracked }, Reply::Room),
+        }
     }
 
     /// Does one command. A few words are read and written; a new object besides looks for a free

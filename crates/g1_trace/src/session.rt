@@ -1,7 +1,9 @@
-ghost use Rattle.std.specs.Prelude.{◌≡◌, ◌↔◌, ℕ, Some, None, IsTrue, IfSome, IfNone, IfOk, IfErr};
+ghost use Rattle.std.specs.Prelude.{◌≡◌, ◌↔◌, ℕ, List, Some, None, IsTrue, IfSome, IfNone, IfOk, IfErr};
+ghost use Rattle.g1_pause.specs.declared.settings.Choice.TheVariants.{Budget};
 ghost use Rattle.g1_trace.specs.TraceText.{command_line, numbers_of, AllFit};
 ghost use Rattle.g1_trace.specs.declared.session.Session.TheVariants.{Begun, Open as OpenOf};
-ghost use Rattle.g1_trace.specs.Session.{AsksPause, IsComment, IsDone, IsReason, IsWrong, commands_of, image_of};
+ghost use Rattle.g1_trace.specs.declared.session.Taken.TheVariants.{Reply as ReplyOf};
+ghost use Rattle.g1_trace.specs.Session.{AreStepsFor, AsksPause, IsComment, IsDone, IsReason, IsWrong, commands_of, image_of};
 
 use crate::collector::Collector;
 use crate::command::{Command, Reply};
@@ -10,7 +12,8 @@ use crate::mutator::Mutator;
 use crate::parsing::{first_line, later_line};
 use crate::running::start;
 use g1_image::Image;
-use g1_pause::Settings;
+use g1_pause::{Settings, Steps};
+use g1_rem::Tracked;
 use g1_words::Fault;
 use g1_work::Open;
 use std::alloc::Global;
@@ -85,14 +88,42 @@ impl Session {
         }
     }
 
-    /// The budget of the pause that a line asks for, if it does.
-    pub fn budget(&self, line: &[u8]) -> Option<u64>
-        ensures some { IfSome result (AsksPause self.now line.now) }
+    /// The pause that a line asks for, if it does: its budget, and the heap that it is to collect.
+    pub fn asked_pause(&self, line: &[u8]) -> Option<(u64, &Tracked)>
+        ensures some { IfSome result (λ p. AsksPause self.now line.now p.0 × (image_of self.now ≡ Some p.1.now)) }
         ensures none { IfNone result ((b : ℕ) → AsksPause self.now line.now b → ⊥) }
     {
-        match (self, later_line(line)) {
-            (Session::Open { .. }, Some(Command::Pause { budget })) => Some(budget),
-            _ => None,
+        let Session::Open { mutator, .. } = self else {
+            return None;
+        };
+        match later_line(line) {
+            None => None,
+            Some(Command::Pause { budget }) => Some((budget, mutator.tracked())),
+            Some(_) => None,
+        }
+    }
+
+    /// Does the pause that a line asks for, whose steps were taken of the session's heap and looked at. It takes
+    /// no memory.
+    pub fn carry_out_pause<R: Threads + Sync>(
+        self,
+        rt: &R,
+        settings: &Settings,
+        steps: Steps,
+    ) -> (Session, Reply)
+        requires taken { AreStepsFor settings.now.cost settings.now.choice self steps }
+        ensures done { (line : List ℕ) (b : ℕ) → AsksPause self line b → settings.now.choice ≡ Budget b → IsDone settings.now.cost self line (ReplyOf result.1) result.0 }
+    {
+        match self {
+            Session::Begun => unreachable!(),
+            Session::Open { mutator, commands } => {
+                let (mutator, reply) = mutator.carry_out_pause(rt, settings, steps);
+                let session = Session::Open {
+                    mutator,
+                    commands: commands.saturating_add(1),
+                };
+                (session, reply)
+            }
         }
     }
 

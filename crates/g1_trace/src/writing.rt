@@ -22,7 +22,7 @@ pub(crate) fn set_value(tracked: &mut Tracked, at: u64, value: u64)
     requires kept { IsTracked (with_words tracked.old (slice_set tracked.old.heap.words at value) tracked.old.log) }
     ensures { tracked.new ≡ with_words tracked.old (slice_set tracked.old.heap.words at value) tracked.old.log }
 {
-    tracked.image.heap.words[at as usize] = value;
+    tracked.image.heap.words.set(at, value);
 }
 
 /// Returns whether a reference word that is written at an address references an object of another
@@ -67,6 +67,6 @@ pub(crate) fn set_slot(tracked: &mut Tracked, at: u64, value: u64) -> Result<(),
 {
     let image = &mut tracked.image;
     log_slot(&mut image.log, &image.heap.geometry, at, value)?;
-    image.heap.words[at as usize] = value;
+    image.heap.words.set(at, value);
     Ok(())
 }

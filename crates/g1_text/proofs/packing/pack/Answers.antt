@@ -1,7 +1,7 @@
 use Rattle.std.proofs.Common.{◌≡◌, map, sym, subst}
 use Rattle.std.specs.Prelude.{IfOk, unwrap_or}
 use Rattle.g1_image.specs.declared.cursor.Version.TheVariants.{Two}
-use Rattle.g1_image.specs.declared.encoding.FileParts.{FileParts}
+use Rattle.g1_image.specs.declared.file_parts.FileParts.{FileParts}
 use Rattle.g1_image.specs.Text.{file_text}
 use Rattle.g1_image.specs.Image.{entry_of}
 use Rattle.g1_image.specs.Parts.{file_of_parts, CountsFit}

@@ -1,7 +1,8 @@
-use Rattle.std.proofs.Common.{◌++◌, ◌∙◌, length, ap, arith, flat_map, string_bytes}
+use Rattle.std.proofs.Common.{◌++◌, ◌+◌, ◌≤◌, ◌∙◌, sym, subst, ap, arith, flat_map, string_bytes}
 use Rattle.g1_words.specs.Heap.{object_at}
 use Rattle.g1_words.specs.declared.object.Object.{Object}
 use Rattle.g1_text.specs.Lines.{line_text, object_line}
+use Rattle.g1_words.proofs.LaidObjects.{object_laid}
 use Rattle.g1_text.proofs.Printed.{one_more, object_there, objects_text, take_all}
 use Rattle.g1_text.proofs.printing.push_objects.Goals as goal
 
@@ -16,8 +17,12 @@ returns c =
     ∙ ap (λ xs. string_bytes c.args.text.now ++ flat_map (λ a. line_text (object_line h.words (object_at h a))) xs) (take_all c.loop-start.start-index starts (omega (arith, c.loop-start-test.false)))
     ∙ ap (λ xs. string_bytes c.args.text.now ++ xs) (objects_text h c.args.region c.valid.ensures c.requires.region (object_line h.words) starts c.requires.starts)
 
-pub push_object-requires-clause-within : goal.push_object-requires-clause-within
-push_object-requires-clause-within c = omega (arith, c.object.ensures.within, ap (λ (o : Object). o.at) c.object.ensures.value, ap length c.words.ensures)
+pub push_object-requires-clause-laid : goal.push_object-requires-clause-laid
+push_object-requires-clause-laid c =
+    let h = c.args.heap.now in
+    let there = object_there h c.args.region c.valid.ensures c.requires.region c.args.starts.now c.loop-start.start-index c.loop-start-test.true c.requires.starts in
+    let laid = object_laid h c.words.result.now.laid _ c.valid.ensures c.words.ensures.laid there in
+    subst (λ (o : Object). o.at + o.size ≤ c.words.result.now.laid) (sym c.object.ensures.value) laid.1
 
 pub loop-start-preserved : goal.loop-start-preserved
 loop-start-preserved c =
@@ -25,4 +30,4 @@ loop-start-preserved c =
     let now = string_bytes c.loop-start.text in
     one_more (λ a. line_text (object_line h.words (object_at h a))) (string_bytes c.args.text.now) now (string_bytes c.push_object.new.text) c.args.starts.now
     c.loop-start.start-index 0 c.loop-start-test.true c.loop-start.invariant
-    (c.in_ok-push_object.ensures ∙ (λ t. now ++ line_text (object_line (c.words.ensures t) (c.object.ensures.value t))))
+    (c.in_ok-push_object.ensures ∙ (λ t. now ++ line_text (object_line (c.words.ensures.same t) (c.object.ensures.value t))))

@@ -1,4 +1,4 @@
-use Rattle.std.proofs.Common.{◌+◌, get_or, ◌∙◌, ap, rules, tests}
+use Rattle.std.proofs.Common.{◌+◌, get_or, ◌∙◌, ap}
 use Rattle.std.proofs.lemmas.Result.{err_from_is_err_and}
 use Rattle.g1_trace.proofs.Told.{get_range, get_done}
 use Rattle.g1_trace.proofs.answering.answer_get.Goals as goal
@@ -15,16 +15,4 @@ pub returns : goal.returns
 returns c =
     let s = c.in_ok-source in
     c.done.ensures ∙ get_done c.args.heap.now c.args.root c.args.from c.args.slot s.source c.in_ok-root_value.ensures.root s.ensures.root s.ensures.object
-    _ s.ensures.named c.in_ok-check_index.ensures.below (ap (λ ws. get_or ws (s.source.at + 1 + c.args.slot) 0) c.words.ensures)
-
-pub overflow_add-value : goal.overflow_add-value
-overflow_add-value c = search (tests, rules)
-
-pub overflow_add-value-2 : goal.overflow_add-value-2
-overflow_add-value-2 c = search (tests, rules)
-
-pub offset_bounds-words-source : goal.offset_bounds-words-source
-offset_bounds-words-source c = search (tests, rules)
-
-pub bounds-words-source : goal.bounds-words-source
-bounds-words-source c = search (tests, rules)
+    _ s.ensures.named c.in_ok-check_index.ensures.below (c.at-value.ensures ∙ ap (λ ws. get_or ws (s.source.at + 1 + c.args.slot) 0) c.words.ensures.same)

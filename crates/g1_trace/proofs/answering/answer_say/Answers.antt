@@ -15,4 +15,4 @@ pub returns : goal.returns
 returns c =
     let s = c.in_ok-source in
     c.number.ensures ∙ say_done c.args.heap.now c.args.root c.args.word s.source s.ensures.root s.ensures.object s.ensures.named
-    _ c.in_ok-check_index.ensures.below (ap (λ ws. get_or ws (s.source.at + 1 + s.source.refs + c.args.word) 0) c.words.ensures)
+    _ c.in_ok-check_index.ensures.below (c.at-value.ensures ∙ ap (λ ws. get_or ws (s.source.at + 1 + s.source.refs + c.args.word) 0) c.words.ensures.same)
