@@ -1,20 +1,20 @@
 //! What the program does with a request.
+use crate::answering::{answer_file, rewrite_file};
 use crate::explaining::{explain_object, explain_pause};
-use crate::files::{read_bytes, read_image};
+use crate::files::{Found, read_bytes, read_found};
 use crate::line_writer::LineWriter;
-use crate::options::{Part, Request, parse};
-use crate::output::{Output, write_file};
-use crate::refusal::{no_object, no_region};
+use crate::output::write_file;
+use crate::refusal::{no_object, no_region, of_bytes, refuse_lines};
 use crate::sameness::compare_files;
-use crate::sides::refuse_lines;
-use crate::summary::summary;
 use crate::terminals::{Terminals, allow, announce};
 use crate::tracing::answer_trace;
-use crate::usage::NAME;
+use g1_broken_text::broken_lines;
 use g1_command::{Refusal, deliver, deliver_text, refuse};
 use g1_image::Image;
+use g1_tables::summary;
 use g1_text::{image_lines, is_graph, make, make_graph, object_line, region_lines};
 use g1_words::object_at;
+use g1heap_request::{NAME, Output, Part, Request, parse};
 use std::alloc::Global;
 use std::io::{Read, Write};
 use std::rt::Files;
@@ -70,15 +70,15 @@ fn answer<T: Threads + Sync + Files, R: Read, W: Write>(
         Request::Same(same) => {
             let mut answer = LineWriter::new(alloc, writer);
             let status = compare_files(rt, alloc, same, reader, &mut answer)?;
-            Ok(answer.write(status)?)
+            Ok(answer.finish(status)?)
         }
         Request::Print {
             image,
             part,
             output,
         } => {
-            let text = print_part(rt, alloc, image.as_str(), *part, reader)?;
-            hand_over_text(rt, alloc, 0, text.as_bytes(), output, writer)
+            let printed = print_part(rt, alloc, image.as_str(), *part, reader)?;
+            hand_over_print(rt, alloc, printed, output, writer)
         }
         Request::Make { lines, output } => {
             let bytes = make_from(rt, alloc, lines.as_str(), reader)?;
@@ -93,6 +93,73 @@ fn answer<T: Threads + Sync + Files, R: Read, W: Write>(
             Ok(deliver_text(0, text.as_bytes(), writer)?)
         }
         Request::Trace(trace) => answer_trace(rt, alloc, trace, reader, writer),
+        Request::Ask(ask) => {
+            let lines = answer_file(rt, alloc, ask, reader)?;
+            hand_over_text(rt, alloc, 0, lines.as_slice(), &ask.output, writer)
+        }
+        Request::Rewrite(rewrite) => {
+            rewrite_file(rt, alloc, rewrite, reader, writer)?;
+            Ok(0)
+        }
+    }
+}
+
+// The lines of a file, if it has any, and why it is refused behind them, if it is.
+#[derive(Drop)]
+struct Printed {
+    text: Option<String>,
+    refusal: Option<Refusal>,
+}
+
+fn print_part<T: Threads + Sync + Files, R: Read>(
+    rt: &T,
+    alloc: Global,
+    name: &str,
+    part: Part,
+    reader: &mut R,
+) -> Result<Printed, Refusal> {
+    match read_found(rt, alloc, name, reader)? {
+        Found::Image(image) => {
+            Ok(Printed {
+                text: Some(lines(rt, alloc, &image, name, part)?),
+                refusal: None,
+            })
+        }
+        Found::Broken { bytes, fault } => {
+            let text = match part {
+                Part::Whole => broken_lines(alloc, bytes.as_slice(), fault)?,
+                _ => None,
+            };
+            match of_bytes(alloc, name, bytes.as_slice(), fault) {
+                // Memory ran out, so nothing is printed.
+                Refusal::Fault(fault) => Err(Refusal::Fault(fault)),
+                refusal => {
+                    Ok(Printed {
+                        text,
+                        refusal: Some(refusal),
+                    })
+                }
+            }
+        }
+    }
+}
+
+// The status, when what is printed is where it is to go, or the refusal behind it.
+fn hand_over_print<T: Files, W: Write>(
+    rt: &T,
+    alloc: Global,
+    printed: Printed,
+    output: &Output,
+    writer: &mut W,
+) -> Result<u8, Refusal> {
+    let Printed { text, refusal } = printed;
+    let status = match text {
+        Some(text) => hand_over_text(rt, alloc, 0, text.as_bytes(), output, writer)?,
+        None => 0,
+    };
+    match refusal {
+        Some(refusal) => Err(refusal),
+        None => Ok(status),
     }
 }
 
@@ -127,17 +194,6 @@ fn hand_over<T: Files, W: Write>(
         _ => deliver(bytes, writer)?,
     }
     Ok(0)
-}
-
-fn print_part<T: Threads + Sync + Files, R: Read>(
-    rt: &T,
-    alloc: Global,
-    name: &str,
-    part: Part,
-    reader: &mut R,
-) -> Result<String, Refusal> {
-    let image = read_image(rt, alloc, name, reader)?;
-    lines(rt, alloc, &image, name, part)
 }
 
 fn lines<T: Threads + Sync>(

@@ -1,14 +1,14 @@
 //! A pause as lines, and what keeps an object.
 use crate::alone::{CHUNK, WORKERS};
-use crate::files::read_image;
-use crate::location::locate;
-use crate::options::Explain;
+use crate::files::{read_image, refuse_again};
 use crate::refusal::{contradiction, no_object_but, of_file};
 use g1_command::Refusal;
 use g1_explain::{Explanation, Failure, Form, explain, why};
 use g1_image::Image;
 use g1_pause::{Choice, Settings};
+use g1_report::locate;
 use g1_words::{Fault, object_at};
+use g1heap_request::Explain;
 use std::alloc::Global;
 use std::io::Read;
 use std::rt::Files;
@@ -26,7 +26,8 @@ pub fn explain_pause<T: Threads + Sync + Files, R: Read>(
     let image = read_image(rt, alloc, name, reader)?;
     let form = if request.map { Form::Map } else { Form::Steps };
     match explain(rt, alloc, image, &settings, form) {
-        Ok(explanation) => answer(alloc, name, explanation, form),
+        Ok(explanation) => answer(rt, alloc, name, explanation, form),
+        Err(Failure::Fault(fault)) => Err(refuse_again(rt, alloc, name, fault)),
         Err(failure) => Err(of_failure(alloc, name, failure)),
     }
 }
@@ -40,7 +41,8 @@ fn settings_of(alloc: Global, request: &Explain) -> Result<Settings, Fault> {
     Settings::new(WORKERS, CHUNK, request.cost, choice)
 }
 
-fn answer(
+fn answer<T: Files>(
+    rt: &T,
     alloc: Global,
     name: &str,
     explanation: Explanation,
@@ -49,7 +51,7 @@ fn answer(
     let Explanation { text, refused } = explanation;
     match refused {
         None => Ok((0, text)),
-        Some(fault) if form == Form::Map => Err(of_file(alloc, name, fault)),
+        Some(fault) if form == Form::Map => Err(refuse_again(rt, alloc, name, fault)),
         Some(fault) => Ok((fault.status(), text)),
     }
 }
@@ -74,6 +76,7 @@ pub fn explain_object<T: Threads + Sync + Files, R: Read>(
     check_object(alloc, name, &image, address)?;
     match why(rt, alloc, image, address) {
         Ok(text) => Ok(text),
+        Err(Failure::Fault(fault)) => Err(refuse_again(rt, alloc, name, fault)),
         Err(failure) => Err(of_failure(alloc, name, failure)),
     }
 }

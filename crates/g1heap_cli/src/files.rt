@@ -1,16 +1,14 @@
 //! Files on the command line.
-use crate::refusal::{of_file, unopenable};
+use crate::refusal::{of_bytes, of_file, of_heap, unopenable};
 use g1_command::{Refusal, read_all};
 use g1_image::{FromReader, Image, Stale, decode, read, read_stale};
 use g1_text::is_graph;
 use g1_words::Fault;
+use g1heap_request::STANDARD_STREAM;
 use std::alloc::Global;
 use std::fs;
 use std::io::{ErrorKind, Read};
 use std::rt::Files;
-
-/// The name that means standard input, or standard output.
-pub const STANDARD_STREAM: &str = "-";
 
 /// All bytes of a file, or of the reader if the name means standard input.
 pub fn read_bytes<T: Files, R: Read>(
@@ -26,6 +24,41 @@ pub fn read_bytes<T: Files, R: Read>(
     with_name(alloc, name, read_all(alloc, &mut file))
 }
 
+/// What a file has that is read as an image.
+#[derive(Drop)]
+pub enum Found {
+    Image(Image),
+    /// Bytes that are no image's because of this fault.
+    Broken { bytes: Vec<u8>, fault: Fault },
+}
+
+/// What is in a file, or what the reader gives if the name means standard input. A file that has a fault is read once
+/// more, so that all its bytes are there; what is no file is kept while it is read.
+pub fn read_found<T: Files, R: Read>(
+    rt: &T,
+    alloc: Global,
+    name: &str,
+    reader: &mut R,
+) -> Result<Found, Refusal> {
+    if name != STANDARD_STREAM && is_file(rt, name) {
+        let file = open_file(rt, alloc, name)?;
+        match read(alloc, &mut FromReader::new(file)) {
+            Ok(image) => return Ok(Found::Image(image)),
+            Err(Fault::Memory) => return Err(Fault::Memory.into()),
+            Err(Fault::Device(device)) => {
+                return Err(of_file(alloc, name, Fault::Device(device)));
+            }
+            Err(_) => {}
+        }
+    }
+    let bytes = read_bytes(rt, alloc, name, reader)?;
+    match decode(alloc, bytes.as_slice()) {
+        Ok(image) => Ok(Found::Image(image)),
+        Err(Fault::Memory) => Err(Fault::Memory.into()),
+        Err(fault) => Ok(Found::Broken { bytes, fault }),
+    }
+}
+
 /// The image in a file, or that of the reader if the name means standard input.
 pub fn read_image<T: Files, R: Read>(
     rt: &T,
@@ -33,11 +66,26 @@ pub fn read_image<T: Files, R: Read>(
     name: &str,
     reader: &mut R,
 ) -> Result<Image, Refusal> {
-    if name == STANDARD_STREAM {
-        return with_name(alloc, name, read(alloc, &mut FromReader::new(reader)));
+    match read_found(rt, alloc, name, reader)? {
+        Found::Image(image) => Ok(image),
+        Found::Broken { bytes, fault } => Err(of_bytes(alloc, name, bytes.as_slice(), fault)),
     }
-    let file = open_file(rt, alloc, name)?;
-    with_name(alloc, name, read(alloc, &mut FromReader::new(file)))
+}
+
+/// The refusal of an image for a fault that was found after it was read as a stream, or by a pause. What is in a file is
+/// read once more, for the rule that is broken.
+pub fn refuse_again<T: Files>(rt: &T, alloc: Global, name: &str, fault: Fault) -> Refusal {
+    let is_told = matches!(
+        fault,
+        Fault::Memory | Fault::Device(_) | Fault::Room { .. } | Fault::Settings(_)
+    );
+    if is_told || name == STANDARD_STREAM || !is_file(rt, name) {
+        return of_file(alloc, name, fault);
+    }
+    match read_image(rt, alloc, name, &mut [].as_slice()) {
+        Ok(image) => of_heap(alloc, name, image.heap(), fault),
+        Err(refusal) => refusal,
+    }
 }
 
 /// What a file that is compared has.
@@ -74,13 +122,14 @@ pub fn read_side<T: Files, R: Read>(
             let mut file = open_file(rt, alloc, name)?;
             without_stale(alloc, name, &mut file, Fault::Reference(place))
         }
-        // Lines may begin behind the bytes that were looked at.
-        Err(Fault::Magic) => {
+        Err(Fault::Memory) => Err(Fault::Memory.into()),
+        Err(Fault::Device(device)) => Err(of_file(alloc, name, Fault::Device(device))),
+        // Lines may begin behind the bytes that were looked at, and the rule that is broken is found in all bytes.
+        Err(_) => {
             let mut file = open_file(rt, alloc, name)?;
             let bytes = with_name(alloc, name, read_all(alloc, &mut file))?;
             found_in(alloc, name, bytes)
         }
-        Err(fault) => Err(of_file(alloc, name, fault)),
     }
 }
 
@@ -123,7 +172,7 @@ fn found_in(alloc: Global, name: &str, bytes: Vec<u8>) -> Result<SideContent, Re
         Err(Fault::Reference(place)) => {
             without_stale(alloc, name, &mut bytes.as_slice(), Fault::Reference(place))
         }
-        Err(fault) => Err(of_file(alloc, name, fault)),
+        Err(fault) => Err(of_bytes(alloc, name, bytes.as_slice(), fault)),
     }
 }
 
@@ -159,6 +208,6 @@ pub fn open_file<T: Files>(rt: &T, alloc: Global, name: &str) -> Result<T::File,
     match fs::open(rt, name) {
         Ok(file) => Ok(file),
         Err(error) if error.kind() == ErrorKind::OutOfMemory => Err(Fault::Memory.into()),
-        Err(_) => Err(unopenable(alloc, name)),
+        Err(error) => Err(unopenable(alloc, name, &error)),
     }
 }

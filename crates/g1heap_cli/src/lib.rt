@@ -1,37 +1,32 @@
-//! Two heaps compared, heaps printed, made and explained: what the program g1heap does.
+//! Heaps shown, collected, compared, printed, made and explained: what the program g1heap does.
 //!
-//! The words after the program's name are read into a request, then its files, and the
-//! answer is built in memory and written at once. A refusal is reported on standard error, and then
-//! nothing is on standard output, unless the refusal is that writing there failed. Only the lines of
-//! `same --all` are written as they are made, and so may those of `trace --live`: what precedes a
-//! refusal stands. A file that is asked for by `-o` is whole or not there.
+//! 1. `program` has the words after the program's name read into a request (g1heap_request), before any input.
+//!    A person at a terminal hears what is waited for (`terminals`).
+//! 2. The files of the request are read (`files`): an image, lines, or what `same` compares.
+//! 3. The answer is made in memory: of two heaps by g1_report (`sameness`, `young`), of a pause by g1_explain
+//!    (`explaining`), of a trace by g1_trace (`tracing`), of an image or lines by g1_text (`commands`), and what
+//!    g1pause answers, too, by g1_answers (`answering`).
+//! 4. It is written at once, to standard output or to a file, which is whole or not there (`output`). The image
+//!    after a pause goes to standard output in pieces, with all memory taken before the first. Only the lines
+//!    of `same --all` are written as they are made (`line_writer`), and so may those of `trace --live`.
+//! 5. A refusal is reported on standard error (`refusal`). Then nothing is on standard output, unless the
+//!    refusal is that writing there failed, or lines were written as they were made.
+
 #![tactic(auto)]
 
 mod alone;
+mod answering;
 mod commands;
-mod comparing;
 mod explaining;
 mod files;
 mod line_writer;
-mod listing;
-mod location;
-mod names;
-mod naming;
-mod options;
 mod output;
-mod places;
-mod reaching;
 mod refusal;
-mod regions;
 mod sameness;
-mod sides;
-mod summary;
 mod terminals;
-mod tour;
 mod tracing;
-mod usage;
 mod young;
 
 pub use commands::{Call, program};
+pub use g1heap_request::NAME;
 pub use terminals::Terminals;
-pub use usage::NAME;

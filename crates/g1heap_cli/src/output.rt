@@ -1,35 +1,12 @@
-//! Where an answer goes.
-use crate::files::STANDARD_STREAM;
-use crate::refusal::{of_file, unwritable};
+//! An answer that goes into a file.
+use crate::refusal::{no_free_name, of_file, unwritable};
 use g1_command::Refusal;
 use g1_words::{Device, Fault};
-use std::alloc::{AllocError, Global};
+use std::alloc::Global;
 use std::fs::{File, OpenOptions};
 use std::io::{ErrorKind, Write};
 use std::rt::Files;
 use std::{fs, io};
-
-/// Where an answer goes.
-#[derive(Drop)]
-pub enum Output {
-    /// To standard output, since nothing else is said.
-    Default,
-    /// To standard output, which is asked for.
-    Standard,
-    /// To the file of this name.
-    File(String),
-}
-
-impl Output {
-    /// The output of this name, if one is given.
-    pub fn of_name(alloc: Global, name: Option<&str>) -> Result<Output, AllocError> {
-        match name {
-            None => Ok(Output::Default),
-            Some(STANDARD_STREAM) => Ok(Output::Standard),
-            Some(name) => Ok(Output::File(String::from_str(alloc, name)?)),
-        }
-    }
-}
 
 /// Writes an answer to a file. It is written beside the file, and gets the file's name when it is whole, so
 /// that no failure leaves a part of an answer or takes away what the file was before. What is no file, as a
@@ -99,14 +76,14 @@ fn free_name<T: Files>(rt: &T, alloc: Global, name: &str) -> Result<String, Refu
             }
         }
     }
-    Err(unwritable(alloc, name))
+    Err(no_free_name(alloc, name))
 }
 
 fn failure(alloc: Global, name: &str, error: &io::Error) -> Refusal {
     if error.kind() == ErrorKind::OutOfMemory {
         return Fault::Memory.into();
     }
-    unwritable(alloc, name)
+    unwritable(alloc, name, error)
 }
 
 // What was opened or renamed for the file of this name.

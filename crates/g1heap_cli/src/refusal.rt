@@ -1,41 +1,81 @@
 //! The refusals that name a file.
-use crate::location::Location;
+use g1_broken::{Broken, rule_of_bytes, rule_of_cover, rule_of_set, rule_of_stale};
 use g1_command::Refusal;
-use g1_image::MAGIC;
-use g1_words::Fault;
+use g1_image::{MAGIC, Stale};
+use g1_report::{Location, WrongNames};
+use g1_text::Wrong;
+use g1_words::{Fault, Heap};
 use std::alloc::{AllocError, Global};
 use std::fmt::Display;
+use std::io::Error;
 
 /// A fault of the file of this name. Running out of memory is of no file.
 pub fn of_file(alloc: Global, name: &str, fault: Fault) -> Refusal {
+    of_rule(alloc, name, fault, None)
+}
+
+/// The fault of bytes that are no image's, and the rule that they break.
+pub fn of_bytes(alloc: Global, name: &str, bytes: &[u8], fault: Fault) -> Refusal {
+    match rule_of_bytes(alloc, bytes, fault) {
+        Ok(rule) => of_rule(alloc, name, fault, rule),
+        Err(error) => error.into(),
+    }
+}
+
+/// The fault that a pause finds in the heap of an image, and the rule that is broken.
+pub fn of_heap(alloc: Global, name: &str, heap: &Heap, fault: Fault) -> Refusal {
+    let rule = rule_of_cover(heap, fault).or(rule_of_set(heap, fault));
+    of_rule(alloc, name, fault, rule)
+}
+
+/// The fault of an image whose words reference no object, if these words are null in its heap.
+pub fn of_stale(alloc: Global, name: &str, heap: &Heap, stale: &Stale, fault: Fault) -> Refusal {
+    of_rule(alloc, name, fault, rule_of_stale(heap, stale, fault))
+}
+
+fn of_rule(alloc: Global, name: &str, fault: Fault, rule: Option<Broken>) -> Refusal {
     if fault == Fault::Memory {
         return Refusal::Fault(fault);
     }
     let number = fault.number();
-    let hint = if fault == Fault::Magic { NO_IMAGE } else { "" };
+    let text = match rule {
+        Some(rule) => {
+            format!(in alloc; "g1heap: {name}: fault {number}: {fault}\ng1heap: {rule}\n")
+        }
+        None => format!(in alloc; "g1heap: {name}: fault {number}: {fault}\n"),
+    };
+    refusal(fault.status(), text)
+}
+
+/// A file that can't be opened, and the system's reason.
+pub fn unopenable(alloc: Global, name: &str, reason: &Error) -> Refusal {
     refusal(
-        fault.status(),
-        format!(in alloc; "g1heap: {name}: fault {number}: {fault}\n{hint}"),
+        7,
+        format!(in alloc; "g1heap: {name}: can't be opened: {reason}\n"),
     )
 }
 
-// What to do about a file that is no image at all.
-const NO_IMAGE: &str =
-    "g1heap: it is no image; 'g1heap make' makes an image of lines, and 'g1heap trace' replies to a trace\n";
-
-/// A file that can't be opened.
-pub fn unopenable(alloc: Global, name: &str) -> Refusal {
-    told(alloc, 7, name, "can't be opened")
+/// A file that can't be made, or can't get its name, and the system's reason.
+pub fn unwritable(alloc: Global, name: &str, reason: &Error) -> Refusal {
+    refusal(
+        7,
+        format!(in alloc; "g1heap: {name}: can't be written: {reason}\n"),
+    )
 }
 
-/// A file that can't be made, or can't get its name.
-pub fn unwritable(alloc: Global, name: &str) -> Refusal {
-    told(alloc, 7, name, "can't be written")
+/// A name for which no name beside it is free.
+pub fn no_free_name(alloc: Global, name: &str) -> Refusal {
+    told(
+        alloc,
+        7,
+        name,
+        "can't be written: all names beside it are taken",
+    )
 }
 
-/// An explanation that contradicts the pause.
+/// An explanation that contradicts the steps of the pause, or a path that contradicts the search.
 pub fn contradiction(alloc: Global, name: &str) -> Refusal {
-    let what = "internal contradiction: the pause answers another thing than its steps";
+    let what = "internal contradiction: the references do not lead to what was found";
     told(alloc, 8, name, what)
 }
 
@@ -54,6 +94,35 @@ pub fn wrong_line<E: Display>(
     refusal(
         3,
         format!(in alloc; "g1heap: {name}: line {number}: expected {expected}\n{hint}"),
+    )
+}
+
+/// The refusal of a file for its lines, which are in these bytes, or for its words that reference no object.
+pub fn refuse_lines(alloc: Global, name: &str, bytes: &[u8], wrong: Wrong) -> Refusal {
+    match wrong {
+        Wrong::Line { number, expected } => {
+            let hint = if is_image(bytes) { IMAGE_HINT } else { "" };
+            wrong_line(alloc, name, number, &expected, hint)
+        }
+        Wrong::Fault(fault) => of_file(alloc, name, fault),
+    }
+}
+
+/// The refusal of a file of names.
+pub fn refuse_names(alloc: Global, name: &str, wrong: WrongNames) -> Refusal {
+    match wrong {
+        WrongNames::Line { number, expected } => wrong_line(alloc, name, number, &expected, ""),
+        WrongNames::Memory => Refusal::Fault(Fault::Memory),
+    }
+}
+
+/// A line of a file with the line ends of DOS, where only a line feed may end it.
+pub fn wrong_dos_line<E: Display>(alloc: Global, name: &str, number: u64, expected: &E) -> Refusal {
+    refusal(
+        3,
+        format!(in alloc;
+            "g1heap: {name}: line {number}: expected {expected}\ng1heap: line {number} ends with a carriage return: the file has DOS line ends\n"
+        ),
     )
 }
 

@@ -1,8 +1,6 @@
 //! What is said to a person at a terminal.
-use crate::files::STANDARD_STREAM;
-use crate::options::Request;
-use crate::output::Output;
 use g1_command::Refusal;
+use g1heap_request::{Output, Request, STANDARD_STREAM};
 use std::alloc::{AllocError, Global};
 use std::io::Write;
 
@@ -45,6 +43,8 @@ fn waiting_text(request: &Request) -> Option<&'static str> {
         Request::Explain(explain) => (&explain.image, IMAGE),
         Request::Why { image, .. } => (image, IMAGE),
         Request::Trace(trace) => (&trace.name, TRACE),
+        Request::Ask(ask) => (&ask.image, IMAGE),
+        Request::Rewrite(rewrite) => (&rewrite.image, IMAGE),
     };
     is_standard(name).then_some(text)
 }
@@ -55,13 +55,20 @@ fn is_standard(name: &String) -> bool {
 
 /// The request, unless an image is to be written to a terminal: that is refused if standard output is not asked for.
 pub fn allow(alloc: Global, terminals: Terminals, request: Request) -> Result<Request, Refusal> {
-    match request {
-        Request::Make {
-            output: Output::Default,
-            ..
-        } if terminals.output => Err(Refusal::usage(String::from_str(alloc, BYTES)?)),
-        allowed => Ok(allowed),
+    if terminals.output && is_image_by_default(&request) {
+        return Err(Refusal::usage(String::from_str(alloc, BYTES)?));
     }
+    Ok(request)
+}
+
+// Whether an image goes to standard output only since nothing else is said.
+fn is_image_by_default(request: &Request) -> bool {
+    let output = match request {
+        Request::Make { output, .. } => output,
+        Request::Rewrite(rewrite) => &rewrite.output,
+        _ => return false,
+    };
+    matches!(output, Output::Default)
 }
 
 const BYTES: &str =

@@ -1,16 +1,21 @@
 //! A trace that is answered line by line.
+ghost use Rattle.std.specs.Prelude.{IfOk};
+ghost use Rattle.g1_pause.specs.Steps.{AreStepsOf};
+
 use crate::alone::{CHUNK, WORKERS};
 use crate::explaining::of_failure;
-use crate::files::{STANDARD_STREAM, open_file};
-use crate::options::Trace;
-use crate::output::{Output, write_file};
-use crate::refusal::{IMAGE_HINT, is_image, no_command, of_file, wrong_line};
+use crate::files::open_file;
+use crate::output::write_file;
+use crate::refusal::{IMAGE_HINT, is_image, no_command, of_file, wrong_dos_line, wrong_line};
 use g1_command::{LineReader, Refusal, deliver, deliver_text};
-use g1_explain::{Explanation, Form, explain};
-use g1_image::{Image, copy, encode};
-use g1_pause::{Choice, Settings};
+use g1_explain::explain_steps;
+use g1_image::encode;
+use g1_pause::{Before, Choice, Settings, Steps, take_steps};
+use g1_rem::Tracked;
 use g1_trace::{Expected, Reply, Session, Taken, Wrong, push_reply};
 use g1_words::Fault;
+use g1_work::Open;
+use g1heap_request::{Output, STANDARD_STREAM, Trace};
 use std::alloc::Global;
 use std::io::{Read, Write};
 use std::mem;
@@ -154,12 +159,18 @@ fn take_line<T: Threads + Sync + Files>(
     state: &mut State,
 ) -> Result<(), Refusal> {
     let content = content_of(job.alloc, job.trace, line, number)?;
-    if job.trace.explain {
-        push_explanation(job, &state.session, content, &mut state.replies)?;
-    }
-    match take(job, content, &mut state.session) {
+    let outcome = if job.trace.explain {
+        take_explained(job, content, state)?
+    } else {
+        take(job, content, &mut state.session)
+    };
+    match outcome {
         Ok(Taken::Nothing) => Ok(()),
         Ok(Taken::Reply(reply)) => add_reply(job.alloc, job.trace, reply, state),
+        Err(Wrong::Line(expected)) if content.ends_with(b"\r") => {
+            let name = job.trace.name.as_str();
+            Err(wrong_dos_line(job.alloc, name, number, &expected))
+        }
         Err(Wrong::Line(expected)) => Err(wrong(job.alloc, job.trace, number, expected)),
         Err(Wrong::Fault(fault)) => Err(of_file(job.alloc, job.trace.name.as_str(), fault)),
     }
@@ -218,29 +229,60 @@ fn push_numbered(
     Ok(())
 }
 
-// The lines of the pause that a line asks for, on a copy of the heap.
-fn push_explanation<T: Threads + Sync>(
+// Does a line. The lines of the pause that it asks for come before the reply: the pause that is explained is the
+// one that is carried out.
+fn take_explained<T: Threads + Sync + Files>(
     job: &Job<'_, T>,
-    session: &Session,
     line: &[u8],
-    replies: &mut Vec<u8>,
-) -> Result<(), Refusal> {
-    let (Some(budget), Some(image)) = (session.budget(line), session.image()) else {
-        return Ok(());
+    state: &mut State,
+) -> Result<Result<Taken, Wrong>, Refusal> {
+    let session = mem::replace(&mut state.session, Session::new());
+    let Some((budget, tracked)) = session.asked_pause(line) else {
+        state.session = session;
+        return Ok(take(job, line, &mut state.session));
     };
-    let text = explained(job, copy(job.alloc, image)?, budget)?;
-    replies.extend_from_slice(text.as_bytes())?;
-    Ok(())
+    let settings = settings_with(job.trace, budget)?;
+    let steps = explained_steps(job, tracked, &settings, &mut state.replies)?;
+    let (session, reply) = session.carry_out_pause(job.rt, &settings, steps);
+    state.session = session;
+    Ok(Ok(Taken::Reply(reply)))
 }
 
-fn explained<T: Threads + Sync>(
+// The steps of the pause of an image, whose lines are added to the replies.
+fn explained_steps<T: Threads + Sync + Files>(
     job: &Job<'_, T>,
-    image: Image,
-    budget: u64,
-) -> Result<String, Refusal> {
-    let settings = settings_with(job.trace, budget)?;
-    match explain(job.rt, job.alloc, image, &settings, Form::Steps) {
-        Ok(Explanation { text, refused: _ }) => Ok(text),
+    tracked: &Tracked,
+    settings: &Settings,
+    replies: &mut Vec<u8>,
+) -> Result<Steps, Refusal>
+    ensures { IfOk result (λ s. AreStepsOf settings.now.cost settings.now.choice tracked.now s) }
+{
+    let name = job.trace.name.as_str();
+    let before = match Before::new(job.rt, job.alloc, tracked, settings.workers()) {
+        Ok(before) => before,
+        Err(fault) => return Err(of_file(job.alloc, name, fault)),
+    };
+    match take_steps(job.rt, job.alloc, &before, settings, &Open) {
+        Ok(steps) => {
+            push_explanation(job, &before, settings, &steps, replies)?;
+            Ok(steps)
+        }
+        Err(fault) => Err(of_file(job.alloc, name, fault)),
+    }
+}
+
+fn push_explanation<T>(
+    job: &Job<'_, T>,
+    before: &Before<'_>,
+    settings: &Settings,
+    steps: &Steps,
+    replies: &mut Vec<u8>,
+) -> Result<(), Refusal> {
+    match explain_steps(job.alloc, before, settings, steps) {
+        Ok(explanation) => {
+            replies.extend_from_slice(explanation.text.as_bytes())?;
+            Ok(())
+        }
         Err(failure) => Err(of_failure(job.alloc, job.trace.name.as_str(), failure)),
     }
 }

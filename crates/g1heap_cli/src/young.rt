@@ -1,4 +1,6 @@
 //! Regions whose slots need no card, since a collector looks at all of them.
+ghost use Rattle.std.specs.Prelude.{◌<◌};
+
 use crate::refusal::{no_region, of_file};
 use g1_command::Refusal;
 use g1_image::{Image, with_dirty};
@@ -36,12 +38,13 @@ fn cards_of(alloc: Global, name: &str, heap: &Heap, young: &[u32]) -> Result<Vec
 }
 
 // Adds the cards of a region.
-fn push_cards(geometry: &Geometry, region: u32, cards: &mut Vec<u32>) -> Result<(), AllocError> {
+fn push_cards(geometry: &Geometry, region: u32, cards: &mut Vec<u32>) -> Result<(), AllocError>
+    requires { region < geometry.now.n }
+{
     let first = card_of(geometry, geometry.start(region));
-    for place in 0..card_of(geometry, geometry.region_words()) {
-        if let Ok(card) = u32::try_from(first.saturating_add(place)) {
-            cards.push(card)?;
-        }
+    let end = card_of(geometry, geometry.start(region + 1));
+    for card in first..end {
+        cards.push(card as u32)?;
     }
     Ok(())
 }

@@ -3,10 +3,10 @@ use crate::usage as table;
 use crate::usage::{commands, program};
 use clap::error::ErrorKind;
 use clap::{ArgMatches, Error};
+use g1_answers::{NewImage, Question, Sharing, pause_of, question_of, sharing_of};
 use g1_choose::Cost;
 use g1_command::{
-    Argument, Misuse, Refusal, cost_of, help_or_refusal, match_words, number, read_request,
-    regions, required_number,
+    Argument, Misuse, Refusal, cost_of, help_or_refusal, match_words, read_request, regions,
 };
 use std::alloc::{AllocError, Global};
 
@@ -15,124 +15,43 @@ use std::alloc::{AllocError, Global};
 pub enum Request {
     /// This text, which says how the program is used.
     Help(String),
-    /// Whether every reference of an image into another region is covered.
-    Check,
     /// The lines that answer this.
     Answer(Question),
-    /// The image, packed again.
-    Repack(Sharing),
-    /// The image after a pause.
-    Pause(Pause),
-}
-
-/// What is asked of an image or of a trace.
-#[derive(Clone, Copy)]
-pub enum Question {
-    /// What an image has in its regions.
-    Image {
-        view: View,
-        sharing: Sharing,
-    },
-    /// The candidates, and which of them the budget buys.
-    Choose {
-        sharing: Sharing,
-        cost: Cost,
-        budget: u64,
-    },
+    /// The bytes of this image.
+    Write(NewImage),
     /// The replies to a trace.
-    Run {
-        sharing: Sharing,
-        cost: Cost,
-    },
+    Run(Replay),
 }
 
-/// What is told about the regions of an image.
+/// How a trace is replied to.
 #[derive(Clone, Copy)]
-pub enum View {
-    /// Their table.
-    Regions,
-    /// The live bytes of each.
-    Live,
-}
-
-/// A pause that collects what a budget buys, or the regions that are given. Both may be here.
-#[derive(Drop)]
-pub struct Pause {
+pub struct Replay {
     pub sharing: Sharing,
     pub cost: Cost,
-    pub budget: Option<u64>,
-    pub regions: Vec<u32>,
-}
-
-/// How workers share the work.
-#[derive(Clone, Copy)]
-pub struct Sharing {
-    pub workers: u64,
-    /// How many items a worker draws at once.
-    pub chunk: u64,
 }
 
 // The arguments that are read here, as statics: a constant is checked again in each function that uses it.
-static BUDGET: Argument = g1_command::BUDGET;
-
-static CHUNK: Argument = table::CHUNK;
-
 static REGIONS: Argument = table::REGIONS;
 
-static REPACK: Argument = table::REPACK;
-
-static WORKERS: Argument = table::WORKERS;
-
-fn sharing_of(alloc: Global, values: &ArgMatches<'_>) -> Result<Sharing, Misuse> {
-    Ok(Sharing {
-        workers: required_number(alloc, values, &WORKERS)?,
-        chunk: required_number(alloc, values, &CHUNK)?,
-    })
-}
-
-fn pause_of(alloc: Global, values: &ArgMatches<'_>) -> Result<Pause, Misuse> {
-    Ok(Pause {
-        sharing: sharing_of(alloc, values)?,
-        cost: cost_of(alloc, values)?,
-        budget: number(alloc, values, &BUDGET)?,
-        regions: regions(alloc, values, &REGIONS)?,
-    })
-}
+static REPACK: Argument = g1_answers::REPACK;
 
 // What the values of a command ask for.
 fn request_of(alloc: Global, name: &str, values: &ArgMatches<'_>) -> Result<Request, Misuse> {
-    if name == "check" {
-        return Ok(Request::Check);
-    }
     if name == "pause" {
-        return Ok(Request::Pause(pause_of(alloc, values)?));
+        let mut pause = pause_of(alloc, values)?;
+        pause.regions = regions(alloc, values, &REGIONS)?;
+        return Ok(Request::Write(NewImage::Paused(pause)));
     }
     if values.get_flag(REPACK.id) {
-        return Ok(Request::Repack(sharing_of(alloc, values)?));
+        let sharing = sharing_of(alloc, values)?;
+        return Ok(Request::Write(NewImage::Repacked(sharing)));
     }
-    Ok(Request::Answer(question_of(alloc, name, values)?))
-}
-
-fn question_of(alloc: Global, name: &str, values: &ArgMatches<'_>) -> Result<Question, Misuse> {
-    let sharing = sharing_of(alloc, values)?;
-    match name {
-        "show" => Ok(Question::Image {
-            view: View::Regions,
-            sharing,
-        }),
-        "live" => Ok(Question::Image {
-            view: View::Live,
-            sharing,
-        }),
-        "choose" => Ok(Question::Choose {
-            sharing,
+    match question_of(alloc, name, values)? {
+        Some(question) => Ok(Request::Answer(question)),
+        None => Ok(Request::Run(Replay {
+            sharing: sharing_of(alloc, values)?,
             cost: cost_of(alloc, values)?,
-            budget: required_number(alloc, values, &BUDGET)?,
-        }),
-        _ => Ok(Question::Run {
-            sharing,
-            cost: cost_of(alloc, values)?,
-        }),
+        })),
     }
 }
 

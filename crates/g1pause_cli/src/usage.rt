@@ -1,5 +1,6 @@
 //! The commands and their arguments, and what help says of them.
-use g1_command::{Argument, BUDGET, BYTE, CARD, DIRTY, FIXED, FLAG, Form, Program, Usage, VALUE};
+use g1_answers::{CHUNK, CHUNK_OF_OBJECTS, CHUNK_OF_REGIONS, NEEDED_BUDGET, REPACK, WORKERS};
+use g1_command::{Argument, BUDGET, BYTE, CARD, DIRTY, FIXED, Form, Program, Usage, VALUE};
 
 /// The program's name.
 pub const NAME: &str = "g1pause";
@@ -125,44 +126,6 @@ Statuses:
 
 Example: g1pause run < TRACE",
     arguments: &[WORKERS, CHUNK, FIXED, DIRTY, CARD, BYTE],
-};
-
-pub const WORKERS: Argument = Argument {
-    id: "workers",
-    default: &["1"],
-    help: "How many workers share the work, 1 to 64",
-    range: "1 to 64",
-    ..VALUE
-};
-
-/// How many items a worker draws at once. What an item is depends on the command.
-pub const CHUNK: Argument = Argument {
-    id: "chunk",
-    default: &["64"],
-    help: "How many roots, cards or objects a worker draws at once, 1 to 65536",
-    range: "1 to 65536",
-    ..VALUE
-};
-
-const CHUNK_OF_OBJECTS: Argument = Argument {
-    help: "How many roots or objects a worker draws at once, 1 to 65536",
-    ..CHUNK
-};
-
-const CHUNK_OF_REGIONS: Argument = Argument {
-    help: "How many regions a worker draws at once, 1 to 65536",
-    ..CHUNK
-};
-
-pub const REPACK: Argument = Argument {
-    id: "repack",
-    help: "Writes the image's bytes, in version 2, instead of the table",
-    ..FLAG
-};
-
-const NEEDED_BUDGET: Argument = Argument {
-    form: Form::NeededValue,
-    ..BUDGET
 };
 
 pub const REGIONS: Argument = Argument {

@@ -57,15 +57,14 @@ pub fn locate(alloc: Global, heap: &Heap, address: u64) -> Result<Location, Faul
 }
 
 // The start of the humongous object that continues in a region.
-fn first_of_run(heap: &Heap, region: u32) -> u64 {
-    let geometry = heap.geometry();
-    for number in (0..region).rev() {
-        let found = heap.regions().get(number as usize);
-        if matches!(found, Some(region) if region.kind.is_humongous_first()) {
-            return geometry.start(number);
-        }
+fn first_of_run(heap: &Heap, region: u32) -> u64
+    requires { region < heap.now.geometry.n }
+{
+    let mut first = region;
+    while first > 0 && heap.region(first).kind.is_continuation() {
+        first -= 1;
     }
-    0
+    heap.geometry().start(first)
 }
 
 // The last object of an ordinary region that starts at an address or before it.
@@ -73,7 +72,7 @@ fn holder(alloc: Global, heap: &Heap, region: u32, address: u64) -> Result<u64, 
     requires { region < heap.now.geometry.n }
 {
     let starts = objects_in(alloc, heap, region)?;
-    let mut last = 0;
+    let mut last = heap.geometry().start(region);
     for start in starts.as_slice() {
         if *start <= address {
             last = *start;

@@ -1,10 +1,14 @@
 //! What two heaps show, in one line.
+ghost use Rattle.std.specs.Prelude.{◌∷◌};
+ghost use Rattle.g1_same.specs.Same.{IsDifference};
+ghost use Rattle.g1_same.specs.Behind.{ShowsAt};
+
 use crate::names::Names;
 use crate::naming::{push_named_data, push_named_object, push_named_path};
+use crate::objects::object_of;
 use crate::places::value_at;
-use crate::reaching::Path;
-use g1_same::{Difference, How, Renaming};
-use g1_words::{Heap, Object, header, object_at, region_of};
+use g1_same::{Difference, Ends, Found, How, Path, Renaming, What, ends_at, ends_of};
+use g1_words::{Heap, Region, object_at, region_of};
 use std::alloc::{AllocError, Global};
 
 /// Two heaps that are compared, and what is known of them.
@@ -15,10 +19,13 @@ pub struct Sides<'a> {
     /// What the program calls the words of the first one.
     pub names: Option<&'a Names<'a>>,
     /// The names of the objects of each, if they have names in place of addresses.
-    pub labels: [Option<&'a [(u64, &'a str)]>; 2],
-    /// The names that stale words of the second stand for, then.
-    pub stale_names: Option<&'a [&'a str]>,
+    pub labels: [Labels<'a>; 2],
+    /// The stale words of the second that stand for names, rising, and these names.
+    pub stale_names: Labels<'a>,
 }
+
+/// Addresses of objects or stale words, rising, and their names, if they have names.
+pub type Labels<'a> = Option<&'a [(u64, &'a str)]>;
 
 /// The line that says how much is reached if two heaps show the same graph.
 pub fn push_same_line(
@@ -29,9 +36,7 @@ pub fn push_same_line(
     let objects = renaming.before.len();
     let mut words = 0u64;
     for address in renaming.before.iter() {
-        if let Some(object) = object_in(before, *address) {
-            words = words.saturating_add(object.size);
-        }
+        words = words.saturating_add(before.words().header(*address).size);
     }
     write!(text, "same objects {objects} words {words}\n")
 }
@@ -43,75 +48,84 @@ pub fn push_difference_line(
     text: &mut String,
     sides: Sides<'_>,
     difference: &Difference,
-) -> Result<(), AllocError> {
+) -> Result<(), AllocError>
+    requires { IsDifference sides.before.now sides.after.now difference.now }
+{
     match difference {
         Difference::Roots { before, after } => {
             write!(text, "differ roots: {before} before, {after} after\n")
         }
         Difference::At { root, slots, how } => {
-            push_how_line(alloc, text, sides, *root, slots.as_slice(), how)
+            let ends = ends_of(sides.before, sides.after, difference);
+            push_how_line(alloc, text, sides, (*root, slots.as_slice()), how, &ends)
         }
     }
 }
 
-/// The line of a path that leads to words which disagree like this.
-pub fn push_how_line(
-    alloc: Global,
-    text: &mut String,
-    sides: Sides<'_>,
-    root: u64,
-    slots: &[u64],
-    how: &How,
-) -> Result<(), AllocError> {
-    let kind = kind_word(how);
-    write!(text, "differ {kind} at ")?;
-    push_path(alloc, text, sides, root, slots)?;
-    let old = word_at_path(sides.before, root, slots);
-    let new = word_at_path(sides.after, root, slots);
-    push_before(text, sides, old)?;
-    push_after(text, sides, new)?;
-    push_detail(text, sides, how, old, new)?;
-    text.push('\n')
-}
-
-/// The line of a path that leads to a stale word, which is null in the heap after.
-pub fn push_stale_line(
+/// The line of a difference that a walk found, and of the path to it.
+pub fn push_found_line(
     alloc: Global,
     text: &mut String,
     sides: Sides<'_>,
     path: &Path,
+    found: &Found,
+) -> Result<(), AllocError>
+    requires { ShowsAt sides.before.now sides.after.now (path.now.root ∷ path.now.slots.items) found.now }
+{
+    let ends = ends_at(sides.before, sides.after, found);
+    let path = (path.root, path.slots.as_slice());
+    match &found.what {
+        What::Stale(word) => push_stale_line(alloc, text, sides, path, ends.before, *word),
+        What::How(how) => push_how_line(alloc, text, sides, path, how, &ends),
+    }
+}
+
+// The number of a root, and those of slots behind it.
+type Steps<'a> = (u64, &'a [u64]);
+
+// The line of a path that leads to words which disagree like this.
+fn push_how_line(
+    alloc: Global,
+    text: &mut String,
+    sides: Sides<'_>,
+    path: Steps<'_>,
+    how: &How,
+    ends: &Ends,
+) -> Result<(), AllocError> {
+    let kind = kind_word(how);
+    write!(text, "differ {kind} at ")?;
+    push_path(alloc, text, sides, path)?;
+    push_before(text, sides, ends.before)?;
+    push_after(text, sides, ends.after)?;
+    push_detail(text, sides, how, ends)?;
+    text.push('\n')
+}
+
+// The line of a path that leads to a stale word, where the heap before has this other word.
+fn push_stale_line(
+    alloc: Global,
+    text: &mut String,
+    sides: Sides<'_>,
+    path: Steps<'_>,
+    old: u64,
     word: u64,
 ) -> Result<(), AllocError> {
-    let (root, slots) = (path.root, path.slots.as_slice());
     text.push_str("differ stale at ")?;
-    push_path(alloc, text, sides, root, slots)?;
-    let old = word_at_path(sides.before, root, slots);
+    push_path(alloc, text, sides, path)?;
     push_before(text, sides, old)?;
-    push_stale(text, sides, old, word)
-}
-
-// A stale word, by name if the file after has names.
-fn push_stale(text: &mut String, sides: Sides<'_>, old: u64, word: u64) -> Result<(), AllocError> {
-    let [before, after] = sides.labels;
-    if after.is_some() {
-        return push_stale_name(text, sides, old, word);
+    match label(sides.stale_names, word) {
+        Some(name) => push_stale_name(text, sides, old, name),
+        None => push_stale_word(text, sides, old, word),
     }
-    // The places of objects that have names are not the program's own: no word after is compared with them.
-    let old = if before.is_some() { None } else { Some(old) };
-    push_stale_word(text, sides, old, word)
 }
 
+// The name that a stale word stands for.
 fn push_stale_name(
     text: &mut String,
     sides: Sides<'_>,
     old: u64,
-    word: u64,
+    name: &str,
 ) -> Result<(), AllocError> {
-    let place = word.saturating_sub(1) as usize;
-    let name = match sides.stale_names {
-        Some(names) => names.get(place).copied().unwrap_or("-"),
-        None => "-",
-    };
     let still = match old.checked_sub(1) {
         Some(address) if label(sides.labels[0], address) == Some(name) => "still is",
         _ => "is",
@@ -122,25 +136,30 @@ fn push_stale_name(
     )
 }
 
-// A stale word, the region that it leads to, and what was there before, if the word before is known.
+// A stale word, the region that it leads to, and what was there before. The places of objects that have names are not
+// the program's own: no word after is compared with them.
 fn push_stale_word(
     text: &mut String,
     sides: Sides<'_>,
-    old: Option<u64>,
+    old: u64,
     word: u64,
 ) -> Result<(), AllocError> {
-    let still = if old == Some(word) { "still is" } else { "is" };
+    let [before, _] = sides.labels;
+    let named = before.is_some();
+    let still = if word == old && !named {
+        "still is"
+    } else {
+        "is"
+    };
     write!(text, "; the word {still} {word}, ")?;
-    let address = word.saturating_sub(1);
-    let region = region_of(&sides.after.geometry(), address);
-    let Some(found) = sides.after.regions().get(region as usize) else {
+    let Some((address, number, region)) = behind(sides.after, word) else {
         return text.push_str("outside the heap\n");
     };
-    let kind = found.kind;
-    write!(text, "in region {region}, {kind} after")?;
-    let Some(old) = old else {
+    let kind = region.kind;
+    write!(text, "in region {number}, {kind} after")?;
+    if named {
         return text.push('\n');
-    };
+    }
     let what = match object_at(sides.before, address) {
         Some(_) if word == old => "the object was before",
         Some(_) => "another object was before",
@@ -149,8 +168,19 @@ fn push_stale_word(
     write!(text, ", where {what}\n")
 }
 
-/// What `differ` says of a kind of difference.
-pub fn kind_word(how: &How) -> &'static str {
+// The address that a word leads to, with its region, if the heap has that.
+fn behind(heap: &Heap, word: u64) -> Option<(u64, u32, Region)> {
+    let address = word.checked_sub(1)?;
+    let number = region_of(&heap.geometry(), address);
+    if number >= heap.geometry().regions() {
+        return None;
+    }
+    let number = number as u32;
+    Some((address, number, heap.region(number)))
+}
+
+// What `differ` says of a kind of difference.
+fn kind_word(how: &How) -> &'static str {
     match how {
         How::NullBefore => "null",
         How::NullAfter => "null",
@@ -166,9 +196,9 @@ fn push_path(
     alloc: Global,
     text: &mut String,
     sides: Sides<'_>,
-    root: u64,
-    slots: &[u64],
+    path: Steps<'_>,
 ) -> Result<(), AllocError> {
+    let (root, slots) = path;
     if let Some(names) = sides.names {
         return push_named_path(alloc, text, sides.before, names, root, slots);
     }
@@ -181,8 +211,8 @@ fn push_path(
 
 fn push_before(text: &mut String, sides: Sides<'_>, word: u64) -> Result<(), AllocError> {
     push_word(text, ": ", sides.labels[0], word)?;
-    if let (Some(names), Some(address)) = (sides.names, word.checked_sub(1)) {
-        push_named_object(text, sides.before, names, address)?;
+    if let (Some(names), Some(object)) = (sides.names, object_of(sides.before, word)) {
+        push_named_object(text, names, &object)?;
     }
     text.push_str(" before")
 }
@@ -197,10 +227,9 @@ fn push_after(text: &mut String, sides: Sides<'_>, word: u64) -> Result<(), Allo
 
 // The type of the object after that a word references, by its first data word.
 fn type_after<'a>(sides: Sides<'a>, word: u64) -> Option<&'a str> {
-    sides.names?.label(first_data(sides.after, word)?)
+    let names = sides.names?;
+    names.label(*object_of(sides.after, word)?.data.first()?)
 }
-
-type Labels<'a> = Option<&'a [(u64, &'a str)]>;
 
 fn push_word(
     text: &mut String,
@@ -235,8 +264,7 @@ fn push_detail(
     text: &mut String,
     sides: Sides<'_>,
     how: &How,
-    old: u64,
-    new: u64,
+    ends: &Ends,
 ) -> Result<(), AllocError> {
     let [old_names, new_names] = sides.labels;
     match how {
@@ -258,7 +286,7 @@ fn push_detail(
         }
         How::Size { before, after } => push_numbers(text, "size", *before, *after),
         How::Slots { before, after } => push_numbers(text, "slots", *before, *after),
-        How::Data { word } => push_data(text, sides, *word, old, new),
+        How::Data { word } => push_data(text, sides, *word, ends),
     }
 }
 
@@ -288,71 +316,15 @@ fn push_data(
     text: &mut String,
     sides: Sides<'_>,
     word: u64,
-    old: u64,
-    new: u64,
+    ends: &Ends,
 ) -> Result<(), AllocError> {
-    let was = data_word(sides.before, old, word);
-    let is = data_word(sides.after, new, word);
+    let (was, is) = (ends.word_before, ends.word_after);
     write!(text, "; data word {word}")?;
-    match sides.names {
-        None => write!(text, " is {was} before, {is} after"),
-        Some(names) => {
-            push_named_data(text, sides.before, names, old.saturating_sub(1), word)?;
-            write!(text, " is {was} ({was:#x}) before, {is} ({is:#x}) after")
-        }
+    let Some(names) = sides.names else {
+        return write!(text, " is {was} before, {is} after");
+    };
+    if let Some(object) = object_of(sides.before, ends.before) {
+        push_named_data(text, names, &object, word)?;
     }
-}
-
-// The word that a path leads to. Slot n of an object is n words behind the address that is 1 more than
-// the object's, and that address is the reference word itself.
-fn word_at_path(heap: &Heap, root: u64, slots: &[u64]) -> u64 {
-    let mut word = word_at(heap.roots(), root);
-    for slot in slots {
-        word = word_at(heap.words(), word.saturating_add(*slot));
-    }
-    word
-}
-
-/// The first data word of the object that a reference word references, if it has one.
-pub fn first_data(heap: &Heap, reference: u64) -> Option<u64> {
-    let object = object_in(heap, reference.checked_sub(1)?)?;
-    if object.size > object.refs.saturating_add(1) {
-        Some(data_word(heap, reference, 0))
-    } else {
-        None
-    }
-}
-
-// The data word of this number of the object that a reference word references.
-fn data_word(heap: &Heap, reference: u64, number: u64) -> u64 {
-    match object_in(heap, reference.saturating_sub(1)) {
-        Some(object) => {
-            let first = reference.saturating_add(object.refs);
-            word_at(heap.words(), first.saturating_add(number))
-        }
-        None => 0,
-    }
-}
-
-/// The word at an address, read as the header of the object that starts there.
-pub fn object_in(heap: &Heap, address: u64) -> Option<Object> {
-    let words = heap.words();
-    if address < words.len() as u64 {
-        Some(header(words, address))
-    } else {
-        None
-    }
-}
-
-/// How many slots the object at an address has, if there is one.
-pub fn slots_of(heap: &Heap, address: u64) -> u64 {
-    match object_in(heap, address) {
-        Some(object) => object.refs,
-        None => 0,
-    }
-}
-
-/// The word at a place, or 0 if there is none.
-pub fn word_at(words: &[u64], place: u64) -> u64 {
-    words.get(place as usize).copied().unwrap_or(0)
+    write!(text, " is {was} ({was:#x}) before, {is} ({is:#x}) after")
 }

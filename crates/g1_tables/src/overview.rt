@@ -1,10 +1,9 @@
 //! A heap in a few lines.
-use crate::alone::{CHUNK, WORKERS};
 use g1_image::Image;
 use g1_mark::live_bytes;
 use g1_rem::Starts;
 use g1_words::{Fault, Heap, Kind};
-use g1_work::Open;
+use g1_work::{Open, USUAL_CHUNK, used_words};
 use std::alloc::{AllocError, Global};
 use std::thread::Threads;
 
@@ -13,7 +12,7 @@ use std::thread::Threads;
 pub fn summary<T: Threads + Sync>(rt: &T, alloc: Global, image: &Image) -> Result<String, Fault> {
     let heap = image.heap();
     let starts = Starts::build(alloc, heap)?;
-    let live = live_bytes(rt, alloc, heap, &starts, WORKERS, CHUNK, &Open)?;
+    let live = live_bytes(rt, alloc, heap, &starts, 1, USUAL_CHUNK, &Open)?;
     let mut text = String::new(alloc);
     push_lines(&mut text, image, live.as_slice())?;
     Ok(text)
@@ -60,28 +59,19 @@ fn push_regions(text: &mut String, heap: &Heap) -> Result<(), AllocError> {
     write!(text, " pinned {pinned}\n")
 }
 
-fn count_of(heap: &Heap, kind: Kind) -> u64 {
-    let mut count = 0u64;
-    for region in heap.regions() {
-        count = count.saturating_add(u64::from(region.kind == kind));
-    }
-    count
+fn count_of(heap: &Heap, kind: Kind) -> usize {
+    let regions = heap.regions().iter();
+    regions.filter(|region| region.kind == kind).count()
 }
 
-fn count_pinned(heap: &Heap) -> u64 {
-    let mut count = 0u64;
-    for region in heap.regions() {
-        count = count.saturating_add(u64::from(region.pinned));
-    }
-    count
+fn count_pinned(heap: &Heap) -> usize {
+    let regions = heap.regions().iter();
+    regions.filter(|region| region.pinned).count()
 }
 
 // The words below the tops of all regions, those of the objects that the roots reach, and the others.
 fn push_words(text: &mut String, heap: &Heap, live: &[u64]) -> Result<(), AllocError> {
-    let mut used = 0u64;
-    for region in heap.regions() {
-        used = used.saturating_add(u64::from(region.top));
-    }
+    let used = used_words(heap.regions()) as u64;
     let mut bytes = 0u64;
     for region_bytes in live {
         bytes = bytes.saturating_add(*region_bytes);

@@ -1,10 +1,10 @@
 //! What a program calls its roots, its objects and the words in them.
-use crate::comparing::{first_data, slots_of};
+ghost use Rattle.std.specs.Prelude.{◌≤◌, length};
+
+use crate::objects::ObjectWords;
 use crate::places::value_at;
-use crate::refusal::wrong_line;
-use g1_command::{Refusal, whole};
-use g1_words::Heap;
-use std::alloc::{AllocError, Global};
+use std::alloc::{AllocError, AllocFailed, Global};
+use std::str;
 
 /// The names in a text of lines:
 ///
@@ -46,16 +46,48 @@ const ROOT: &str = "'root NUMBER NAME'";
 
 const LABEL: &str = "'label WORD TYPE'";
 
+/// Why a text has no names.
+#[derive(Debug, Clone, Copy, PartialEq, Eq)]
+pub enum WrongNames {
+    /// In the line of this number, counted from 1, this is expected instead.
+    Line { number: u64, expected: &'static str },
+    /// Memory ran out.
+    Memory,
+}
+
+impl From<AllocError> for WrongNames {
+    fn from(_error: AllocError) -> WrongNames {
+        WrongNames::Memory
+    }
+}
+
+impl<T: Drop> From<AllocFailed<T>> for WrongNames {
+    fn from(_error: AllocFailed<T>) -> WrongNames {
+        WrongNames::Memory
+    }
+}
+
 impl<'a> Names<'a> {
-    /// The names in the text of the file of this name.
-    pub fn read(alloc: Global, file: &str, text: &'a str) -> Result<Names<'a>, Refusal> {
+    /// The names in these bytes.
+    ///
+    /// # Errors
+    ///
+    /// The first line that has no name, or the first line that is no UTF-8; `WrongNames::Memory` else.
+    pub fn read(alloc: Global, bytes: &'a [u8]) -> Result<Names<'a>, WrongNames> {
+        let Ok(text) = str::from_utf8(bytes) else {
+            let number = first_no_text(bytes);
+            return Err(WrongNames::Line {
+                number,
+                expected: "text",
+            });
+        };
         let mut names = Names {
             roots: Vec::new(alloc),
             types: Vec::new(alloc),
             labels: Vec::new(alloc),
             objects: Vec::new(alloc),
         };
-        names.add_lines(alloc, file, text)?;
+        names.add_lines(alloc, text)?;
         names.sort()?;
         Ok(names)
     }
@@ -68,12 +100,12 @@ impl<'a> Names<'a> {
         self.objects.sort_by_key(|line| line.0)
     }
 
-    fn add_lines(&mut self, alloc: Global, file: &str, text: &'a str) -> Result<(), Refusal> {
+    fn add_lines(&mut self, alloc: Global, text: &'a str) -> Result<(), WrongNames> {
         let mut number = 0u64;
         for line in text.split('\n') {
             number = number.saturating_add(1);
             if let Some(expected) = self.add_line(alloc, line)? {
-                return Err(wrong_line(alloc, file, number, &expected, ""));
+                return Err(WrongNames::Line { number, expected });
             }
         }
         Ok(())
@@ -163,30 +195,32 @@ impl<'a> Names<'a> {
     }
 
     /// The kind of an object of the heap before: that of its address, or else the type of its first data word.
-    pub fn object(&self, heap: &Heap, address: u64) -> Option<Kind<'a>> {
-        if let Some(kind) = value_at(self.objects.as_slice(), address) {
+    pub fn object(&self, object: &ObjectWords<'_>) -> Option<Kind<'a>> {
+        if let Some(kind) = value_at(self.objects.as_slice(), object.at) {
             return Some(kind);
         }
-        let name = self.label(first_data(heap, address.saturating_add(1))?)?;
+        let name = self.label(*object.data.first()?)?;
         Some(Kind { name, note: "" })
     }
 
     /// The name of a slot of an object of the heap before.
-    pub fn slot(&self, heap: &Heap, address: u64, slot: u64) -> Option<Word<'a>> {
-        let words = self.words_of(heap, address)?;
-        numbered(words.get(..border(words, slots_of(heap, address)))?, slot)
+    pub fn slot(&self, object: &ObjectWords<'_>, slot: u64) -> Option<Word<'a>> {
+        let words = self.words_of(object)?;
+        let (slots, _) = words.split_at(border(words, object.slots.len()));
+        numbered(slots, slot)
     }
 
     /// The name of a data word of an object of the heap before.
-    pub fn data(&self, heap: &Heap, address: u64, word: u64) -> Option<Word<'a>> {
-        let words = self.words_of(heap, address)?;
-        let first = border(words, slots_of(heap, address)).saturating_add(1);
-        numbered(words.get(first..)?, word)
+    pub fn data(&self, object: &ObjectWords<'_>, word: u64) -> Option<Word<'a>> {
+        let words = self.words_of(object)?;
+        let (_, rest) = words.split_at(border(words, object.slots.len()));
+        let (_, data) = rest.split_first()?;
+        numbered(data, word)
     }
 
     // The words of the line of an object's type, behind `slots`.
-    fn words_of(&self, heap: &Heap, address: u64) -> Option<&[&'a str]> {
-        let kind = self.object(heap, address)?;
+    fn words_of(&self, object: &ObjectWords<'_>) -> Option<&[&'a str]> {
+        let kind = self.object(object)?;
         let below = self.types.partition_point(|(name, _)| *name < kind.name);
         match self.types.get(below) {
             Some((name, words)) if *name == kind.name => Some(words.as_slice()),
@@ -216,16 +250,16 @@ fn add_numbered<'a>(
 
 // The place of the word between the names of slots and those of data. A slot may be called `data`, too: so it is the
 // word behind as many names as there are slots, if that is the one.
-fn border(words: &[&str], slots: u64) -> usize {
-    if words.get(slots as usize) == Some(&"data") {
-        return slots as usize;
+fn border(words: &[&str], slots: usize) -> usize
+    ensures { result ≤ length words.now }
+{
+    if slots < words.len() && words[slots] == "data" {
+        return slots;
     }
-    for (place, word) in words.iter().enumerate() {
-        if *word == "data" {
-            return place;
-        }
+    match words.iter().position(|word| *word == "data") {
+        Some(place) => place,
+        None => words.len(),
     }
-    words.len()
 }
 
 // The name of the word of this number.
@@ -240,4 +274,20 @@ fn numbered<'a>(names: &[&'a str], number: u64) -> Option<Word<'a>> {
     }
     let name = names.get(number as usize).copied()?;
     Some(Word { name, number: None })
+}
+
+// A whole number in decimal digits alone. `parse` takes a plus.
+fn whole(text: &str) -> Option<u64> {
+    if text.starts_with('+') {
+        return None;
+    }
+    text.parse::<u64>().ok()
+}
+
+// The number of the line in which bytes begin that are not UTF-8.
+fn first_no_text(bytes: &[u8]) -> u64 {
+    match bytes.utf8_chunks().next() {
+        Some(chunk) => chunk.valid().split('\n').count() as u64,
+        None => 1,
+    }
 }

@@ -1,6 +1,6 @@
 //! A difference in the names that a program has for it.
-use crate::comparing::word_at;
 use crate::names::{Names, Word};
+use crate::objects::{ObjectWords, Place};
 use g1_words::Heap;
 use std::alloc::{AllocError, Global};
 
@@ -32,7 +32,7 @@ pub fn push_named_path(
 // Adds the steps, of many only the first and the last ones.
 fn push_ends(text: &mut String, runs: &[Run]) -> Result<(), AllocError> {
     let (first, rest) = runs.split_at(runs.len().min(END));
-    let (middle, last) = rest.split_at(rest.len().saturating_sub(END));
+    let (middle, last) = rest.split_at(rest.len() - rest.len().min(END));
     let mut apart = push_runs(text, first, false)?;
     if !middle.is_empty() {
         let steps = steps_in(middle);
@@ -66,13 +66,13 @@ fn add_runs(
     root: u64,
     slots: &[u64],
 ) -> Result<(), AllocError> {
-    let mut word = word_at(heap.roots(), root);
+    let mut place = Place::root(heap, root);
     let mut step = String::new(alloc);
     for slot in slots {
         step.clear();
-        push_step(&mut step, heap, names, word.saturating_sub(1), *slot)?;
+        push_step(&mut step, names, place.object(), *slot)?;
         add_step(alloc, runs, step.as_str())?;
-        word = word_at(heap.words(), word.saturating_add(*slot));
+        place = place.slot(*slot);
     }
     Ok(())
 }
@@ -126,12 +126,15 @@ fn push_runs(text: &mut String, runs: &[Run], apart: bool) -> Result<bool, Alloc
 // The step from an object by a slot.
 fn push_step(
     text: &mut String,
-    heap: &Heap,
     names: &Names<'_>,
-    address: u64,
+    object: Option<ObjectWords<'_>>,
     slot: u64,
 ) -> Result<(), AllocError> {
-    let Some(Word { name, number }) = names.slot(heap, address, slot) else {
+    let name = match object {
+        Some(object) => names.slot(&object, slot),
+        None => None,
+    };
+    let Some(Word { name, number }) = name else {
         return write!(text, " slot {slot}");
     };
     if !name.is_empty() {
@@ -146,11 +149,10 @@ fn push_step(
 /// The type of an object, and what else is said of it, in parentheses.
 pub fn push_named_object(
     text: &mut String,
-    heap: &Heap,
     names: &Names<'_>,
-    address: u64,
+    object: &ObjectWords<'_>,
 ) -> Result<(), AllocError> {
-    let Some(kind) = names.object(heap, address) else {
+    let Some(kind) = names.object(object) else {
         return Ok(());
     };
     let (name, note) = (kind.name, kind.note);
@@ -164,12 +166,11 @@ pub fn push_named_object(
 /// The name of a data word, behind its number.
 pub fn push_named_data(
     text: &mut String,
-    heap: &Heap,
     names: &Names<'_>,
-    address: u64,
+    object: &ObjectWords<'_>,
     word: u64,
 ) -> Result<(), AllocError> {
-    match names.data(heap, address, word) {
+    match names.data(object, word) {
         None => Ok(()),
         Some(Word { name, number: None }) => write!(text, ", {name},"),
         Some(

@@ -1,5 +1,6 @@
 //! The regions of `--set` and `--young`: numbers, and lists of numbers and of ranges, as 1,2,5-9.
-use g1_command::{Argument, Misuse, region_in};
+use crate::table::Argument;
+use crate::values::{Misuse, region_in};
 use g1_words::Marks;
 use std::alloc::{AllocError, Global};
 

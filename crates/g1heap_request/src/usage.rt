@@ -1,5 +1,6 @@
 //! The commands and their arguments, and what help says of them.
-use crate::files::STANDARD_STREAM;
+use crate::output::STANDARD_STREAM;
+use g1_answers::{CHUNK, CHUNK_OF_OBJECTS, CHUNK_OF_REGIONS, NEEDED_BUDGET, REPACK, WORKERS};
 use g1_command::{Argument, BYTE, CARD, DIRTY, FILE, FIXED, FLAG, Form, Program, Usage, VALUE};
 
 // The end of each command's help.
@@ -47,7 +48,7 @@ Statuses:
   5  a region that cannot be collected, or no room for the survivors
   6  no memory, or a read or a write that failed
   7  a file that can't be opened or written
-  8  the pause answers another thing than its steps: an error of this program
+  8  what was found contradicts itself: an error of this program
   141  the reader of the answer went away
 
 Example: g1heap explain --budget 1000 < IMAGE";
@@ -72,10 +73,73 @@ Statuses:
   3  a line is not as it has to be, or a size is out of its range
   6  no memory, or a read or a write that failed
   7  a file that can't be opened or written
-  8  an explanation contradicts the pause: an error of this program
+  8  what was found contradicts itself: an error of this program
   141  the reader of the answer went away
 
 Example: g1heap trace --live < TRACE";
+
+const AFTER_SHOW: &str = "\
+Statuses:
+  0  done
+  2  wrong words, or a number out of its range
+  3  the file is no image
+  6  no memory, or a read or a write that failed
+  7  a file that can't be opened or written
+  141  the reader of the answer went away
+
+Example: g1heap show IMAGE";
+
+const AFTER_CHECK: &str = "\
+Statuses:
+  0  covered
+  2  wrong words
+  3  the file is no image
+  4  a slot is not covered
+  6  no memory, or a read or a write that failed
+  7  a file that can't be opened
+  141  the reader of the answer went away
+
+Example: g1heap check IMAGE";
+
+const AFTER_LIVE: &str = "\
+Statuses:
+  0  done
+  2  wrong words, or a number out of its range
+  3  the file is no image
+  6  no memory, or a read or a write that failed
+  7  a file that can't be opened or written
+  141  the reader of the answer went away
+
+Example: g1heap live IMAGE";
+
+const AFTER_CHOOSE: &str = "\
+Statuses:
+  0  done
+  2  wrong words, or a number out of its range
+  3  the file is no image
+  4  a slot of the image is not covered
+  6  no memory, or a read or a write that failed
+  7  a file that can't be opened or written
+  141  the reader of the answer went away
+
+Example: g1heap choose --budget 1000 IMAGE";
+
+const AFTER_PAUSE: &str = "\
+With neither a budget nor a set it collects no region. Compare the answer with the image before:
+
+  g1heap pause --set 1,2,5-9 -o AFTER BEFORE
+  g1heap same BEFORE AFTER --set 1,2,5-9
+
+Statuses:
+  0  done
+  2  wrong words, or a number out of its range
+  3  the file is no image
+  4  a slot of the image is not covered
+  5  a region that cannot be collected, or no room for the survivors
+  6  no memory, or a read or a write that failed
+  7  a file that can't be opened or written
+
+Example: g1heap pause --budget 1000 -o AFTER IMAGE";
 
 const AFTER_ALL: &str = "\
 Statuses:
@@ -87,10 +151,10 @@ Statuses:
   5  a region of the set is not there, not ordinary or pinned, or no room
   6  no memory, or a read or a write that failed
   7  a file that can't be opened or written
-  8  an explanation contradicts the pause: an error of this program
+  8  what was found contradicts itself: an error of this program
   141  the reader of the answer went away
 
-Example: g1heap print < IMAGE";
+Example: g1heap show IMAGE";
 
 /// The program's name.
 pub const NAME: &str = "g1heap";
@@ -100,16 +164,74 @@ pub fn program(commands: &[Usage]) -> Program<'_> {
     Program {
         name: NAME,
         version: "1.0.0",
-        about: "Compares, prints and makes heap images, explains pauses and answers traces",
+        about: "Shows, checks, collects, compares, prints and makes heap images; explains pauses and answers traces",
         after_help: AFTER_ALL,
         commands,
     }
 }
 
 /// The commands. Each is a static, since the check of all as one takes too many steps.
-pub fn commands() -> [Usage; 6] {
-    [SAME, PRINT, MAKE, EXPLAIN, WHY, TRACE]
+pub fn commands() -> [Usage; 11] {
+    [
+        SHOW, CHECK, LIVE_BYTES, CHOOSE, PAUSE, SAME, PRINT, MAKE, EXPLAIN, WHY, TRACE,
+    ]
 }
+
+static SHOW: Usage = Usage {
+    name: "show",
+    about: "Prints the regions of an image",
+    after_help: AFTER_SHOW,
+    arguments: &[IMAGE_OR_INPUT, WORKERS, CHUNK_OF_REGIONS, REPACK, OUTPUT],
+};
+
+static CHECK: Usage = Usage {
+    name: "check",
+    about: "Reports whether every reference into another region is covered",
+    after_help: AFTER_CHECK,
+    arguments: &[IMAGE_OR_INPUT],
+};
+
+static LIVE_BYTES: Usage = Usage {
+    name: "live",
+    about: "Prints the live bytes of each region",
+    after_help: AFTER_LIVE,
+    arguments: &[IMAGE_OR_INPUT, WORKERS, CHUNK_OF_OBJECTS, OUTPUT],
+};
+
+static CHOOSE: Usage = Usage {
+    name: "choose",
+    about: "Prints the candidates in order, and which of them the budget buys",
+    after_help: AFTER_CHOOSE,
+    arguments: &[
+        IMAGE_OR_INPUT,
+        NEEDED_BUDGET,
+        FIXED,
+        DIRTY,
+        CARD,
+        BYTE,
+        WORKERS,
+        CHUNK_OF_OBJECTS,
+        OUTPUT,
+    ],
+};
+
+static PAUSE: Usage = Usage {
+    name: "pause",
+    about: "Collects regions of an image, and writes the image after",
+    after_help: AFTER_PAUSE,
+    arguments: &[
+        IMAGE_OR_INPUT,
+        BUDGET,
+        SET,
+        FIXED,
+        DIRTY,
+        CARD,
+        BYTE,
+        WORKERS,
+        CHUNK,
+        OUTPUT,
+    ],
+};
 
 static SAME: Usage = Usage {
     name: "same",

@@ -1,12 +1,10 @@
-//! The two files that are compared: images, or lines of objects by name.
-use crate::refusal::{IMAGE_HINT, is_image, of_file, wrong_line};
-use g1_command::Refusal;
+//! The heaps that are compared: those of images, or of lines of objects by name.
 use g1_image::{Image, Stale, decode};
 use g1_text::{Graph, Wrong, read_graph};
 use g1_words::Fault;
 use std::alloc::{AllocError, Global};
 
-/// A heap that is compared, and what its file calls its objects.
+/// A heap that is compared, and what its objects are called.
 #[derive(Drop)]
 pub struct Side<'a> {
     pub image: Image,
@@ -15,12 +13,12 @@ pub struct Side<'a> {
     pub stale: Option<Strays<'a>>,
 }
 
-/// The words that reference no object, and what the file is refused for if they are not reported.
+/// The words that reference no object, and what is wrong with them where they are not reported.
 #[derive(Drop)]
 pub struct Strays<'a> {
     pub words: Stale,
-    /// The names that stale words stand for: the word is 1 more than the place of its name.
-    pub names: Vec<&'a str>,
+    /// The words that stand for names, rising, and these names. They are none if the words are the file's own.
+    pub names: Vec<(u64, &'a str)>,
     pub wrong: Wrong,
 }
 
@@ -46,23 +44,16 @@ pub fn open_stale<'a>(alloc: Global, image: Image, words: Stale, fault: Fault) -
     }
 }
 
-/// Refuses a file if words of it reference no object.
-pub fn check_whole(alloc: Global, name: &str, side: &Side<'_>) -> Result<(), Refusal> {
-    match &side.stale {
-        Some(strays) => Err(refuse_lines(alloc, name, &[], strays.wrong)),
-        None => Ok(()),
-    }
-}
-
 /// The side of lines. Lines with names that no object has are an image once these names are null.
-pub fn open_lines<'a>(alloc: Global, name: &str, lines: &'a [u8]) -> Result<Side<'a>, Refusal> {
-    let graph = match read_graph(alloc, lines) {
-        Ok(graph) => graph,
-        Err(wrong) => return Err(refuse_lines(alloc, name, lines, wrong)),
-    };
+///
+/// # Errors
+///
+/// The first line that is not what is expected there, or the fault of the image of the lines.
+pub fn open_lines<'a>(alloc: Global, lines: &'a [u8]) -> Result<Side<'a>, Wrong> {
+    let graph = read_graph(alloc, lines)?;
     let image = match decode(alloc, graph.text.as_slice()) {
         Ok(image) => image,
-        Err(fault) => return Err(of_file(alloc, name, fault)),
+        Err(fault) => return Err(Wrong::Fault(fault)),
     };
     let stale = strays_in(alloc, &graph)?;
     let Graph { names, .. } = graph;
@@ -73,7 +64,7 @@ pub fn open_lines<'a>(alloc: Global, name: &str, lines: &'a [u8]) -> Result<Side
     })
 }
 
-fn strays_in<'a>(alloc: Global, graph: &Graph<'a>) -> Result<Option<Strays<'a>>, Refusal> {
+fn strays_in<'a>(alloc: Global, graph: &Graph<'a>) -> Result<Option<Strays<'a>>, AllocError> {
     let Some((number, expected)) = graph.first_stale else {
         return Ok(None);
     };
@@ -93,24 +84,14 @@ fn strays_in<'a>(alloc: Global, graph: &Graph<'a>) -> Result<Option<Strays<'a>>,
 
 // Adds the places of stale words, each with the word that stands for its name, which is added to the names.
 fn add_strays<'a>(
-    names: &mut Vec<&'a str>,
+    names: &mut Vec<(u64, &'a str)>,
     words: &mut Vec<(u64, u64)>,
     stale: &[(u64, &'a str)],
 ) -> Result<(), AllocError> {
     for (place, name) in stale {
-        names.push(*name)?;
-        words.push((*place, names.len() as u64))?;
+        let word = names.len() as u64;
+        names.push((word, *name))?;
+        words.push((*place, word))?;
     }
     Ok(())
-}
-
-/// The refusal of a file for its words that reference no object, or for its lines, which are in these bytes.
-pub fn refuse_lines(alloc: Global, name: &str, bytes: &[u8], wrong: Wrong) -> Refusal {
-    match wrong {
-        Wrong::Line { number, expected } => {
-            let hint = if is_image(bytes) { IMAGE_HINT } else { "" };
-            wrong_line(alloc, name, number, &expected, hint)
-        }
-        Wrong::Fault(fault) => of_file(alloc, name, fault),
-    }
 }

@@ -1,14 +1,13 @@
 //! The command line.
-use crate::files::STANDARD_STREAM;
-use crate::output::Output;
-use crate::regions::{regions_in, tie};
+use crate::asking::{Ask, Rewrite, asked_of};
+use crate::output::{Output, STANDARD_STREAM};
 use crate::usage as table;
 use crate::usage::{commands, program};
 use clap::ArgMatches;
 use g1_choose::Cost;
 use g1_command::{
     Argument, Misuse, Refusal, cost_of, help_or_refusal, match_words, number, number_in,
-    read_request, region, required_number,
+    read_request, region, regions_in, required_number, tie,
 };
 use std::alloc::{AllocError, Global};
 
@@ -39,6 +38,10 @@ pub enum Request {
     },
     /// The replies to a trace.
     Trace(Trace),
+    /// The lines that answer a question of an image.
+    Ask(Ask),
+    /// An image that is made of another one.
+    Rewrite(Rewrite),
 }
 
 /// A trace to answer.
@@ -164,7 +167,7 @@ fn part_of(alloc: Global, values: &ArgMatches<'_>) -> Result<Part, Misuse> {
 }
 
 // The name of a file that always has one, be it by default.
-fn name_of(
+pub(crate) fn name_of(
     alloc: Global,
     values: &ArgMatches<'_>,
     argument: &Argument,
@@ -186,7 +189,7 @@ fn name_if_given(
     }
 }
 
-fn output_of(alloc: Global, values: &ArgMatches<'_>) -> Result<Output, AllocError> {
+pub(crate) fn output_of(alloc: Global, values: &ArgMatches<'_>) -> Result<Output, AllocError> {
     Output::of_name(alloc, values.get_str(OUTPUT.id))
 }
 
@@ -222,8 +225,11 @@ fn young_of(alloc: Global, values: &ArgMatches<'_>) -> Result<Vec<u32>, Misuse> 
     }
 }
 
-fn set_of(alloc: Global, values: &ArgMatches<'_>) -> Result<Vec<u32>, Misuse> {
-    regions_in(alloc, &SET, values.get_strs(SET.id).unwrap_or(&[]))
+pub(crate) fn set_of(alloc: Global, values: &ArgMatches<'_>) -> Result<Vec<u32>, Misuse> {
+    match values.get_strs(SET.id) {
+        Some(lists) => regions_in(alloc, &SET, lists),
+        None => Ok(Vec::new(alloc)),
+    }
 }
 
 // Whether copies may fill regions, which only a set gives a meaning.
@@ -313,6 +319,9 @@ fn make_of(alloc: Global, values: &ArgMatches<'_>) -> Result<Request, Misuse> {
 
 // What the values of a command ask for.
 fn request_of(alloc: Global, name: &str, values: &ArgMatches<'_>) -> Result<Request, Misuse> {
+    if let Some(request) = asked_of(alloc, name, values)? {
+        return Ok(request);
+    }
     match name {
         "same" => same_of(alloc, values),
         "print" => print_of(alloc, values),

@@ -1,0 +1,150 @@
+//! What is asked of an image.
+use crate::arguments::sharing_of;
+use clap::ArgMatches;
+use g1_choose::Cost;
+use g1_command::{Argument, BUDGET as BUDGET_OPTION, Misuse, cost_of, number, required_number};
+use g1_pause::{Choice, Settings};
+use g1_words::Fault;
+use std::alloc::Global;
+
+/// What text answers. Numbers may be out of their ranges.
+#[derive(Clone, Copy)]
+pub enum Question {
+    /// What is in the regions?
+    Regions(Sharing),
+    /// Is every reference into another region covered?
+    Cover,
+    /// How many bytes of each region are live?
+    Live(Sharing),
+    /// Which regions are candidates, and which of them does the budget buy?
+    Candidates {
+        sharing: Sharing,
+        cost: Cost,
+        budget: u64,
+    },
+}
+
+/// An image that is made of another one.
+#[derive(Drop)]
+pub enum NewImage {
+    /// The same image, in the newest version.
+    Repacked(Sharing),
+    /// The image after a pause.
+    Paused(Pause),
+}
+
+/// A pause that collects what a budget buys, or the regions that are given. Both may be here.
+#[derive(Drop)]
+pub struct Pause {
+    pub sharing: Sharing,
+    pub cost: Cost,
+    pub budget: Option<u64>,
+    pub regions: Vec<u32>,
+}
+
+/// How workers share the work.
+#[derive(Clone, Copy)]
+pub struct Sharing {
+    pub workers: u64,
+    /// How many items a worker draws at once.
+    pub chunk: u64,
+}
+
+// The argument that is read here, as a static: a constant is checked again in each function that uses it.
+static BUDGET: Argument = BUDGET_OPTION;
+
+/// What the values of `pause` ask for, except the regions.
+pub fn pause_of(alloc: Global, values: &ArgMatches<'_>) -> Result<Pause, Misuse> {
+    Ok(Pause {
+        sharing: sharing_of(alloc, values)?,
+        cost: cost_of(alloc, values)?,
+        budget: number(alloc, values, &BUDGET)?,
+        regions: Vec::new(alloc),
+    })
+}
+
+/// What a command asks, if it asks something.
+pub fn question_of(
+    alloc: Global,
+    name: &str,
+    values: &ArgMatches<'_>,
+) -> Result<Option<Question>, Misuse> {
+    match name {
+        "show" => Ok(Some(Question::Regions(sharing_of(alloc, values)?))),
+        "check" => Ok(Some(Question::Cover)),
+        "live" => Ok(Some(Question::Live(sharing_of(alloc, values)?))),
+        "choose" => Ok(Some(Question::Candidates {
+            sharing: sharing_of(alloc, values)?,
+            cost: cost_of(alloc, values)?,
+            budget: required_number(alloc, values, &BUDGET)?,
+        })),
+        _ => Ok(None),
+    }
+}
+
+// The costs of a command that takes none.
+static FREE: Cost = Cost {
+    fixed: 0,
+    dirty: 0,
+    card: 0,
+    byte: 0,
+};
+
+// How a command shares its work that has no option for it.
+static ALONE: Sharing = Sharing {
+    workers: 1,
+    chunk: 1,
+};
+
+impl Question {
+    /// How its answer is computed.
+    ///
+    /// # Errors
+    ///
+    /// `Fault::Settings` of a number out of its range.
+    pub fn settings(self) -> Result<Settings, Fault> {
+        match self {
+            Question::Cover => settings_of(ALONE, FREE),
+            Question::Regions(sharing) | Question::Live(sharing) => settings_of(sharing, FREE),
+            Question::Candidates { sharing, cost, .. } => settings_of(sharing, cost),
+        }
+    }
+}
+
+impl NewImage {
+    /// How it is computed.
+    ///
+    /// # Errors
+    ///
+    /// `Fault::Settings` of a number out of its range, and of a budget beside regions; `Fault::Memory`.
+    pub fn settings(&self, alloc: Global) -> Result<Settings, Fault> {
+        match self {
+            NewImage::Repacked(sharing) => settings_of(*sharing, FREE),
+            NewImage::Paused(pause) => pause_settings(alloc, pause),
+        }
+    }
+}
+
+/// The settings of a command that has no choice of its own.
+///
+/// # Errors
+///
+/// `Fault::Settings` of a number out of its range.
+pub fn settings_of(sharing: Sharing, cost: Cost) -> Result<Settings, Fault> {
+    Settings::new(sharing.workers, sharing.chunk, cost, Choice::Budget(0))
+}
+
+// A budget beside regions is looked for last, as the number of its fault is the highest.
+fn pause_settings(alloc: Global, pause: &Pause) -> Result<Settings, Fault> {
+    let Sharing { workers, chunk } = pause.sharing;
+    let Some(budget) = pause.budget else {
+        let regions = pause.regions.as_slice().to_vec(alloc)?;
+        return Settings::new(workers, chunk, pause.cost, Choice::Given(regions));
+    };
+    let settings = Settings::new(workers, chunk, pause.cost, Choice::Budget(budget))?;
+    if pause.regions.is_empty() {
+        Ok(settings)
+    } else {
+        Err(Fault::Settings(4))
+    }
+}

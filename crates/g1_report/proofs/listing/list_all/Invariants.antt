@@ -1,0 +1,14 @@
+use Rattle.std.proofs.Common.{◌≡◌, ◌+◌, ◌-◌, ◌*◌, ◌^◌}
+use Rattle.g1_same.specs.Underway.{IsUnderway}
+use Rattle.g1_report.proofs.listing.list_all.Given as goal
+
+abbrev pub invariant-differences : goal.invariant-differences
+invariant-differences g l = record {
+  underway : IsUnderway l.walk;
+  before : l.walk.before.now ≡ l.sides.before.now;
+  after : l.walk.after.now ≡ l.sides.after.now;
+}
+
+-- the way goes on, and the numbers of both of its parts have 32 bits
+abbrev pub decreases-differences : goal.decreases-differences
+decreases-differences g l = (2 ^ 32 - l.walk.way.from) * 2 ^ 32 + (2 ^ 32 - l.walk.way.number)

@@ -1,0 +1,74 @@
+//! The answers to `show`, `check`, `live`, `choose` and `pause`, of an image in a file.
+use crate::files::{open_file, refuse_again};
+use crate::output::write_file;
+use g1_answers::{answer, write_image};
+use g1_command::Refusal;
+use g1_words::{Device, Fault};
+use g1heap_request::{Ask, Output, Rewrite, STANDARD_STREAM};
+use std::alloc::Global;
+use std::io::{Read, Write};
+use std::rt::Files;
+use std::thread::Threads;
+
+/// The lines that answer a question of the image in a file, or of the reader's if the name means standard input.
+pub fn answer_file<T: Threads + Sync + Files, R: Read>(
+    rt: &T,
+    alloc: Global,
+    ask: &Ask,
+    reader: &mut R,
+) -> Result<Vec<u8>, Refusal> {
+    let name = ask.image.as_str();
+    let answered = if name == STANDARD_STREAM {
+        answer(rt, alloc, ask.question, reader)
+    } else {
+        let mut file = open_file(rt, alloc, name)?;
+        answer(rt, alloc, ask.question, &mut file)
+    };
+    match answered {
+        Ok(lines) => Ok(lines),
+        Err(fault) => Err(refuse_again(rt, alloc, name, fault)),
+    }
+}
+
+/// Writes an image that is made of the one in a file, or of the reader's if the name means standard input. To standard
+/// output it goes in pieces; a file gets it as a whole.
+pub fn rewrite_file<T: Threads + Sync + Files, R: Read, W: Write>(
+    rt: &T,
+    alloc: Global,
+    rewrite: &Rewrite,
+    reader: &mut R,
+    writer: &mut W,
+) -> Result<(), Refusal> {
+    let Output::File(name) = &rewrite.output else {
+        return send_new(rt, alloc, rewrite, reader, writer);
+    };
+    let mut bytes = Vec::new(alloc);
+    match send_new(rt, alloc, rewrite, reader, &mut bytes) {
+        Ok(()) => write_file(rt, alloc, name.as_str(), bytes.as_slice()),
+        // A list takes no more bytes only if memory runs out.
+        Err(Refusal::Fault(Fault::Device(Device::Output))) => Err(Fault::Memory.into()),
+        Err(refusal) => Err(refusal),
+    }
+}
+
+fn send_new<T: Threads + Sync + Files, R: Read, W: Write>(
+    rt: &T,
+    alloc: Global,
+    rewrite: &Rewrite,
+    reader: &mut R,
+    writer: &mut W,
+) -> Result<(), Refusal> {
+    let name = rewrite.image.as_str();
+    let sent = if name == STANDARD_STREAM {
+        write_image(rt, alloc, &rewrite.wanted, reader, writer)
+    } else {
+        let mut file = open_file(rt, alloc, name)?;
+        write_image(rt, alloc, &rewrite.wanted, &mut file, writer)
+    };
+    match sent {
+        Ok(()) => Ok(()),
+        // It is no fault of the image's file.
+        Err(Fault::Device(Device::Output)) => Err(Fault::Device(Device::Output).into()),
+        Err(fault) => Err(refuse_again(rt, alloc, name, fault)),
+    }
+}

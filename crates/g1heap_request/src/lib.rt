@@ -1,0 +1,19 @@
+//! What the words after g1heap's name ask for.
+//!
+//! 1. `commands` is the table of the commands and of their arguments, with what help says of them (`usage`).
+//! 2. `parse` has clap match the words by it, and reads what the command asks for: a `Request` (`options`). The values of
+//!    the commands that g1pause has, too, are read by `asking`.
+//! 3. An `Output` says where an answer goes (`output`).
+//!
+//! Nothing is read or written here.
+#![tactic(auto)]
+
+mod asking;
+mod options;
+mod output;
+mod usage;
+
+pub use asking::{Ask, Rewrite};
+pub use options::{Explain, ImageAfter, Part, Request, Same, Trace, parse};
+pub use output::{Output, STANDARD_STREAM};
+pub use usage::NAME;
