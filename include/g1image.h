@@ -1,4 +1,4 @@
-/* g1image.h: writes the image of any heap, in plain C11 or C++, with nothing beside the standard library. docs/IMAGE.md
+/* g1image.h: writes the image of any heap, in plain C99 or C++, with nothing beside the standard library. docs/IMAGE.md
    has the format. Say what is in the heap, by your own pointers:
 
      g1_writer w;
@@ -71,14 +71,14 @@ typedef struct g1_writer {
   /* for the caller to read */
   int fault;
   uint64_t pointer, holder, slot;
-  uint64_t stale; /* how many words were written as stale */
+  uint64_t stale; /* how many words were written as stale; `strays` has their pointers */
   /* the writer's own */
   int keeps_stale, is_ended;
   uint32_t region_words, shift, regions, run_regions; /* 1 << shift is region_words */
   g1w_part small, large; /* the objects of ordinary regions, and those with runs of their own */
   uint32_t *tops;        /* of the ordinary regions */
-  uint64_t *roots;
-  size_t tops_room, root_count, root_room;
+  uint64_t *roots, *strays;
+  size_t tops_room, root_count, root_room, strays_room;
   g1w_region *table;     /* from the end on, with one more behind the last */
   uint32_t *places;      /* while pointers are looked up: 1 more than an object's address, by its pointer */
   uint64_t place_count;
@@ -108,7 +108,7 @@ static inline int g1w_begin(g1_writer *w, uint32_t region_words) {
 }
 
 /* Has a pointer that is no object's written as a stale word, which g1_same reports as a fault of that root or slot, and
-   `g1heap same` as a difference with its path. Without this it is a fault of the writer. */
+   `g1heap same` as a difference with its path; g1w_stale has the pointer. Without this it is a fault of the writer. */
 static inline void g1w_keep_stale(g1_writer *w) { w->keeps_stale = 1; }
 
 /* Gives back all memory of the writer, the bytes of the image too. */
@@ -119,6 +119,7 @@ static inline void g1w_free(g1_writer *w) {
   G1W_FREE(w->large.others);
   G1W_FREE(w->tops);
   G1W_FREE(w->roots);
+  G1W_FREE(w->strays);
   G1W_FREE(w->table);
   G1W_FREE(w->places);
   memset(w, 0, sizeof *w);
@@ -310,14 +311,25 @@ static inline uint64_t g1w_lookup(const g1_writer *w, uint64_t pointer) {
   return g1w_find(w, &search, pointer);
 }
 
+/* The least stale word: it leads behind the heap, where no object begins. */
+static inline uint64_t g1w_first_stale(const g1_writer *w) {
+  const uint64_t regions = w->regions + w->run_regions;
+  return (regions ? regions : 1) * w->region_words + 1;
+}
+
+/* Keeps a pointer that is no object's, and returns a word of its own for it. */
+static inline uint64_t g1w_stray(g1_writer *w, uint64_t pointer) {
+  w->strays = (uint64_t *)g1w_more(w, w->strays, &w->strays_room, (size_t)w->stale + 1, sizeof *w->strays);
+  if (w->fault) return 0;
+  w->strays[w->stale] = pointer;
+  return g1w_first_stale(w) + w->stale++;
+}
+
 /* The reference word for a pointer that a slot or a root holds. */
 static inline uint64_t g1w_reference(g1_writer *w, uint64_t pointer, uint64_t holder, uint64_t slot) {
   uint64_t word = pointer ? g1w_lookup(w, pointer) : 0;
   if (word || !pointer) return word;
-  if (w->keeps_stale) {
-    w->stale++;
-    return (uint64_t)(w->regions + w->run_regions) * w->region_words + 1; /* behind the heap: no object begins there */
-  }
+  if (w->keeps_stale) return g1w_stray(w, pointer);
   if (!w->fault) {
     w->pointer = pointer;
     w->holder = holder;
@@ -385,6 +397,10 @@ static inline void g1w_put_front(g1_writer *w, uint32_t regions) {
   memset(out, 0, 4 * (size_t)regions);
 }
 
+/* After the end: the bytes of the image, and how many there are. */
+static inline const uint8_t *g1w_bytes(const g1_writer *w) { return w->is_ended ? (const uint8_t *)w->small.words : NULL; }
+static inline size_t g1w_length(const g1_writer *w) { return w->is_ended ? 8 * (w->front + w->small.count) : 0; }
+
 /* Ends the image: all pointers are made references, and the bytes are those of the image. They stay until g1w_free. */
 static inline int g1w_end(g1_writer *w, const uint8_t **bytes, size_t *length) {
   uint32_t regions = w->regions + w->run_regions;
@@ -399,8 +415,8 @@ static inline int g1w_end(g1_writer *w, const uint8_t **bytes, size_t *length) {
   g1w_put_front(w, regions);
   w->is_ended = 1;
   w->pointer = w->holder = w->slot = 0;
-  *bytes = (const uint8_t *)w->small.words;
-  *length = 8 * (w->front + w->small.count);
+  *bytes = g1w_bytes(w);
+  *length = g1w_length(w);
   return G1W_GOOD;
 }
 
@@ -423,6 +439,12 @@ static inline uint64_t g1w_at(const g1_writer *w, uint64_t address, uint64_t *wo
 static inline uint64_t g1w_named(const g1_writer *w, uint64_t reference) {
   uint64_t word, pointer = reference ? g1w_at(w, reference - 1, &word) : 0;
   return pointer && !word ? pointer : 0;
+}
+
+/* After the end: the pointer that a stale word was written for; 0 if the word is none. */
+static inline uint64_t g1w_stale(const g1_writer *w, uint64_t word) {
+  const uint64_t first = g1w_first_stale(w);
+  return w->is_ended && word >= first && word - first < w->stale ? w->strays[word - first] : 0;
 }
 
 /* After the end: the reference word that a root holds, and the one that a slot of the object that a word references

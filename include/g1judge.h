@@ -1,4 +1,4 @@
-/* g1judge.h: the judge of heap images, for a program that has the images in its own memory. C11 and C++.
+/* g1judge.h: the judge of heap images, for a program that has the images in its own memory. C99 and C++.
    Link libg1judge.a; docs/LINK.md says how it is made and what is proved of it.
 
    An image is the bytes of docs/IMAGE.md, of version 1 or 2; g1image.h writes one of any heap.
@@ -91,7 +91,7 @@ static_assert(sizeof(g1_answer) == 96, "g1_answer has 96 bytes");
 static_assert(offsetof(g1_answer, at) == 16, "g1_answer has no gaps");
 static_assert(offsetof(g1_answer, words) == 88, "g1_answer has no gaps");
 static_assert(sizeof(size_t) == 8, "lengths have 64 bits");
-#else
+#elif defined(__STDC_VERSION__) && __STDC_VERSION__ >= 201112L
 _Static_assert(sizeof(g1_answer) == 96, "g1_answer has 96 bytes");
 _Static_assert(offsetof(g1_answer, at) == 16, "g1_answer has no gaps");
 _Static_assert(offsetof(g1_answer, words) == 88, "g1_answer has no gaps");
@@ -120,6 +120,12 @@ uint32_t g1_image(const uint8_t *bytes, size_t length, g1_answer *answer);
    log? G1_GOOD, G1_NO_IMAGE, G1_MEMORY, or G1_UNCOVERED with fault 9, and `at` the lowest address of such a slot.
    It takes time and memory as g1_image does. */
 uint32_t g1_covered(const uint8_t *bytes, size_t length, g1_answer *answer);
+
+/* Why are the bytes no image, or which slot is not covered? What g1_covered returns, with its answer; and the rule that they
+   break, with the place, the card or the word that breaks it: one sentence in ASCII, which g1heap has behind the fault.
+   rule[0 .. room) gets it as far as there is room, with no 0 behind it, and the rest stays as it is. *rule_length says how
+   long it is: 0 if no rule is broken. It takes time and memory as g1_image does. */
+uint32_t g1_broken(const uint8_t *bytes, size_t length, uint8_t *rule, size_t room, uint64_t *rule_length, g1_answer *answer);
 
 /* Does the second image keep what a pause keeps that takes these regions of the first? The regions of the set are free in
    it. Every other object is at its old address with its data words, even if no root leads to it; the exceptions are

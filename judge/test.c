@@ -7,6 +7,7 @@ static void *counted_realloc(void *block, size_t size);
 static void counted_free(void *block);
 #include "g1image.h"
 #include "g1judge.h"
+#include "g1report.h"
 
 #include <pthread.h>
 #include <stdio.h>
@@ -148,6 +149,31 @@ static void each(int count, char **names) {
   }
 }
 
+/* broken FILE ..: g1_broken with room for the rule, and with too little; the rule on a line behind the answer. */
+static void broken(int count, char **names) {
+  for (int i = 0; i < count; i++) {
+    static uint8_t whole[1000];
+    file f = read_file(names[i]);
+    g1_answer answer, again;
+    uint64_t length, other;
+    uint32_t status;
+    memset(&answer, 0xcd, sizeof answer);
+    status = g1_broken(f.bytes, f.length, whole, sizeof whole, &length, &answer);
+    print_answer(status, &answer, NULL, 0);
+    printf("%.*s\n", (int)length, (char *)whole);
+    for (size_t room = 0; room <= length + 1; room += room < length ? length : 1) {
+      uint8_t *rule = malloc(room + 1);
+      const size_t there = room < length ? room : length;
+      if (!rule) exit(6);
+      memset(rule, 0xab, room + 1);
+      if (g1_broken(f.bytes, f.length, rule, room, &other, &again) != status || other != length) printf("another rule\n");
+      if (memcmp(rule, whole, there) || rule[there] != 0xab || memcmp(&again, &answer, sizeof answer)) printf("another text\n");
+      free(rule);
+    }
+    free(f.bytes);
+  }
+}
+
 /* null FILE: no bytes at all, and no room for the path, by NULL. */
 static void null(const char *name) {
   file f = read_file(name), none = {NULL, 0};
@@ -243,11 +269,15 @@ static void threads(long calls, char **names) {
 
 /* ---- requests for memory refused */
 
-enum { CALLS = 4 };
+enum { CALLS = 5 };
 
 static uint32_t call(int which, file a, file b, uint32_t region, g1_answer *answer) {
   uint64_t path[4];
   if (which == 0) return g1_same(a.bytes, a.length, b.bytes, b.length, path, 4, answer);
+  if (which == 4) {
+    uint8_t rule[4];
+    return g1_broken(a.bytes, a.length, rule, 4, path, answer);
+  }
   if (which == 3) return g1_kept(a.bytes, a.length, b.bytes, b.length, &region, 1, answer);
   return which == 1 ? g1_image(a.bytes, a.length, answer) : g1_covered(a.bytes, a.length, answer);
 }
@@ -287,7 +317,9 @@ static void refuse(const char *first, const char *second, uint32_t region) {
     }
   }
   g1_set_memory(NULL);
-  printf("requests %ld %ld %ld %ld tried %ld wrong %ld\n", most[0], most[1], most[2], most[3], tried, wrong);
+  printf("requests");
+  for (int which = 0; which < CALLS; which++) printf(" %ld", most[which]);
+  printf(" tried %ld wrong %ld\n", tried, wrong);
   free(a.bytes);
   free(b.bytes);
 }
@@ -297,19 +329,17 @@ static void refuse(const char *first, const char *second, uint32_t region) {
 static uint64_t numbers[1 << 16];
 
 /* Reads the lines of one image: `image W`, `stale`, `root P`, `object P SLOTS BYTES` and that many slots and words of data,
-   until `end FILE`. Writes the image there and prints its fault, or its length and the pointer at each object's address. */
-static int write_one(FILE *in) {
-  char word[16], name[400];
-  g1_writer w;
-  const uint8_t *bytes;
-  size_t length, slots, size;
+   until `end FILE`, the name of a file. 0 if there is none. */
+static int show_one(FILE *in, g1_writer *w, char *name) {
+  char word[16];
+  size_t slots, size;
   unsigned long long n;
-  memset(&w, 0, sizeof w);
+  memset(w, 0, sizeof *w);
   while (fscanf(in, "%15s", word) == 1) {
-    if (!strcmp(word, "end")) break;
-    if (!strcmp(word, "stale")) g1w_keep_stale(&w);
-    if (!strcmp(word, "image") && fscanf(in, "%llu", &n) == 1) g1w_begin(&w, (uint32_t)n);
-    if (!strcmp(word, "root") && fscanf(in, "%llu", &n) == 1) g1w_root(&w, n);
+    if (!strcmp(word, "end")) return fscanf(in, "%399s", name) == 1;
+    if (!strcmp(word, "stale")) g1w_keep_stale(w);
+    if (!strcmp(word, "image") && fscanf(in, "%llu", &n) == 1) g1w_begin(w, (uint32_t)n);
+    if (!strcmp(word, "root") && fscanf(in, "%llu", &n) == 1) g1w_root(w, n);
     if (!strcmp(word, "object") && fscanf(in, "%llu %zu %zu", &n, &slots, &size) == 3) {
       uint64_t pointer = n, *data;
       for (size_t i = 0; i < slots + (size + 7) / 8; i++) {
@@ -318,11 +348,20 @@ static int write_one(FILE *in) {
       }
       data = malloc(size ? size : 1); /* of its own size, so that a read past its end is seen */
       memcpy(data, numbers + slots, size);
-      g1w_object(&w, pointer, slots ? numbers : NULL, slots, size ? data : NULL, size);
+      g1w_object(w, pointer, slots ? numbers : NULL, slots, size ? data : NULL, size);
       free(data);
     }
   }
-  if (fscanf(in, "%399s", name) != 1) return 0;
+  return 0;
+}
+
+/* Writes one image to its file, and prints its fault, or its length and the pointer at each object's address. */
+static int write_one(FILE *in) {
+  char name[400];
+  g1_writer w;
+  const uint8_t *bytes;
+  size_t length;
+  if (!show_one(in, &w, name)) return 0;
   if (g1w_end(&w, &bytes, &length)) {
     printf("fault %d pointer %llu holder %llu slot %llu\n", w.fault, (unsigned long long)w.pointer,
            (unsigned long long)w.holder, (unsigned long long)w.slot);
@@ -341,6 +380,77 @@ static int write_one(FILE *in) {
   fflush(stdout);
   g1w_free(&w);
   if (of_writer.used) printf("%ld blocks are left\n", of_writer.used);
+  return 1;
+}
+
+/* ---- lines of answers */
+
+/* Names that a map of `--names` can give, too: of even roots, and of what is at even addresses. */
+static int name_of(void *context, int what, int image, uint64_t object, uint64_t number, char *text, size_t room) {
+  const unsigned long long n = number;
+  (void)context;
+  if (what == G1R_ROOT) return number % 2 ? 0 : snprintf(text, room, "r%llu", n);
+  if (image != 1 || object % 2) return 0;
+  if (what == G1R_TYPE) return snprintf(text, room, "%s", object % 4 ? "T" : "T note");
+  if (what == G1R_SLOT) return n < 2 ? snprintf(text, room, "s%llu", n) : snprintf(text, room, "a[%llu]", n - 2);
+  return number ? 0 : snprintf(text, room, "d0");
+}
+
+/* The line as a file gets it, and in blocks of several sizes, in which it has to be cut as snprintf cuts. */
+static void print_line(const g1_report *r, uint32_t status, const g1_answer *a, const uint64_t *path, size_t room) {
+  static char whole[1 << 16];
+  const size_t length = g1r_line(whole, sizeof whole, r, status, a, path, room);
+  const size_t rooms[] = {0, 1, length / 2, length, length + 1};
+  for (int k = 0; k < 5; k++) {
+    char *some = malloc(rooms[k] ? rooms[k] : 1);
+    const size_t there = rooms[k] ? (rooms[k] <= length ? rooms[k] - 1 : length) : 0;
+    if (!some) exit(6);
+    if (g1r_line(some, rooms[k], r, status, a, path, room) != length) printf("another length with room for %zu\n", rooms[k]);
+    if (rooms[k] && (memcmp(some, whole, there) || some[there])) printf("another line with room for %zu\n", rooms[k]);
+    free(some);
+  }
+  g1r_print(stdout, r, status, a, path, room);
+}
+
+/* lines HOW ROOM: the line of each pair that standard input gives, two names and a set; of g1_kept if there is a set. HOW is
+   `plain`, or `named` for one with names. ROOM is that for the path. */
+static void lines(const char *how, size_t room) {
+  static char line[4096];
+  static uint64_t path[PATH];
+  while (fgets(line, sizeof line, stdin)) {
+    char before[400], after[400];
+    int used = 0;
+    size_t count;
+    if (sscanf(line, "%399s %399s%n", before, after, &used) != 2) continue;
+    uint32_t *set = regions_of(line + used, &count);
+    file a = read_file(before), b = read_file(after);
+    g1_report report = g1r_of_images(a.bytes, a.length, b.bytes, b.length);
+    g1_answer answer;
+    uint32_t status;
+    if (!strcmp(how, "named")) report.name = name_of;
+    if (count) status = g1_kept(a.bytes, a.length, b.bytes, b.length, set, count, &answer);
+    else status = g1r_same(&report, path, room, &answer);
+    print_line(&report, status, &answer, path, room);
+    free(a.bytes);
+    free(b.bytes);
+    free(set);
+  }
+}
+
+/* told: the line of two images that are shown one after the other, in pointers. */
+static int tell_one(FILE *in) {
+  static uint64_t path[PATH];
+  char name[400];
+  g1_writer before, after;
+  const uint8_t *bytes;
+  size_t length;
+  g1_answer answer;
+  if (!show_one(in, &before, name) || !show_one(in, &after, name)) return 0;
+  if (g1w_end(&before, &bytes, &length) || g1w_end(&after, &bytes, &length)) exit(6);
+  g1_report report = g1r_of_writers(&before, &after);
+  print_line(&report, g1r_same(&report, path, PATH, &answer), &answer, path, PATH);
+  g1w_free(&before);
+  g1w_free(&after);
   return 1;
 }
 
@@ -411,10 +521,13 @@ int main(int count, char **words) {
   else if (!strcmp(command, "pairs")) pairs();
   else if (!strcmp(command, "kept")) kept();
   else if (!strcmp(command, "each")) each(count - 2, words + 2);
+  else if (!strcmp(command, "broken")) broken(count - 2, words + 2);
   else if (!strcmp(command, "null") && count == 3) null(words[2]);
   else if (!strcmp(command, "threads") && count == 11) threads(atol(words[2]), words + 3);
   else if (!strcmp(command, "refuse") && count == 5) refuse(words[2], words[3], (uint32_t)atol(words[4]));
   else if (!strcmp(command, "write")) while (write_one(stdin)) continue;
+  else if (!strcmp(command, "lines") && count == 4) lines(words[2], strtoull(words[3], NULL, 10));
+  else if (!strcmp(command, "told")) while (tell_one(stdin)) continue;
   else if (!strcmp(command, "many") && count == 4) many(strtoull(words[2], NULL, 10), (uint32_t)atol(words[3]));
   else if (!strcmp(command, "scarce") && count == 3) scarce(strtoull(words[2], NULL, 10));
   else return 2;

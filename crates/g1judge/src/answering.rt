@@ -190,6 +190,14 @@ fn path(verdict: &Verdict) -> &[u64]
     }
 }
 
+/// Writes as much of a text as there is room for.
+pub fn copy_text(text: &[u8], buffer: &mut [u8])
+    ensures { buffer.new ≡ written text.now buffer.old }
+{
+    let count = text.len().min(buffer.len());
+    buffer[..count].copy_from_slice(&text[..count]);
+}
+
 // Writes as many slots as there is room for.
 fn copy(slots: &[u64], buffer: &mut [u64])
     ensures { buffer.new ≡ written slots.now buffer.old }

@@ -1,11 +1,12 @@
-ghost use Rattle.std.specs.Prelude.{◌≡◌, ◌⊎◌};
+ghost use Rattle.std.specs.Prelude.{◌≡◌, ◌⊎◌, ℕ, List, length};
 ghost use Rattle.g1judge.specs.declared.verdict.Verdict.{Verdict};
 ghost use Rattle.g1judge.specs.Judged.{JudgesPair, JudgesImage, JudgesCover, JudgesKept};
 ghost use Rattle.g1judge.specs.Answered.{status_of, answer_of, path_of, written};
 ghost use Rattle.g1judge.specs.Laws.{SaysOfPair, SaysOfImage, SaysOfCover, SaysOfKept};
 
 use crate::answer::Answer;
-use crate::answering::say;
+use crate::answering::{copy_text, say};
+use crate::breaking::reason_of;
 use crate::judging::{judge_cover, judge_image, judge_kept, judge_pair};
 use crate::laws;
 use std::alloc::Global;
@@ -55,6 +56,27 @@ pub extern "C" fn g1_covered(alloc: Global, bytes: &[u8], answer: &mut Answer) -
     let verdict = judge_cover(alloc, bytes);
     laws::cover_status();
     say(&verdict, &mut [], answer)
+}
+
+/// Which rule bytes break that are no image's text, or an image's with a slot that is not covered: what `g1_covered` says
+/// of them, and beside it a sentence, as far as there is room, and how many bytes it has.
+#[unsafe(no_mangle)]
+pub extern "C" fn g1_broken(
+    alloc: Global,
+    bytes: &[u8],
+    rule: &mut [u8],
+    size: &mut u64,
+    answer: &mut Answer,
+) -> u32
+    ensures said { (v : Verdict) × JudgesCover bytes.now v × (result ≡ status_of v) × (answer.new ≡ answer_of v) }
+    ensures status { (result ≡ 6) ⊎ SaysOfCover bytes.now result }
+    ensures rule { (text : List ℕ) × (rule.new ≡ written text rule.old) × (size.new ≡ length text) }
+{
+    let reason = reason_of(alloc, bytes);
+    laws::cover_status();
+    *size = reason.rule.len() as u64;
+    copy_text(reason.rule.as_bytes(), rule);
+    say(&reason.verdict, &mut [], answer)
 }
 
 /// Whether two byte strings are the texts of two images of which the second keeps what a pause of these

@@ -11,7 +11,9 @@
 //! 4. `g1_kept` says whether the second of two images keeps what a pause of some regions of the first
 //!    keeps, else what is lost first, else the first region of the set that the first image does not
 //!    allow, else their faults as `g1_same` does.
-//! 5. What a call finds is a `Verdict`. Its status is what the call returns, and is the one with which
+//! 5. `g1_broken` says what `g1_covered` says, and beside it which rule the bytes break, with the place and the word that
+//!    break it, in one sentence.
+//! 6. What a call finds is a `Verdict`. Its status is what the call returns, and is the one with which
 //!    `g1heap` and `g1pause` end; its numbers are an `Answer`; its path goes into the caller's buffer as
 //!    far as there is room, and the answer says how long it is.
 //!
@@ -22,6 +24,7 @@
 
 mod answer;
 mod answering;
+mod breaking;
 mod counting;
 mod exports;
 mod judging;
