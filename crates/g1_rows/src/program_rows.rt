@@ -3,7 +3,7 @@
 //!
 //! - If there are several lines `PROGRAM WORD ..`, each of them has to leave the same.
 //! - In a row of many cases each line below `----` is `WORD .. => ANSWER`, for further words, or `PART => ANSWER`, for
-//!   what is on standard input: a `text`, an `image` or `raw` bytes.
+//!   what is on standard input: a `text`, an `image`, or bytes as `raw` or `hex`.
 use crate::parts::{BAD, first_word, push_line};
 use crate::programs::{is_program, is_so};
 use crate::rows::{Trial, first_line};
@@ -79,7 +79,7 @@ fn miss_of_case<R: Threads + Files + Sync>(
     case: &str,
 ) -> Result<Option<String>, Fault> {
     let (left, expected) = case.split_once(" => ").ok_or(BAD)?;
-    if matches!(first_word(left), "text" | "image" | "raw") {
+    if matches!(first_word(left), "text" | "image" | "raw" | "hex") {
         let given = format!(in trial.alloc; "{given}stdin\n{left}\n")?;
         return miss_text(trial, line, given.as_str(), expected);
     }

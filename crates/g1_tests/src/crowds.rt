@@ -13,7 +13,7 @@ use g1_testing::pictures::{shared, shared_after};
 use g1_testing::{raw, text};
 use g1_trace::run_text;
 use g1_words::Fault;
-use g1_work::{Gate, Part, Team, each_region_mut};
+use g1_work::{Gate, Part, Team, USUAL_CHUNK, each_region_mut};
 use std::alloc::Global;
 use std::ops::Range;
 use std::process::Abort;
@@ -106,35 +106,67 @@ fn bytes_after<R: Threads + Sync, G: Gate + Sync>(
     }
 }
 
-/// Sees what a pause of this many workers makes of the shared picture.
-fn expect_shared<T: Threads + Abort + Sync, G: Gate + Sync>(
+/// Sees what a pause of this many workers that collects region 1 makes of the first heap: the second.
+fn expect_pause<T: Threads + Abort + Sync, G: Gate + Sync>(
     rt: &T,
     alloc: Global,
+    heaps: (&str, &str),
     workers: u64,
     gate: &G,
 ) -> Result<(), Fault> {
-    let before = text(alloc, shared())?;
+    let before = text(alloc, heaps.0)?;
     let settings = collecting(alloc, &[1], workers, 1)?;
     let found = bytes_after(rt, alloc, &before, &settings, gate)?;
-    expect_list(rt, &found, &text(alloc, shared_after())?);
+    expect_list(rt, &found, &text(alloc, heaps.1)?);
     Ok(())
 }
 
-/// Two workers meet in both rounds of the search, and two and four when they write.
+/// Two workers meet in both rounds of the search, and two and three when they write: nothing is written behind the
+/// third region, which is filled.
 #[test]
 fn workers_meet_in_each_round(rt: HostRuntime) -> Result<(), Fault> {
-    for (part, workers, times) in [(Part::Deal, 2, 2), (Part::Fill, 2, 1), (Part::Fill, 4, 1)] {
+    for (part, workers, times) in [(Part::Deal, 2, 2), (Part::Fill, 2, 1), (Part::Fill, 3, 1)] {
         let gate = Crowd::new(&rt, part, workers, times);
-        expect_shared(&rt, rt.alloc(), workers, &gate)?;
+        expect_pause(&rt, rt.alloc(), (shared(), shared_after()), workers, &gate)?;
         expect_equal(&rt, gate.met(), times);
     }
+    Ok(())
+}
+
+/// An object of the last region references one of the set.
+const LAST: &str = "heap 16 4 4
+    root 48
+    region 0 ordinary
+    object 2/0 7
+    region 1 ordinary
+    remembered 1 cards 12
+    object 2/0 8
+    region 3 ordinary
+    object 2/1 16";
+
+/// Its slot is patched, behind the region that is filled.
+const LAST_AFTER: &str = "heap 16 4 4
+    root 48
+    region 0 ordinary
+    object 2/0 7
+    region 2 ordinary
+    remembered 2 cards 12
+    object 2/0 8
+    region 3 ordinary
+    object 2/1 32";
+
+#[test]
+fn four_workers_write_up_to_the_last_patch(rt: HostRuntime) -> Result<(), Fault> {
+    let gate = Crowd::new(&rt, Part::Fill, 4, 1);
+    expect_pause(&rt, rt.alloc(), (LAST, LAST_AFTER), 4, &gate)?;
+    expect_equal(&rt, gate.met(), 1);
     Ok(())
 }
 
 #[test]
 fn a_commit_fills_a_run_for_each_worker(rt: HostRuntime) -> Result<(), Fault> {
     let gate = Counting::new(Part::Fill);
-    expect_shared(&rt, rt.alloc(), 3, &gate)?;
+    expect_pause(&rt, rt.alloc(), (shared(), shared_after()), 3, &gate)?;
     expect_equal(&rt, gate.calls(), 0x01_0101);
     Ok(())
 }
@@ -189,9 +221,6 @@ fn all_workers_search_and_write_at_once(rt: HostRuntime) -> Result<(), Fault> {
     expect_at_once(&rt, alloc, (FIELD, FIELD_AFTER), 33..65, Part::Fill, 2)?;
     expect_at_once(&rt, alloc, (WIDE, WIDE_AFTER), 0..128, Part::Fill, 64)
 }
-
-/// The chunk of a caller who asks for no other.
-const USUAL_CHUNK: u64 = 64;
 
 /// Two workers meet in both rounds of the search of the field: that of the root and the cards, and that
 /// of the objects.
