@@ -64,7 +64,7 @@ def put(program, name, word):
 
 def with_tree(name):
     """The change by which a program's --version names the commit, and says that it is unproved."""
-    file = f"crates/{name}_cli/src/usage.rt"
+    file = next(path for path in CRATES.glob(f"{name}_*/src/usage.rt")).relative_to(TOP).as_posix()
     version = re.search(r'version: "([^"]+)"', (TOP / file).read_text(encoding="utf-8"))
     if not version:
         raise unproved.NotBuilt(f"{file}: it has no version")

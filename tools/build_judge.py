@@ -5,7 +5,7 @@
   build_judge.py --unproved  compiles them without any proof, at full speed, in two minutes
 
 Beside the compiled calls it puts judge/memory.c into the archive, the three functions by which they get their memory.
-The archive goes to FOLDER (judge/out). $CC, $CFLAGS and $AR are the C compiler, its flags and the archiver (cc, -O2, ar).
+The archive goes to FOLDER (judge/out), with g1judge.pc, which says to pkg-config where it and the headers are. $CC, $CFLAGS and $AR are the C compiler, its flags and the archiver (cc, -O2, ar).
 The last line says how many bytes the archive has.
 
 In an archive without a proof, and in each program that is linked with it, `strings` finds
@@ -23,6 +23,7 @@ import argparse
 import itertools
 import os
 import pathlib
+import re
 import shlex
 import shutil
 import subprocess
@@ -40,7 +41,7 @@ import unproved  # noqa: E402
 TOP = stamp.TOP
 CRATE = TOP / "crates/g1judge"
 LOG = TOP / "out" / proving.LOG
-ARCHIVE = "libg1judge.a"
+ARCHIVE, PC_FILE = "libg1judge.a", "g1judge.pc"
 # Each call is called once, so that rt try compiles it. What it is called with does not matter.
 TEST = """
 #[test]
@@ -49,10 +50,12 @@ fn calls_each(rt: HostRuntime) {
     let mut path = [0u64; 4];
     let bytes = [0u8; 4];
     let set = [0u32; 1];
+    let (mut rule, mut length) = ([0u8; 4], 0u64);
     let _ = g1_version();
     let _ = g1_same(rt.alloc(), &bytes, &bytes, &mut path, &mut answer);
     let _ = g1_image(rt.alloc(), &bytes, &mut answer);
     let _ = g1_covered(rt.alloc(), &bytes, &mut answer);
+    let _ = g1_broken(rt.alloc(), &bytes, &mut rule, &mut length, &mut answer);
     let _ = g1_kept(rt.alloc(), &bytes, &bytes, &set, &mut answer);
 }
 """
@@ -90,6 +93,13 @@ def memory_object(room):
 
 def archive(room, *objects):
     run([*shlex.split(os.environ.get("AR", "ar")), "rcs", room / ARCHIVE, *objects])
+
+
+def pkg_config(libraries, headers):
+    """What pkg-config reads: where the library and the headers are. ${pcfiledir} is the folder of the file itself."""
+    version = re.search(r"#define G1_VERSION (\d+)u", (TOP / "include/g1judge.h").read_text(encoding="utf-8"))
+    return (f"libdir={libraries}\nincludedir={headers}\n\nName: g1judge\nDescription: the judge of heap images\n"
+            f"Version: {version[1]}\nCflags: -I${{includedir}}\nLibs: -L${{libdir}} -lg1judge\n")
 
 
 def proved_archive():
@@ -158,6 +168,7 @@ def main():
             new = made.with_name(f"{ARCHIVE}.new")
             shutil.copyfile(pathlib.Path(folder, ARCHIVE), new)
             os.replace(new, made)
+            (options.folder / PC_FILE).write_text(pkg_config("${pcfiledir}", TOP / "include"), encoding="utf-8")
     except (Failed, proving.Failed, unproved.NotBuilt) as error:
         print(f"build_judge.py: {error}", file=sys.stderr)
         return 1

@@ -38,7 +38,7 @@ import running  # noqa: E402
 from heap_image import from_bytes  # noqa: E402
 from image_text import fault_of  # noqa: E402
 from likeness import Likeness, Unlike  # noqa: E402
-from programs import BUILD, OUT  # noqa: E402
+from programs import BUILD, OUT, regions  # noqa: E402
 from random_heaps import PROFILES  # noqa: E402
 
 HEAPS = 1000
@@ -54,17 +54,6 @@ class Usage(Exception):
 def built(name):
     """The program of out/, or that on the path."""
     return str(OUT / name) if (OUT / name).is_file() else shutil.which(name) or str(OUT / name)
-
-
-def regions_of(text):
-    """The regions of a word as 1,2,5-9."""
-    regions = []
-    for part in text.split(","):
-        first, _, last = part.partition("-")
-        regions += range(int(first), int(last or first) + 1)
-    if not regions:
-        raise ValueError(text)
-    return regions
 
 
 def whole(text):
@@ -86,7 +75,7 @@ def parser_of():
     heaps.add_argument("--profiles", action="store_true", help="prints the kinds of heaps, and ends")
     heaps.add_argument("--like", metavar="IMAGE", help="heaps with the sizes, slots and sharing of this one")
     heaps.add_argument("--image", metavar="IMAGE", help="this heap alone, with --set")
-    heaps.add_argument("--set", type=regions_of, metavar="R,R", help="the regions of --image that are collected, as in 1,2,5-9")
+    heaps.add_argument("--set", type=regions, metavar="R,R", help="the regions of --image that are collected, as in 1,2,5-9")
     heaps.add_argument("--trace", action="store_true", help="traces and not heaps")
     how = parser.add_argument_group("how COMMAND is run")
     how.add_argument("--set-words", action="store_true", help="{set} stands for a word for each region")

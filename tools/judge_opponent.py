@@ -357,7 +357,8 @@ class Judge:
         """A word that references no object is reported where a root leads to it, and else the fault of the file."""
         refused = (3, "", f"g1heap: after: fault 7: reference in {fault}\n")
         wanted = refused if expected[:4] == "same" else (1, expected, "")
-        self.judge(f"{name}: {wanted}", self.same(after) == wanted)
+        status, out, err = self.same(after)
+        self.judge(f"{name}: {wanted}", (status, out, "".join(err.splitlines(True)[:1])) == wanted)
         self.counts[f"{error}, and a root leads to it"] += expected[:4] != "same"
         self.counts[f"{error}, reported as stale"] += expected.startswith("differ stale")
 
@@ -374,7 +375,9 @@ class Judge:
         slot = uncovered(after)
         covered = (0, f"{expected}covered\n", "")
         told = covered if slot is None else (4, "", f"g1heap: after: fault 9: uncovered slot {slot}\n")
-        self.judge(f"{name}, with cover: {told}", self.same(after, "--covered") == told)
+        status, out, err = self.same(after, "--covered")
+        first = "".join(err.splitlines(True)[:1])
+        self.judge(f"{name}, with cover: {told}", (status, out, first) == told and ("remembered there nor dirty" in err) == (slot is not None))
         self.counts[f"{error}, and --covered finds it"] += slot is not None
 
     def end(self):

@@ -208,7 +208,7 @@ LARGE = [(region, 0, 8 * MANY, "taken") for region in range(1, 5)]
 LEFT = [(region, 0, 8 * MANY, "left") for region in range(1, 5)]
 SMALL = [(region, 0, 16, "taken") for region in range(4095)]
 LIVE = [f"region {region} live 0" for region in range(4095)] + ["region 4095 live 8"]
-# Each image, and what lines of g1pause answer to it.
+# Each image, and what lines both programs answer to it.
 ROWS = (
     (many_roots, {"live": ["region 0 live 0", "region 1 live 8"], "choose --budget 0": ["total 0"], "check": ["covered"]}),
     (many_objects, {"live": ["region 0 live 8", "region 1 live 0"], "choose --budget 0": ["total 0"]}),
@@ -240,8 +240,9 @@ class Limits(Judge):
         table = "".join(f"{line}\n" for line in lines if line.startswith(("heap", "region"))).encode()
         self.answers(name, self.g1heap, ["print", "-"], data, text)
         self.answers(name, self.g1heap, ["make"], text, data)
-        self.answers(name, self.g1pause, ["show"], data, table)
-        self.answers(name, self.g1pause, ["show", "--repack"], data, data)
+        for program in (self.g1pause, self.g1heap):
+            self.answers(name, program, ["show"], data, table)
+            self.answers(name, program, ["show", "--repack"], data, data)
         path = folder / "image"
         path.write_bytes(data)
         reached = image.reached()
@@ -249,7 +250,8 @@ class Limits(Judge):
         self.answers(name, self.g1heap, ["same", str(path), "-"], data, same)
         for words, lines in rows.items():
             answer = "".join(f"{line}\n" for line in lines).encode()
-            self.answers(name, self.g1pause, words.split(), data, answer)
+            for program in (self.g1pause, self.g1heap):
+                self.answers(name, program, words.split(), data, answer)
 
     def timed(self, program, words, data):
         """The answer, and the processor time that it took."""
@@ -278,6 +280,7 @@ class Limits(Judge):
         self.counted(heap)
         self.answers("large heap", self.g1heap, ["print", "--summary", "-"], data, text_of(summary(image)))
         self.answers("large heap", self.g1pause, ["check"], data, b"covered\n")
+        self.answers("large heap", self.g1heap, ["check", str(path)], b"", b"covered\n")
         self.explained_large(image, data, None, heap.SET)
         candidates = Choice(image, 0).candidates
         for taken in (0, 900, 1099, 1100):
@@ -308,6 +311,7 @@ class Limits(Judge):
         pause = Pause(image, bought.set if bought else chosen)
         places = [f"{at} {to} {image.size(at)}" for at, to in pause.place.items()]
         self.answers(name, self.g1heap, ["explain", "--map", "-", *words], data, text_of(places))
+        self.answers(name, self.g1heap, ["pause", "-", *words], data, pause.after().to_bytes())
         words = [str(region) for region in chosen] or words
         self.answers(name, self.g1pause, ["pause", *words], data, pause.after().to_bytes())
 

@@ -1,9 +1,11 @@
 #!/usr/bin/env python3
-"""malicious_images.py BINARY [COUNT [SEED]]
+"""malicious_images.py BINARY [COUNT [SEED]] [--heap G1HEAP]
 
 Makes COUNT images (default 50,000) from a seed (default 1), most of them broken on purpose, and asks the built program
 for each: `show --repack`, or `check` for one in three. What has to come follows from image_text.py, an independent
-reading of docs/IMAGE.md: for an image its text of version 2, else the fault of the first stage that finds one.
+reading of docs/IMAGE.md: for an image its text of version 2, else the fault of the first stage that finds one. Every
+tenth broken image is also given to `g1heap print`: it has to report the same fault, with a second line that says what
+breaks which rule, and to mark that in the lines that it prints, if it prints any.
 
 A good image is made first, of ordinary regions, runs of humongous objects, references, roots, remembered cards and
 dirty cards. Then none, one, two or three of the wrongs below are done to it, each at a random place: a number of the
@@ -26,7 +28,7 @@ sys.path.insert(0, str(pathlib.Path(__file__).resolve().parent / "lib"))
 
 import progress  # noqa: E402
 from image_text import FIRST, FREE, MAGIC, NEXT, ORDINARY, fault_of, header, in_version_two  # noqa: E402
-from programs import add_program  # noqa: E402
+from programs import add_program, find, program  # noqa: E402
 
 
 # The images. An `Image` may be wrong in any way; `text` writes down what it holds.
@@ -324,6 +326,16 @@ def wanted(data, cover):
     return b"", f"g1pause: fault {fault}\n".encode(), status
 
 
+def is_marked(heap, data, wanted):
+    """Whether g1heap prints a broken image, and marks the place that it reports."""
+    done = subprocess.run([heap, "print"], input=data, capture_output=True, timeout=60)
+    first, rule, *more = done.stderr.split(b"\n")
+    marks = [line for line in done.stdout.split(b"\n") if line.startswith(b"broken ")]
+    is_told = first + b"\n" == wanted[1].replace(b"g1pause: ", b"g1heap: -: ") and rule.startswith(b"g1heap: ") and more == [b""]
+    lines = done.stdout[:5] == b"heap " and marks == [b"broken " + rule.removeprefix(b"g1heap: ")]
+    return done.returncode == 3 and is_told and (lines or not done.stdout)
+
+
 def kind_of(wanted):
     return " ".join(w for w in wanted[1].decode().removeprefix("g1pause: fault ").split() if not w.isdigit()) or "an image"
 
@@ -340,6 +352,7 @@ def main():
     add_program(parser, "binary", "g1pause")
     parser.add_argument("count", nargs="?", type=int, default=50_000, metavar="COUNT")
     parser.add_argument("seed", nargs="?", type=int, default=1, metavar="SEED")
+    parser.add_argument("--heap", type=program, default=find("g1heap"), help="the built program g1heap (default: out/g1heap)")
     options = parser.parse_args()
     binary, count, seed = options.binary, options.count, options.seed
     met, passed, failed = collections.Counter(), 0, 0
@@ -347,7 +360,10 @@ def main():
     def one(number):
         data, cover = made(f"{seed} {number}"), number % 3 == 0
         want = wanted(data, cover)
-        return number, cover, want, answer(binary, data, cover) == want
+        good = answer(binary, data, cover) == want
+        if number % 10 == 0 and want[2] == 3:
+            good = good and is_marked(options.heap, data, want)
+        return number, cover, want, good
 
     with ThreadPoolExecutor(4) as pool:
         for number, cover, want, good in progress.over(pool.map(one, range(count)), "images", count):

@@ -1,5 +1,5 @@
 #!/usr/bin/env python3
-"""plant_errors.py G1HEAP [--image FILE --set R ..] [--seed S] [--all]
+"""plant_errors.py G1HEAP [--image FILE --set 1,2,5-9] [--seed S] [--all]
 
 Evacuates an image (examples/shared_targets.img, region 1) as tools/opponent.py does, then plants one error of each
 kind that a collector's builder meets into the image after, and prints what `g1heap same` reports of it.
@@ -17,7 +17,7 @@ sys.path.insert(0, str(pathlib.Path(__file__).resolve().parent / "lib"))
 
 from heap_image import FREE, NULL, ORDINARY, from_bytes  # noqa: E402
 from opponent import NoRoom, Opponent, refused  # noqa: E402
-from programs import add_program  # noqa: E402
+from programs import add_program, regions  # noqa: E402
 
 EXAMPLES = pathlib.Path(__file__).resolve().parent.parent / "examples"
 
@@ -211,7 +211,7 @@ def main():
     parser = argparse.ArgumentParser(description=__doc__, formatter_class=argparse.RawDescriptionHelpFormatter)
     add_program(parser, "g1heap")
     parser.add_argument("--image", default=str(EXAMPLES / "shared_targets.img"))
-    parser.add_argument("--set", type=int, nargs="+", default=[1], metavar="R")
+    parser.add_argument("--set", type=regions, default=[1], metavar="R", help="the regions of the set, as in 1,2,5-9 (default: 1)")
     parser.add_argument("--seed", type=int, default=1, metavar="S")
     parser.add_argument("--all", action="store_true")
     options = parser.parse_args()

@@ -32,9 +32,10 @@ OUTPUT = (b"", b"g1pause: fault 14: output\n", 6)
 MEMORY = (b"", b"g1pause: fault 13: memory\n", 6)
 STEPS = 40
 FREE, ORDINARY = 0, 1
-# The commands that read an image: all from standard input, and two of g1heap also from a file.
+# The commands that read an image: of g1pause all from standard input, of g1heap also from a file. The file is the second word.
 READERS = (["show"], ["check"], ["live"], ["choose", "--budget", "1"], ["pause", "0"], ["show", "--repack"])
-HEAP_READERS = (["print", "-"], ["same", "-", "FILE"], ["same", "FILE", "-"])
+HEAP_READERS = (["print", "-"], ["same", "-", "FILE"], ["same", "FILE", "-"], ["show", "FILE"], ["show", "-", "--repack"],
+                ["check", "-"], ["live", "FILE"], ["choose", "-", "--budget", "1"], ["pause", "FILE", "--set", "0"], ["pause", "-"])
 
 
 def short(tops, words):
@@ -244,7 +245,9 @@ class Machine(Judge):
                 paths = [file.name if word == "FILE" else word for word in words]
                 told = f"g1heap: {paths[1]}: fault 3: short\n".encode()
                 name = f"g1heap {' '.join(words)}, {kind}, {megabytes} MB"
-                self.judge(name, self.limited(heap, paths, image, megabytes) == (b"", told, 3))
+                lines, errors, status = self.limited(heap, paths, image, megabytes)
+                is_begun = not lines or words[0] == "print" and lines.startswith(b"heap ")
+                self.judge(name, is_begun and (errors.splitlines(True)[:1], status) == ([told], 3))
 
     def limited(self, program, words, data, megabytes):
         limit = megabytes * 1_000_000
@@ -323,11 +326,12 @@ class HeapFiles(Judge):
 
     def streams(self):
         with open("/dev/full", "wb") as full:
-            for words in (["print"], ["explain"], ["why", "-", "16"], ["make", "-o", "-"], ["same", self.image, "-"], ["--help"]):
+            for words in (["print"], ["explain"], ["why", "-", "16"], ["make", "-o", "-"], ["same", self.image, "-"], ["--help"],
+                          ["show"], ["show", "--repack"], ["check"], ["live"], ["choose", "--budget", "1"], ["pause", "--set", "1"]):
                 data = self.lines if words[0] == "make" else ONE_OBJECT
                 answer = self.run(words, data, stdout=full)
                 self.judge(f"g1heap {words[0]}, full standard output: {answer}", answer == (b"", b"g1heap: fault 14: output\n", 6))
-        for command in ("print", "make", "explain", "trace"):
+        for command in ("print", "make", "explain", "trace", "show", "check", "live", "pause"):
             answer = self.run([command, self.folder])
             self.judge(f"g1heap {command} of a folder: {answer}", answer == self.device(self.folder, "input"))
 
@@ -342,6 +346,10 @@ class HeapFiles(Judge):
         answer = self.run(["print", "-o", self.answer], ONE_OBJECT, before=before)
         kept = self.answer.read_bytes() == b"as it was"
         self.judge_files(f"a file-size limit, -o: {answer}", answer == self.device(self.answer, "output") and kept, ["answer"])
+        self.answer.write_bytes(b"as it was")
+        answer = self.run(["pause", self.image, "-o", self.answer], before=before)
+        kept = self.answer.read_bytes() == b"as it was"
+        self.judge_files(f"a file-size limit, pause -o: {answer}", answer == self.device(self.answer, "output") and kept, ["answer"])
         self.answer.write_bytes(b"as it was")
         (self.folder / "answer.part1").write_bytes(b"somebody's")
         good = self.run(["print", "-o", self.answer], ONE_OBJECT) == (b"", b"", 0) and self.answer.read_bytes() == self.lines
@@ -363,7 +371,8 @@ class HeapFiles(Judge):
 
     def memory(self):
         environment = preloading(compiled(self.folder, "unmade.so", UNMADE, "-shared", "-fPIC", "-ldl"))
-        for words, data in ((["make"], self.lines), (["print"], ONE_OBJECT), (["explain"], ONE_OBJECT)):
+        for words, data in ((["make"], self.lines), (["print"], ONE_OBJECT), (["explain"], ONE_OBJECT), (["show"], ONE_OBJECT),
+                            (["live"], ONE_OBJECT), (["pause"], ONE_OBJECT)):
             answer = self.run([*words, "-o", self.answer], data, env=environment)
             self.judge(f"no memory to make a file, {words[0]}: {answer}", answer == (b"", b"g1heap: fault 13: memory\n", 6))
         trace = b"heap 16 4 4 1\nnew 0 0 1\n"

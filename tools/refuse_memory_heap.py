@@ -96,7 +96,9 @@ def taken(folder):
 def sweep_files(sweep, folder, binary, image, lines):
     """Commands whose answer goes to a file."""
     target = str(folder / "answer")
-    for words, data in ((["print"], image), (["make"], lines), (["explain", "--set", "1"], image)):
+    for words, data in ((["print"], image), (["make"], lines), (["explain", "--set", "1"], image), (["show"], image),
+                        (["live"], image), (["choose", "--budget", "9"], image), (["pause", "--set", "1"], image),
+                        (["show", "--repack"], image)):
         sweep.sweep_file(f"{' '.join(words)} to a file", [binary, *words, "-o", target], data, folder)
 
 
@@ -111,7 +113,8 @@ def sweep_traces(sweep, folder, binary):
 
 def unopened(judge, folder, binary, path):
     environment = preloading(compiled(folder, "unopened.so", UNOPENED, "-shared", "-fPIC"))
-    for words in (["print", path], ["make", path], ["same", path, path], ["explain", path], ["why", path, "16"], ["trace", path]):
+    for words in (["print", path], ["make", path], ["same", path, path], ["explain", path], ["why", path, "16"], ["trace", path],
+                  ["show", path], ["check", path], ["live", path], ["choose", path, "--budget", "1"], ["pause", path]):
         answer = run([binary, *words], b"", environment)
         judge.judge(f"no memory to open a file, {words[0]}: {answer}", is_memory(answer))
 
@@ -184,6 +187,13 @@ def main():
                 (["make"], shortened(lines)),
                 (["make"], lines[:-4]),
                 (["print", "-"], data[:-1]),
+                (["show", path], b""),
+                (["show", "-", "--repack"], data),
+                (["check", "-"], data),
+                (["live", path], b""),
+                (["choose", "-", "--budget", "1000"], data),
+                (["pause", path, "--set", "1"], b""),
+                (["pause", "-", "--budget", "1000"], data),
             ):
                 sweep.sweep(f"{image.name}: {' '.join(words)}", [binary, *words], source)
         return sweep.end()

@@ -3,11 +3,13 @@
 
 It writes FOLDER/g1pause-VERSION-x86_64-linux.tar.gz and the same name with .sha256. In the tar:
   bin/            the programs, stripped; and g1challenge, which is tools/challenge.py
-  include/, lib/  the headers and the library of the judge, if the repository has them; in lib/debug/ the symbols
+  include/, lib/  the headers and the library of the judge, if the repository has them, with a file for pkg-config; in
+                  lib/debug/ the symbols
   share/          manual pages, completion for bash, zsh and fish; in share/doc/g1pause the pages, the examples, and the
                   scripts that the pages call, except those that build or test the sources
   install.sh, uninstall.sh   PREFIX=FOLDER ./install.sh installs all this
-  RELEASE         the version, the commit, the kit, and the sums of the programs as rt built them
+  RELEASE         the version, the commit, the kit, and the sums of the programs as rt built them; once installed it is
+                  share/g1pause/RELEASE
   SHA256SUMS      the sums of all other files
 
 It refuses programs that are not proved. Those of out/ are, if out/PROVED says so of the sources and of the kit that
@@ -125,6 +127,11 @@ def proved_archive(path):
     return content
 
 
+def installed_pc():
+    """The file for pkg-config, which finds the headers and the library from where it is."""
+    return build_judge.pkg_config("${pcfiledir}/..", "${pcfiledir}/../../include").encode()
+
+
 def judge(room):
     """The headers of the judge, and its library, which its own script has rt prove."""
     files = {f"include/{path.name}": path.read_bytes() for path in sorted(TOP.glob("include/*.h"))}
@@ -134,6 +141,7 @@ def judge(room):
         if done.returncode:
             raise Refused(f"tools/build_judge.py: {(done.stderr or done.stdout).strip().splitlines()[-1]}")
         files["lib/libg1judge.a"] = proved_archive(room / "libg1judge.a")
+        files[f"lib/pkgconfig/{build_judge.PC_FILE}"] = installed_pc()
     return files
 
 
@@ -178,6 +186,7 @@ def with_lists(files):
     """The files of a release, with the list of those that are installed, and all sums."""
     files = dict(files)
     files["share/g1pause/uninstall.sh"] = files["uninstall.sh"]
+    files["share/g1pause/RELEASE"] = files["RELEASE"]
     installed = sorted(name for name in files if "/" in name) + ["share/g1pause/files"]
     files["share/g1pause/files"] = "".join(f"{name}\n" for name in installed).encode()
     sums = [f"{hashlib.sha256(files[name]).hexdigest()}  {name}\n" for name in sorted(files)]

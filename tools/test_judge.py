@@ -4,13 +4,19 @@
 Builds the callers of judge/test.c and of examples/vm with the C compiler ($CC, cc) and links them with libg1judge.a, as
 tools/build_judge.py makes it; a second time with the sanitizers for addresses and undefined behaviour. Then it tries
 
-  headers  both, alone and in either order, as C and as C++
+  headers  all three, alone and in either order, as C and as C++
+  pc       examples/vm, compiled and linked with what `pkg-config --cflags --libs g1judge` prints, beside the archive and in
+           the folders of a release
   mark     that nothing is proved of the archive, in each program linked with it if it is in the archive, and else in none
   calls    all pairs of the example images, with room for the path, with none, with too little: status, fault, path and
            numbers are compared with what `g1heap same` prints; each image, and N damaged ones, with image_text.py
+  broken   the same images with g1_broken: the rule is the second line of `g1heap print`, or of `g1heap same --covered`
   kept     all pairs of the example images, with no region, each region, one that is not there, one twice, and two: status,
            fault, loss and numbers are compared with what `g1heap same --set` prints, and with losses.py; and N / 20 heaps that
            tools/opponent.py collects, each with an error of each kind of tools/plant_errors.py
+  lines    include/g1report.h: of all pairs and sets of `calls` and `kept` the line that `g1heap same` prints, byte for byte,
+           also in the names of a program and with too little room; of N / 4 graphs of its own pointers, written by
+           g1image.h, the line of `g1heap same` for lines of objects by name
   null     no bytes, no path and no set, by a null pointer
   threads  four threads at once, each on images of its own
   refuse   each request for memory of each call refused, one alone and all from one on
@@ -43,6 +49,7 @@ import check_pages  # noqa: E402
 import image_text  # noqa: E402
 import losses  # noqa: E402
 import progress  # noqa: E402
+import release  # noqa: E402
 from heap_image import FIRST, CONTINUATION, FREE, NULL, ORDINARY, Image, from_bytes  # noqa: E402
 from opponent import NoRoom, Opponent, refused  # noqa: E402
 from plant_errors import ERRORS as COLLECTOR_ERRORS, MORE_ERRORS, Planter  # noqa: E402
@@ -209,20 +216,44 @@ class Programs:
 
 
 def check_headers(tally, programs, options):
-    """Both headers alone, in either order, as C11, C17 and C++11 to C++20, with all warnings."""
-    compilers = [(shlex.split(os.environ.get("CC", "cc")), "c", ("c11", "c17")),
+    """The headers alone, in either order, as C99 to C17 and C++11 to C++20, with all warnings."""
+    compilers = [(shlex.split(os.environ.get("CC", "cc")), "c", ("c99", "c11", "c17")),
                  (shlex.split(os.environ.get("CXX", "c++")), "c++", ("c++11", "c++14", "c++17", "c++20"))]
     for compiler, language, standards in compilers:
         if not shutil.which(compiler[0]):
             print(f"headers: no {compiler[0]}, left out")
             continue
         for standard in standards:
-            for names in (("g1judge.h",), ("g1image.h",), ("g1judge.h", "g1image.h"), ("g1image.h", "g1judge.h")):
+            for names in (("g1judge.h",), ("g1image.h",), ("g1report.h",), ("g1judge.h", "g1image.h"), ("g1image.h", "g1judge.h")):
                 text = "".join(f'#include "{name}"\n' for name in (*names, *names))
                 words = [*compiler, "-x", language, f"-std={standard}", "-Wall", "-Wextra", "-Wpedantic", "-Wshadow",
                          "-Werror", "-fsyntax-only", "-I", TOP / "include", "-"]
                 ran = subprocess.run(words, input=text, capture_output=True, text=True)
                 tally.expect(f"headers: {language} {standard} {names}", (ran.returncode, ran.stderr[:2000]), (0, ""))
+
+
+def check_pc(tally, programs, options):
+    """What pkg-config says of the archive as build_judge.py leaves it, and as a release has it, wherever that is unpacked."""
+    if not shutil.which("pkg-config"):
+        return print("pc: no pkg-config, left out")
+    built, installed = programs.room / "built", programs.room / "installed"
+    shutil.copytree(TOP / "include", installed / "include")
+    texts = {built: build_judge.pkg_config("${pcfiledir}", TOP / "include").encode(), installed / "lib/pkgconfig": release.installed_pc()}
+    for folder, text in texts.items():
+        folder.mkdir(parents=True)
+        (folder / build_judge.PC_FILE).write_bytes(text)
+    for folder in (built, installed / "lib"):
+        shutil.copyfile(options.archive, folder / build_judge.ARCHIVE)
+    for folder in texts:
+        env = {**os.environ, "PKG_CONFIG_PATH": str(folder)}
+        said = subprocess.run(["pkg-config", "--cflags", "--libs", "g1judge"], capture_output=True, text=True, env=env)
+        tally.expect(f"pc: {folder.name}", (said.returncode, said.stderr), (0, ""))
+        made = programs.room / "by_pc"
+        subprocess.run([*shlex.split(os.environ.get("CC", "cc")), "-std=c11", "-pthread", *sorted((TOP / "examples/vm").glob("*.c")),
+                        *shlex.split(said.stdout), "-o", made], check=True)
+        ran = subprocess.run([made, "3"], capture_output=True, text=True, env={**os.environ, "VM_DEBUG": "1"})
+        tally.expect(f"pc: vm of {folder.name}", (ran.returncode, ran.stdout), (0, "vm: 3 collections, error taken 0 times, no difference\n"))
+    print("pc: 2 places")
 
 
 def check_mark(tally, programs, options):
@@ -319,6 +350,36 @@ def check_each(tally, programs, options):
     shutil.rmtree(each)
 
 
+def rule_by_heap(heap, file):
+    """The line that g1heap writes behind a fault of a file, or nothing."""
+    for words in (("print", file), ("same", "--covered", file, file)):
+        ran = subprocess.run([heap, *words], capture_output=True, text=True)
+        lines = ran.stderr.splitlines()
+        if lines:
+            return lines[1].removeprefix("g1heap: ") if len(lines) > 1 else ""
+    return ""
+
+
+def check_broken(tally, programs, options):
+    """Which rule an image breaks, in the words of g1heap."""
+    rng = random.Random(options.seed + 8)
+    room = programs.room / "broken"
+    room.mkdir()
+    texts = [file.read_bytes() for file in examples()] + list(damaged(rng, options.graphs // 2))
+    files = [room / str(i) for i in range(len(texts))]
+    for file, text in zip(files, texts):
+        file.write_bytes(text)
+    rules = [rule_by_heap(options.heap, file) for file in files]
+    for name in ("test", "test_checked"):
+        lines = programs.lines(tally, name, "broken", *files)
+        tally.count(f"{name}: answers of g1_broken", len(texts), differing(lines[::2], [by_text(text, True) for text in texts]))
+        wrong = [pair_ for pair_ in zip(lines[1::2], rules) if pair_[0] != pair_[1]]
+        tally.count(f"{name}: rules", len(rules), len(wrong) + abs(len(lines) - 2 * len(rules)), "".join(f"\n  {case}" for case in wrong[:3]))
+    tally.expect("rules", len(set(rules)) > 20, True)
+    print(f"broken: {len(texts)} images, {sum(map(bool, rules))} with a rule that they break")
+    shutil.rmtree(room)
+
+
 def sets_of(image, rng):
     """No region, each one, one that is not there, one twice, and some twos."""
     regions = range(image.regions)
@@ -373,7 +434,7 @@ def check_kept(tally, programs, options):
         whose = next((which for which, fault in enumerate(faults) if fault), None)
         wanted = by_rule(*map(from_bytes, texts), chosen) if whose is None else [3] + of_fault(whose + 1, faults[whose])
         by_heap_too = wanted
-        if whose is None:  # g1heap leaves out regions that were free
+        if whose is None and len(set(chosen)) == len(chosen):  # g1heap leaves out regions that were free
             kinds = good[a].kinds if a in good else from_bytes(texts[0]).kinds
             by_heap_too = by_rule(*map(from_bytes, texts), [r for r in chosen if r >= len(kinds) or kinds[r] != FREE])
         if chosen and not agrees(options.heap, a, b, chosen, by_heap_too):
@@ -390,6 +451,206 @@ def check_kept(tally, programs, options):
     statuses = {s: sum(e[0] == s for e in expected) for s in (0, 1, 3, 5)}
     print(f"kept: {from_examples} pairs and sets of examples, {len(cases) - from_examples} of collections, by status {statuses}")
     shutil.rmtree(room)
+
+
+# ---- lines of answers
+
+
+def line_by_heap(heap, before, after, *words):
+    """The line that g1heap prints of two files: on standard output, or a fault, with the image that has it in the place of its
+    file. Where the call refuses a second text that `g1heap same` compares, its fault."""
+    ran = subprocess.run([heap, "same", before, after, *words], capture_output=True, text=True)
+    refusal = ran.stderr
+    if ran.returncode == 1 and ran.stdout.startswith("differ"):
+        refusal = subprocess.run([heap, "print", "--summary", after], capture_output=True, text=True).stderr
+    found = re.match(r"g1heap: (.*): (fault .*)\n", refusal)
+    if found:
+        return f"{'before' if ran.stderr and found[1] == str(before) else 'after'}: {found[2]}"
+    return ran.stdout.rstrip("\n").split("\n")[-1]
+
+
+def map_of(image):
+    """The names that judge/test.c has for an image, as a map for `g1heap same --names`."""
+    out = [f"root {root} r{root}\n" for root in range(0, len(image.roots), 2)]
+    out += ["type T slots s0 s1 a[] data d0\n"]
+    out += [f"object {at} T{'' if at % 4 else ' note'}\n" for at in image.objects() if at % 2 == 0]
+    return "".join(out)
+
+
+def cut_path(line, room):
+    """The line of a path of which the caller has only so many slots."""
+    found = re.fullmatch(r"(differ \w+ at root \d+)((?: slot \d+)+)(: .*)", line)
+    slots = re.findall(r" slot \d+", found[2]) if found else []
+    if len(slots) <= room:
+        return line
+    return f"{found[1]}{''.join(slots[:room])} and {len(slots) - room} slots more{found[3]}"
+
+
+def list_pair(rng, steps):
+    """Two images of a list whose steps go by one slot several times, and then by another, with an error at its end."""
+    graph = Graph(rng, 0)
+    graph.pointers, words = list(range(1, steps + 2)), rng.choice((1, 1, 2))
+    path = [slot for _ in range(steps) for slot in [rng.randrange(3)] * rng.choice((1, 2, 3, 4, 9))][:steps]
+    graph.slots = {p: [p + 1 if slot == step else NULL for slot in range(3)] for p, step in zip(graph.pointers, path)}
+    graph.slots[steps + 1] = [NULL] * 3
+    graph.data = {p: [0] * (4 * words) for p in graph.pointers}
+    graph.roots = [NULL] * rng.randrange(2) + [1]
+    before = graph.image(rng, 64)
+    graph.data[steps + 1][-1] = 7
+    return before.to_bytes(), graph.image(rng, 64).to_bytes()
+
+
+def sets_of_examples(options):
+    """The pairs of examples that show one graph, with each region that is not free."""
+    for a in examples():
+        for b in examples():
+            if subprocess.run([options.heap, "same", a, b], stdout=subprocess.DEVNULL, stderr=subprocess.DEVNULL).returncode == 0:
+                kinds = from_bytes(a.read_bytes()).kinds
+                yield from ((a, b, (region,)) for region, kind in enumerate(kinds) if kind != FREE)
+
+
+def other_root():
+    """A heap with two equal objects and a region that is freed, and the same with the root at the other object."""
+    before, after = Image(16, 16, 2), Image(16, 16, 2)
+    for image, root in ((before, 1), (after, 3)):
+        image.kinds[0], image.tops[0], image.roots = ORDINARY, 4, [root]
+        image.words[:4] = [2 << 32, 7] * 2
+    before.kinds[1], before.tops[1] = ORDINARY, 2
+    before.words[16:18] = [2 << 32, 9]
+    return before.to_bytes(), after.to_bytes()
+
+
+def line_cases(options, room, rng):
+    """Pairs of files, each with a set or none: examples, graphs with an error, collections with one."""
+    for i, steps in enumerate((1, 2, 3, 4, 5, 30, 100, 200, 300, 400, 1000)):
+        files = room / f"{i}list", room / f"{i}list_after"
+        for file, data in zip(files, list_pair(rng, steps)):
+            file.write_bytes(data)
+        yield *files, ()
+    yield from ((a, b, ()) for a in examples() for b in examples())
+    yield from sets_of_examples(options)
+    files = room / "root", room / "root_after"
+    for file, data in zip(files, other_root()):
+        file.write_bytes(data)
+    yield *files, (1,)
+    for i in range(options.graphs // 2):
+        files = room / f"{i}a", room / f"{i}b"
+        for file, data in zip(files, pair(rng, rng.choice((3, 10, 40, 150)), ERRORS[i % len(ERRORS)])):
+            file.write_bytes(data)
+        yield *files, ()
+    for before, after, chosen in collected(rng, room, max(3, options.graphs // 100)):
+        yield before, after, tuple(chosen)
+
+
+def expected_lines(options, room, cases):
+    """For each case the line of addresses, and the one in names."""
+    for a, b, chosen in cases:
+        sets = ["--set", ",".join(map(str, chosen))] if chosen else []
+        plain = line_by_heap(options.heap, a, b, *sets)
+        if chosen and not losses.of_line(plain) and plain != "kept" and "fault" not in plain:
+            continue  # g1heap compares graphs first, and g1_kept does not
+        named = plain
+        if not chosen and "fault" not in plain:
+            (room / "map").write_text(map_of(from_bytes(a.read_bytes())))
+            named = line_by_heap(options.heap, a, b, "--names", room / "map")
+        yield (a, b, chosen), plain, named
+
+
+def check_lines(tally, programs, options):
+    rng = random.Random(options.seed + 6)
+    room = programs.room / "lines"
+    room.mkdir()
+    found = list(expected_lines(options, room, line_cases(options, room, rng)))
+    listed = "".join(" ".join(map(str, (programs.name(a), programs.name(b), *chosen))) + "\n" for (a, b, chosen), _, _ in found)
+    plain = ["same objects 0 words 0" if line == "kept" else line for _, line, _ in found]
+    named = ["same objects 0 words 0" if line == "kept" else line for _, _, line in found]
+    for name in ("test", "test_checked"):
+        for how, most, wanted in (("plain", 4096, plain), ("plain", 2, [cut_path(line, 2) for line in plain]), ("named", 4096, named)):
+            said = programs.lines(tally, name, "lines", how, most, text=listed)
+            wrong = [(*pair_, case[0]) for *pair_, case in zip(said, wanted, found) if pair_[0] != pair_[1]]
+            tally.count(f"{name}: lines {how} {most}", len(wanted), len(wrong) + abs(len(said) - len(wanted)),
+                        "".join(f"\n  {case}" for case in wrong[:3]))
+    kinds = {" ".join(line.split()[:2]) for line in plain}
+    for word in ("roots:", "null", "split", "joined", "size", "slots", "data", "sizes:", "region", "root", "object"):
+        tally.expect(f"lines of {word}", f"differ {word}" in kinds, True)
+    long = sum(" steps .." in line for line in named)
+    tally.expect("lines with many steps, and with steps that repeat", long > 2 and sum(" x " in line for line in named) > 4, True)
+    print(f"lines: {len(found)} pairs and sets, {sum(' x ' in line for line in named)} with a step that repeats, {long} with steps left out")
+    shutil.rmtree(room)
+    check_told(tally, programs, options)
+
+
+def moved(rng, graph, stay):
+    """The graph with other pointers for its objects, except for some."""
+    new = {p: p if rng.random() < stay else rng.randrange(1 << 48, 1 << 49) for p in graph.pointers}
+    graph.pointers = [new[p] for p in graph.pointers]
+    graph.slots = {new[p]: [new.get(q, q) for q in slots] for p, slots in graph.slots.items() if p in new}
+    graph.data = {new[p]: data for p, data in graph.data.items() if p in new}
+    graph.roots = [new.get(p, p) for p in graph.roots]
+
+
+def graph_lines(graph):
+    """The graph as lines of objects by name, which are its pointers."""
+    name = lambda p: f"{p:#x}" if p else "-"
+    out = ["graph", *(f"root {name(p)}" for p in graph.roots)]
+    for p in graph.pointers:
+        out.append(" ".join(["object", name(p), f"{graph.size(p)}/{len(graph.slots[p])}", *map(name, graph.slots[p]), *map(str, graph.data[p])]))
+    return "\n".join(out) + "\n"
+
+
+def told_pair(rng, error):
+    """Two graphs, each as lines of the writer and as lines by name, the second moved and with an error."""
+    graph = Graph(rng, rng.choice((3, 10, 40)), most_words=6)
+    chain = rng.sample(graph.pointers, rng.randint(1, len(graph.pointers)))
+    for p, q in zip(chain, chain[1:]):
+        graph.slots[p].insert(rng.randint(0, len(graph.slots[p])), q)
+    graph.roots.insert(rng.randint(0, len(graph.roots)), chain[0])
+    change = plant(rng, graph, chain[-1], error)
+    texts = []
+    for is_after in (False, True):
+        if is_after:
+            change()
+            old = {p: list(slots) for p, slots in graph.slots.items()}, list(graph.roots), list(graph.pointers)
+            moved(rng, graph, 0.3)
+            make_stale(rng, graph, error, *old)
+        graph.bytes = {p: 8 * len(graph.data[p]) for p in graph.pointers}
+        texts.append((graph.lines(rng, 64, "-", stale=is_after), graph_lines(graph)))
+    return texts
+
+
+def make_stale(rng, graph, error, slots, roots, pointers):
+    """Leaves a root or a slot as it was before all moved, or writes a pointer that never was one."""
+    if error == "stale root":
+        graph.roots[-1] = rng.choice((roots[-1], 3))
+    if error == "stale slot":
+        p, now = rng.choice([pair_ for pair_ in zip(pointers, graph.pointers)])
+        if slots[p]:
+            at = rng.randrange(len(slots[p]))
+            graph.slots[now][at] = rng.choice((slots[p][at], 3))
+
+
+def check_told(tally, programs, options):
+    """Lines in pointers: those of g1heap for the same objects by name. A word that references no object is a fault of the call,
+    while `g1heap same` compares it."""
+    rng = random.Random(options.seed + 7)
+    texts, expected = [], []
+    for i in range(options.graphs // 4):
+        two = told_pair(rng, ERRORS[i % len(ERRORS)])
+        texts += [lines for lines, _ in two]
+        files = programs.room / "told_a", programs.room / "told_b"
+        for file, (_, lines) in zip(files, two):
+            file.write_text(lines)
+        ran = subprocess.run([options.heap, "same", *files], capture_output=True, text=True)
+        made = subprocess.run([options.heap, "make", files[1]], capture_output=True)
+        expected.append("after: fault 7" if made.returncode else ran.stdout.rstrip("\n"))
+    for name in ("test", "test_checked"):
+        said = programs.lines(tally, name, "told", text="".join(texts))
+        wrong = [(line, wanted) for line, wanted in zip(said, expected)
+                 if line != wanted and not (wanted == "after: fault 7" and line.startswith("after: fault 7: reference in "))]
+        tally.count(f"{name}: lines in pointers", len(expected), len(wrong) + abs(len(said) - len(expected)),
+                    "".join(f"\n  {case}" for case in wrong[:3]))
+    kinds = {" ".join(line.split()[:2]) for line in expected}
+    print(f"lines: {len(expected)} pairs in pointers: {', '.join(sorted(kinds))}")
 
 
 def check_null(tally, programs, options):
@@ -673,13 +934,22 @@ def check_writer(tally, programs, options):
         print(f"writer: 1000000 objects of {words} words: {best:.3f} s, {int(memory) / int(length):.2f} times the image; judge {judged} s")
 
 
+VM_LINES = {  # by error
+    "slot": r"after: fault 7: reference in (root \d+|slot \d+, which is slot \d+ of object 0x[0-9a-f]+): "
+            r"it is 0x[0-9a-f]+, which no object has",
+    "twice": r"differ split at root \d+( slot \d+| x \d+)*: object (0x[0-9a-f]+) before, object 0x[0-9a-f]+ after; "
+             r"\2 before is 0x[0-9a-f]+ after on an earlier path",
+    "torn": r"differ data at root \d+( slot \d+| x \d+)*: object 0x[0-9a-f]+ before, object 0x[0-9a-f]+ after; "
+            r"data word \d+ is \d+ \(0x[0-9a-f]+\) before, \d+ \(0x[0-9a-f]+\) after",
+}
+
+
 def check_vm(tally, programs, options):
     for name, collections in (("vm", 60), ("vm_checked", 10)):
         for seed in range(options.runs):
             ran = programs.run(name, collections, seed, env={"VM_DEBUG": "1"})
             tally.expect(f"{name} {seed}: no error", (ran.returncode, ran.stderr), (0, ""))
-    endings = {"slot": ("stale", "which is no object's"), "twice": ("split", "one object is two"), "torn": ("data", "data word")}
-    for bug, (kind, detail) in endings.items():
+    for bug, form in VM_LINES.items():
         happened = found = seed = 0
         while happened < options.runs and seed < 20 * options.runs:
             seed += 1
@@ -687,7 +957,7 @@ def check_vm(tally, programs, options):
             times = int(re.search(r"error taken (\d+) times", ran.stdout)[1])
             happened += times > 0
             if times:
-                said = re.search(rf"collection \d+: {kind}\n  root \d+.*0x[0-9a-f]+", ran.stdout) and detail in ran.stdout
+                said = re.match(rf"vm: collection \d+: {form}\n", ran.stdout)
                 found += ran.returncode == 1 and bool(said)
                 if ran.returncode != 1 or not said:
                     print(f"not found: VM_BUG={bug} seed {seed}: status {ran.returncode}\n{ran.stdout}{ran.stderr[-1500:]}")
@@ -733,14 +1003,16 @@ def check_rust(tally, programs, options):
 
 def check_page(tally, programs, options):
     """docs/LINK.md with the commands that need the archive, in a fresh copy of the checkout."""
-    if not shutil.which("cargo"):
-        return print("page: no cargo, left out")
+    missing = [name for name in ("cargo", "pkg-config") if not shutil.which(name)]
+    if missing:
+        return print(f"page: no {missing[0]}, left out")
     plain = check_pages.copy_of
 
     def with_archive(checkout, target, built):
         plain(checkout, target, built)
         (target / "judge/out").mkdir(parents=True)
         shutil.copyfile(options.archive, target / "judge/out/libg1judge.a")
+        (target / "judge/out/g1judge.pc").write_text(build_judge.pkg_config("${pcfiledir}", target / "include"))
 
     check_pages.copy_of = with_archive
     text = re.sub(r"<!-- not run: it needs the archive.*? -->\n", "\n", (TOP / "docs/LINK.md").read_text())
@@ -749,7 +1021,7 @@ def check_page(tally, programs, options):
     print(f"page: {steps} commands")
 
 
-CHECKS = {"headers": check_headers, "mark": check_mark, "calls": check_calls, "kept": check_kept, "null": check_null, "threads": check_threads,
+CHECKS = {"headers": check_headers, "pc": check_pc, "mark": check_mark, "calls": check_calls, "broken": check_broken, "kept": check_kept, "lines": check_lines, "null": check_null, "threads": check_threads,
           "refuse": check_refuse, "writer": check_writer, "vm": check_vm, "rust": check_rust, "page": check_page}
 
 

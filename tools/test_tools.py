@@ -602,7 +602,7 @@ class Installing(unittest.TestCase):
 
     def make_release(self):
         texts = ("include/g1judge.h", "lib/libg1judge.a", "lib/debug/g1pause.debug", "share/doc/g1pause/docs/USE.md",
-                 "share/man/man1/g1pause.1")
+                 "share/man/man1/g1pause.1", "lib/pkgconfig/g1judge.pc", "RELEASE")
         files = {**{f"bin/{name}": self.PROGRAM for name in stamp.PROGRAMS}, **{name: b"a text\n" for name in texts}}
         files.update({name: (TOP / name).read_bytes() for name in ("install.sh", "uninstall.sh")})
         packed = release.packed(release.with_lists(files), "release", self.YEAR_2001)
@@ -623,6 +623,7 @@ class Installing(unittest.TestCase):
                 self.run_shell(self.room / second / "install.sh")
                 listed = (self.prefix / "share/g1pause/files").read_text().split()
                 self.assertEqual(self.installed(), {*listed, "share/g1pause/folders"})
+                self.assertEqual("share/g1pause/RELEASE" in listed, second == "release")
                 self.run_shell(self.prefix / "share/g1pause/uninstall.sh")
                 self.assertFalse(self.prefix.exists())
 
