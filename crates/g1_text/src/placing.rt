@@ -16,32 +16,36 @@ pub(crate) struct Entry<'a> {
 
 const CARD_WORDS: u64 = 64;
 
-// The words that a region may have, and how many such regions a heap has at most.
-const SIZES: [(u64, u64); 5] = [
-    (4096, 4096),
-    (8192, 2048),
-    (16_384, 1024),
-    (32_768, 512),
-    (65_536, 256),
-];
+// A heap of smaller regions never has the most words.
+const LEAST_REGION_WORDS: u64 = 4096;
+
+/// The heap of the most regions of this many words, each limit being a power of two.
+fn widest(region_words: u64) -> Option<Geometry> {
+    let mut widest = None;
+    for doublings in 0..u64::BITS {
+        match Geometry::new(region_words, CARD_WORDS, 1 << doublings) {
+            Ok(wider) => widest = Some(wider),
+            Err(_) => break,
+        }
+    }
+    widest
+}
 
 /// The sizes of a heap for these objects: the smallest regions of which half stay free, or else the smallest ones that
 /// are enough.
 pub(crate) fn choose_sizes(entries: &[Entry<'_>]) -> Result<Geometry, Expected> {
     let mut enough = None;
-    for (region_words, most) in SIZES {
-        let Ok(widest) = Geometry::new(region_words, CARD_WORDS, most) else {
-            continue;
+    for doublings in 0..u64::BITS {
+        let region_words = LEAST_REGION_WORDS << doublings;
+        let Some(widest) = widest(region_words) else {
+            break;
         };
         let needed = regions_needed(&widest, entries);
         let roomy = needed.saturating_mul(2).max(2);
-        if roomy <= most {
-            return match Geometry::new(region_words, CARD_WORDS, roomy) {
-                Ok(geometry) => Ok(geometry),
-                Err(_) => Err(Expected::Sizes),
-            };
+        if roomy <= widest.regions() {
+            return Geometry::new(region_words, CARD_WORDS, roomy).map_err(|_| Expected::Sizes);
         }
-        if needed <= most && enough.is_none() {
+        if needed <= widest.regions() && enough.is_none() {
             enough = Some(widest);
         }
     }

@@ -159,10 +159,14 @@ fn take_line<T: Threads + Sync + Files>(
     state: &mut State,
 ) -> Result<(), Refusal> {
     let content = content_of(job.alloc, job.trace, line, number)?;
-    let outcome = if job.trace.explain {
+    let explained = if job.trace.explain {
         take_explained(job, content, state)?
     } else {
-        take(job, content, &mut state.session)
+        None
+    };
+    let outcome = match explained {
+        Some(reply) => Ok(Taken::Reply(reply)),
+        None => take(job, content, &mut state.session),
     };
     match outcome {
         Ok(Taken::Nothing) => Ok(()),
@@ -229,23 +233,23 @@ fn push_numbered(
     Ok(())
 }
 
-// Does a line. The lines of the pause that it asks for come before the reply: the pause that is explained is the
-// one that is carried out.
+// Does the pause that a line asks for, if it does. The lines that explain it come before the reply: the pause that is
+// explained is the one that is carried out.
 fn take_explained<T: Threads + Sync + Files>(
     job: &Job<'_, T>,
     line: &[u8],
     state: &mut State,
-) -> Result<Result<Taken, Wrong>, Refusal> {
+) -> Result<Option<Reply>, Refusal> {
     let session = mem::replace(&mut state.session, Session::new());
     let Some((budget, tracked)) = session.asked_pause(line) else {
         state.session = session;
-        return Ok(take(job, line, &mut state.session));
+        return Ok(None);
     };
     let settings = settings_with(job.trace, budget)?;
     let steps = explained_steps(job, tracked, &settings, &mut state.replies)?;
     let (session, reply) = session.carry_out_pause(job.rt, &settings, steps);
     state.session = session;
-    Ok(Ok(Taken::Reply(reply)))
+    Ok(Some(reply))
 }
 
 // The steps of the pause of an image, whose lines are added to the replies.

@@ -4,7 +4,7 @@ use Rattle.g1_trace.specs.Mutator.{IsStep}
 use Rattle.g1_trace.specs.TraceText.{command_line}
 use Rattle.g1_trace.proofs.Texts.{shorter}
 use Rattle.g1_trace.proofs.Tellings.{so_far_start, so_far_answered, so_far_end, so_far_refused}
-use Rattle.g1_trace.proofs.telling.run_text.Goals as goal
+use Rattle.g1_trace.proofs.running.run_text.Goals as goal
 
 pub loop-rest-init : goal.loop-rest-init
 loop-rest-init g c = so_far_start c.args.cost.now c.args.bytes.now c.in_ok-mutator.mutator c.in_ok-mutator.rest.now c.new-text.result.items

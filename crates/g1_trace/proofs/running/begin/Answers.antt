@@ -2,7 +2,7 @@ use Rattle.std.proofs.Common.{◌≡◌, inl, inr, refl, sym, ◌∙◌}
 use Rattle.g1_words.specs.declared.fault.Fault.TheVariants.{Memory, Geometry as Outside}
 use Rattle.g1_trace.proofs.Texts.{bad_first}
 use Rattle.g1_trace.proofs.Tellings.{begins}
-use Rattle.g1_trace.proofs.telling.begin.Goals as goal
+use Rattle.g1_trace.proofs.running.begin.Goals as goal
 
 pub returns-in_default-first_line-clause-refused : goal.returns-in_default-first_line-clause-refused
 returns-in_default-first_line-clause-refused c = inr (inl (

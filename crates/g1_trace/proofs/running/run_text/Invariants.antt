@@ -1,6 +1,6 @@
 use Rattle.std.proofs.Common.{length}
 use Rattle.g1_trace.proofs.Tellings.{IsSoFar}
-use Rattle.g1_trace.proofs.telling.run_text.Given as goal
+use Rattle.g1_trace.proofs.running.run_text.Given as goal
 
 abbrev pub decreases-loop-rest : goal.decreases-loop-rest
 decreases-loop-rest g l = length l.rest
