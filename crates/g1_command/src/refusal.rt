@@ -1,9 +1,14 @@
 //! Why a request is not answered, and its exit status.
+ghost use Rattle.std.specs.Prelude.{◌≡◌, OnOk};
+ghost use Rattle.std.specs.Io.KnownBytes.{Appends};
+ghost use Rattle.g1_command.specs.Refusals.{refusal_text, status_of_refusal};
+
 use arrayvec::ArrayString;
 use g1_words::Fault;
 use std::alloc::{AllocError, AllocFailed};
 use std::fmt::Write as _;
-use std::io::Write;
+use std::io;
+use std::io::{ErrorKind, Write};
 
 /// Why a request is not answered.
 #[derive(Debug, Drop)]
@@ -43,21 +48,36 @@ impl<T: Drop> From<AllocFailed<T>> for Refusal {
 // is no request for memory, so that a want of memory can be told.
 const LINE: usize = 128;
 
-/// Reports a refusal in one write, and returns its exit status. The line of a fault
-/// begins with the program's name, which has at most 40 bytes.
-pub fn refuse<E: Write>(program: &str, refusal: &Refusal, errors: &mut E) -> u8 {
-    // The status tells the refusal even where its text cannot be written.
+/// Writes what is reported of a refusal, in one write. The line of a fault begins with the program's
+/// name.
+///
+/// # Errors
+///
+/// That of the write. A beginning of the text may be written then.
+pub fn report<E: Write>(program: &str, refusal: &Refusal, errors: &mut E) -> io::Result<()>
+    ensures { OnOk result (Appends (E.contents errors.old) (E.contents errors.new) (refusal_text program.now refusal.now)) }
+{
     match refusal {
-        Refusal::Told { status, text } => {
-            let _ = errors.write_all(text.as_bytes());
-            *status
-        }
+        Refusal::Told { text, .. } => errors.write_all(text.as_bytes()),
         Refusal::Fault(fault) => {
             let number = fault.number();
             let mut line = ArrayString::<LINE>::new();
-            let _ = writeln!(line, "{program}: fault {number}: {fault}");
-            let _ = errors.write_all(line.as_bytes());
-            fault.status()
+            match writeln!(line, "{program}: fault {number}: {fault}") {
+                Ok(()) => errors.write_all(line.as_bytes()),
+                // It has room if the name has at most 40 bytes.
+                Err(_) => Err(io::Error::from(ErrorKind::WriteZero)),
+            }
         }
+    }
+}
+
+/// Reports a refusal, and returns its exit status, also if nothing can be written.
+pub fn refuse<E: Write>(program: &str, refusal: &Refusal, errors: &mut E) -> u8
+    ensures { result ≡ status_of_refusal refusal.now }
+{
+    let _ = report(program, refusal, errors);
+    match refusal {
+        Refusal::Told { status, .. } => *status,
+        Refusal::Fault(fault) => fault.status(),
     }
 }

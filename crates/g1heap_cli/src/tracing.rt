@@ -103,7 +103,10 @@ fn answer_all<T: Threads + Sync + Files, R: Read, W: Write>(
         if !read_line(job.alloc, job.trace, input)? {
             break;
         }
-        take_line(job, input.line.as_slice(), input.number, state)?;
+        let explained = job.trace.explain && explain_line(job, input.line.as_slice(), state)?;
+        if !explained {
+            take_line(job, input.line.as_slice(), input.number, state)?;
+        }
         if job.trace.live {
             let status = write_all(job, state, writer)?;
             if status != 0 {
@@ -159,16 +162,7 @@ fn take_line<T: Threads + Sync + Files>(
     state: &mut State,
 ) -> Result<(), Refusal> {
     let content = content_of(job.alloc, job.trace, line, number)?;
-    let explained = if job.trace.explain {
-        take_explained(job, content, state)?
-    } else {
-        None
-    };
-    let outcome = match explained {
-        Some(reply) => Ok(Taken::Reply(reply)),
-        None => take(job, content, &mut state.session),
-    };
-    match outcome {
+    match take(job, content, &mut state.session) {
         Ok(Taken::Nothing) => Ok(()),
         Ok(Taken::Reply(reply)) => add_reply(job.alloc, job.trace, reply, state),
         Err(Wrong::Line(expected)) if content.ends_with(b"\r") => {
@@ -231,6 +225,24 @@ fn push_numbered(
     }
     push_reply(replies, reply)?;
     Ok(())
+}
+
+// Does the pause that a line asks for, and adds what it is answered. Returns whether the line asks for one.
+fn explain_line<T: Threads + Sync + Files>(
+    job: &Job<'_, T>,
+    line: &[u8],
+    state: &mut State,
+) -> Result<bool, Refusal> {
+    let Some((b'\n', content)) = line.split_last() else {
+        return Ok(false);
+    };
+    match take_explained(job, content, state)? {
+        Some(reply) => {
+            add_reply(job.alloc, job.trace, reply, state)?;
+            Ok(true)
+        }
+        None => Ok(false),
+    }
 }
 
 // Does the pause that a line asks for, if it does. The lines that explain it come before the reply: the pause that is
