@@ -1,4 +1,5 @@
 pub mod Numbers
+pub mod NumberLists
 pub mod PrefixFree
 pub mod Used
 pub mod Images

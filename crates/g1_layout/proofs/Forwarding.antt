@@ -1,56 +1,97 @@
 -- The table of new addresses, as it is written.
-use Rattle.std.proofs.Common.{◌≡◌, ◌≢◌, ℕ, zero, suc, ◌+◌, ◌<◌, Bool, true, false, cond, List, [], ◌∷◌, Option, Some, None, AllPairs, length, get_or, set, take, refl, sym, ◌∙◌, ap, arith}
-use Rattle.std.proofs.Common.{eqb, eqb-true, eq-eqb, ne_eqb}
-use Rattle.std.proofs.lemmas.Bool.{false≢true}
-use Rattle.std.proofs.lemmas.List.{get_or-set_same, get_or-set_other, length-set}
+use Rattle.std.proofs.Common.{◌≡◌, ◌≢◌, ℕ, zero, suc, ◌+◌, ◌<◌, Bool, true, false, cond, List, [], ◌∷◌, Option, Some, None, AllPairs, All, inl, inr, length, get_or, set, refl, sym, ◌∙◌, ap, arith}
+use Rattle.std.proofs.Common.{eq-eqb, ne_eqb}
+use Rattle.std.proofs.lemmas.Bool.{false≢true, cases_eq}
+use Rattle.std.proofs.lemmas.List.{get_or-set_same, get_or-set_other, get_or_default}
 use Rattle.g1_words.specs.Layout.{moved_to}
-use Rattle.g1_layout.specs.Words.{IsTable, index_of, goes_to, told, told_at}
+use Rattle.g1_words.proofs.Members.{In, Contains-from_in}
+use Rattle.g1_words.proofs.OneToOne.{moved_stays}
+use Rattle.g1_layout.specs.Numbers.{number_at, number_if, number_of}
+use Rattle.g1_layout.specs.Words.{AreIndices, AreMarkedTo, ArePlacedTo, HasIndex, index_of, goes_to, told, told_at}
+use Rattle.g1_layout.proofs.Numbering.{number_apart, number_rises}
 
-eqb_cases : (x y : ℕ) → (b : Bool) → eqb x y ≡ b → (x ≢ y → eqb x y ≡ false)
-eqb_cases x y b e f = ne_eqb x y f
+-- of two places of a list without repetition the values differ
+apart : (l : List ℕ) (k i : ℕ) → AllPairs (λ a b. a ≢ b) l → k < i → i < length l → get_or l k 0 ≢ get_or l i 0
+apart l k i d lt within = d k i 0 lt within
 
-module _ (w : ℕ) (positions : List (Option ℕ)) (words : List ℕ) (table : IsTable w positions words) (x i y : ℕ) (at : index_of w positions x ≡ Some i) where
-  written : (a : ℕ) (m : Option ℕ) → index_of w positions a ≡ m → (b : Bool) → eqb x a ≡ b → told_at m (set words i (y + 1)) a ≡ cond b y (told_at m words a)
-  written a None e true f = let k : None ≡ Some i = sym e ∙ ap (index_of w positions) (sym (eqb-true x a f)) ∙ at in cc
-  written a None e false f = refl
-  written a (Some j) e true f =
-      let k : Some j ≡ Some i = sym e ∙ ap (index_of w positions) (sym (eqb-true x a f)) ∙ at in
-      let same : j ≡ i = cc in
-      let n : y + 1 ≡ suc y = omega arith in
-      ap (λ word. told word a) (ap (λ n. get_or (set words i (y + 1)) n 0) same ∙ get_or-set_same words i (y + 1) 0 (table.within x i at) ∙ n)
-  written a (Some j) e false f =
-      ap (λ word. told word a) (get_or-set_other words i j (y + 1) 0 (λ same. false≢true (sym f ∙ eq-eqb x a (table.one_to_one x a i at (e ∙ ap (λ n. Some n) same)))))
+-- a survivor's place is its own
+moved_there : (l ps : List ℕ) (k : ℕ) → AllPairs (λ a b. a ≢ b) l → k < length l → length ps ≡ length l → moved_to l ps (get_or l k 0) ≡ get_or ps k 0
+moved_there [] ps k d lt same = absurd (omega (arith, lt))
+moved_there (x ∷ l) [] k d lt same = absurd (omega (arith, same))
+moved_there (x ∷ l) (p ∷ ps) zero d lt same = ap (λ b. cond b p (moved_to l ps x)) (eq-eqb x x refl)
+moved_there (x ∷ l) (p ∷ ps) (suc k) d lt same =
+    ap (λ b. cond b p (moved_to l ps (get_or l k 0))) (ne_eqb x (get_or l k 0) (d 0 (suc k) 0 (omega arith) (omega (arith, lt))))
+    ∙ moved_there l ps k (λ i j e less within. d (suc i) (suc j) e (omega (arith, less)) (omega (arith, within))) (omega (arith, lt)) (omega (arith, same))
 
-  -- a table with a place written at one address tells it there, and the same as before elsewhere
-  pub goes_to-set : (a : ℕ) → goes_to w positions (set words i (y + 1)) a ≡ cond (eqb x a) y (goes_to w positions words a)
-  goes_to-set a = written a (index_of w positions a) refl (eqb x a) refl
+module _ (w : ℕ) (positions : List (Option ℕ)) (l : List ℕ) (marks : List Bool) (indices : AreIndices w positions (length marks)) (m : AreMarkedTo w positions l (length l) marks)
+    (ps : List ℕ) where
+  -- the number of a survivor's mark is below the count
+  pub number_inside : (k j : ℕ) → k < length l → index_of w positions (get_or l k 0) ≡ Some j → number_at marks j < number_at marks (length marks)
+  number_inside k j lt e = let inside = indices.within (get_or l k 0) j e in number_rises marks j (length marks) inside inside (m.each k j lt e)
 
-  pub table_stays : IsTable w positions (set words i (y + 1))
-  table_stays = record { one_to_one = table.one_to_one; within = λ a j e. let k = table.within a j e in let same : length (set words i (y + 1)) ≡ length words = simp length-set in omega arith }
+  -- one place more is written
+  pub placed_more : (n j : ℕ) (by : List ℕ) (y : ℕ) → AllPairs (λ a b. a ≢ b) l → n < length l → length by ≡ number_at marks (length marks) → index_of w positions (get_or l n 0) ≡ Some j → y ≡ get_or ps n 0
+      → ArePlacedTo w positions marks l ps n by → ArePlacedTo w positions marks l ps (n + 1) (set by (number_at marks j) y)
+  placed_more n j by y d lt long at is so k i less e = elim (cases_eq k n) [
+    | inl same ↦
+        let one : Some i ≡ Some j = sym e ∙ ap (λ x. index_of w positions (get_or l x 0)) same ∙ at in
+        let index : i ≡ j = cc in
+        ap (λ x. get_or (set by (number_at marks j) y) (number_at marks x) 0) index
+        ∙ get_or-set_same by (number_at marks j) y 0 (omega (arith, long, number_inside n j lt at)) ∙ is ∙ ap (λ x. get_or ps x 0) (sym same)
+    | inr other ↦
+        let before : k < n = omega (arith, less, other) in
+        let number : number_at marks i ≢ number_at marks j = λ same.
+        let index : i ≡ j = number_apart marks i j (indices.within (get_or l k 0) i e) (indices.within (get_or l n 0) j at)
+        (m.each k i (omega (arith, before, lt)) e) (m.each n j lt at) same in
+        apart l k n d before lt (indices.one_to_one (get_or l k 0) (get_or l n 0) j (e ∙ ap (λ x. Some x) index) at) in
+        get_or-set_other by (number_at marks j) (number_at marks i) y 0 number ∙ so k i before e
+  ]
 
-apart : (a x y p q m : ℕ) (b c : Bool) → eqb x a ≡ b → eqb y a ≡ c → x ≢ y → cond b p (cond c q m) ≡ cond c q (cond b p m)
-apart a x y p q m true true e f n = absurd (n (eqb-true x a e ∙ sym (eqb-true y a f)))
-apart a x y p q m true false e f n = refl
-apart a x y p q m false true e f n = refl
-apart a x y p q m false false e f n = refl
+  -- with all places written, the table tells where each address goes
+  pub goes_where_moved : (by : List ℕ) → AllPairs (λ a b. a ≢ b) l → length ps ≡ length l → All (HasIndex w positions) l → ArePlacedTo w positions marks l ps (length l) by
+      → (a : ℕ) → goes_to w positions marks by a ≡ moved_to l ps a
+  goes_where_moved by d same has so a = at (index_of w positions a) refl
+    where
+      stays : (In l a → ⊥) → a ≡ moved_to l ps a
+      stays out = sym (moved_stays l ps a out)
 
--- one survivor more
-pub moved_to-take : (i : ℕ) (l ps : List ℕ) (a : ℕ) → i < length l → i < length ps → AllPairs (λ a b. a ≢ b) l
-    → moved_to (take (suc i) l) (take (suc i) ps) a ≡ cond (eqb (get_or l i 0) a) (get_or ps i 0) (moved_to (take i l) (take i ps) a)
-moved_to-take i [] ps a m n d = absurd (omega arith)
-moved_to-take i (x ∷ l) [] a m n d = absurd (omega arith)
-moved_to-take zero (x ∷ l) (p ∷ ps) a m n d = refl
-moved_to-take (suc i) (x ∷ l) (p ∷ ps) a m n d =
-    ap (λ z. cond (eqb x a) p z) (moved_to-take i l ps a (omega arith) (omega arith) (λ j k e lt len. d (suc j) (suc k) e (omega arith) (omega arith)))
-    ∙ apart a x (get_or l i 0) p (get_or ps i 0) (moved_to (take i l) (take i ps) a) (eqb x a) (eqb (get_or l i 0) a) refl refl (d 0 (suc i) 0 (omega arith) (omega arith))
+      -- the address of a member has an index
+      index_there : In l a → (k : ℕ) × ((k < length l) × (get_or l k 0 ≡ a))
+      index_there in_l = let c = Contains-from_in l a in_l in (c.0, (c.1, get_or_default l c.0 0 a c.1 ∙ c.2))
 
--- the table after the place of survivor i is written
-pub forwards_one_more : (w : ℕ) (positions : List (Option ℕ)) (words l ps : List ℕ) (i j : ℕ) → IsTable w positions words → i < length l → length ps ≡ length l → AllPairs (λ a b. a ≢ b) l
-    → index_of w positions (get_or l i 0) ≡ Some j → ((a : ℕ) → goes_to w positions words a ≡ moved_to (take i l) (take i ps) a)
-    → (a : ℕ) → goes_to w positions (set words j (get_or ps i 0 + 1)) a ≡ moved_to (take (i + 1) l) (take (i + 1) ps) a
-forwards_one_more w positions words l ps i j table lt same d at goes a =
-    let n : suc i ≡ i + 1 = omega arith in
-    goes_to-set w positions words table (get_or l i 0) j (get_or ps i 0) at a
-    ∙ ap (λ z. cond (eqb (get_or l i 0) a) (get_or ps i 0) z) (goes a)
-    ∙ sym (moved_to-take i l ps a lt (omega arith) d)
-    ∙ (λ t. moved_to (take (n t) l) (take (n t) ps) a)
+      marked : (j : ℕ) (b : Bool) → index_of w positions a ≡ Some j → get_or marks j false ≡ b → told (number_if b (number_at marks j)) by a ≡ moved_to l ps a
+      marked j true e f =
+          let k = m.only j f in
+          let is : get_or l k.0 0 ≡ a = indices.one_to_one (get_or l k.0 0) a j k.1.1 e in
+          so k.0 j k.1.0 k.1.1 ∙ sym (moved_there l ps k.0 d k.1.0 same) ∙ ap (moved_to l ps) is
+      marked j false e f = stays (λ in_l. let k = index_there in_l in false≢true (sym f ∙ m.each k.0 j k.1.0 (ap (index_of w positions) k.1.1 ∙ e)))
+
+      at : (x : Option ℕ) → index_of w positions a ≡ x → told_at x marks by a ≡ moved_to l ps a
+      at None e = stays (λ in_l.
+          let k = index_there in_l in
+          let i = has k.0 0 k.1.0 in
+          let clash : None ≡ Some i.0 = sym e ∙ ap (index_of w positions) (sym k.1.1) ∙ i.1 in cc)
+      at (Some j) e = marked j (get_or marks j false) e refl
+
+-- ---- what is read
+
+-- a number that was found is that of a mark
+pub number_found : (marks : List Bool) (i n : ℕ) → number_of marks i ≡ Some n → (get_or marks i false ≡ true) × (n ≡ number_at marks i)
+number_found marks i n e = at (get_or marks i false) refl e
+  where
+    at : (b : Bool) → get_or marks i false ≡ b → number_if b (number_at marks i) ≡ Some n → (b ≡ true) × (n ≡ number_at marks i)
+    at true f e = (refl, cc)
+    at false f e = cc
+
+-- where the index and the number are known, the table tells the place of the number
+pub goes_at : (w : ℕ) (positions : List (Option ℕ)) (marks : List Bool) (by : List ℕ) (a i n : ℕ) → index_of w positions a ≡ Some i → number_of marks i ≡ Some n
+    → goes_to w positions marks by a ≡ get_or by n 0
+goes_at w positions marks by a i n e f = ap (λ x. told_at x marks by a) e ∙ ap (λ x. told x by a) f
+
+-- there is a place for a number that was found
+pub number_below : (marks : List Bool) (i n : ℕ) → i < length marks → number_of marks i ≡ Some n → n < number_at marks (length marks)
+number_below marks i n lt e = let k = number_found marks i n e in let r = number_rises marks i (length marks) lt lt k.0 in omega (arith, r, k.1)
+
+-- a marked word has a number
+pub number_there : (marks : List Bool) (i : ℕ) → get_or marks i false ≡ true → number_of marks i ≡ Some (number_at marks i)
+number_there marks i e = ap (λ b. number_if b (number_at marks i)) e

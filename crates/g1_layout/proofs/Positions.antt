@@ -6,7 +6,7 @@ use Rattle.std.proofs.lemmas.List.{get_or-set_same, get_or-set_other, get_or_def
 use Rattle.std.proofs.lemmas.List.Kept.{AllPairs-from_increasing}
 use Rattle.std.proofs.Math.Nat.{mul-le-mul_right, mul-add-div_right, mul-add-mod_self_right, div-eq_of_lt}
 use Rattle.std.specs.List.Sorted.{IsStrictlyIncreasing}
-use Rattle.g1_layout.specs.Words.{ArePositions, HasIndex, IsTable, goes_to, index_at, told, told_at}
+use Rattle.g1_layout.specs.Words.{ArePositions, AreIndices, HasIndex, index_at}
 
 -- the first n regions of the set have their positions
 pub record Positioned (rs : List ℕ) (n : ℕ) (positions : List (Option ℕ)) : Type 0 where
@@ -91,11 +91,11 @@ module _ (w : ℕ) (rs : List ℕ) (positions : List (Option ℕ)) (pos : 0 < w)
       let xi : q * w + x % w ≡ i = cc in
       omega arith
 
-  -- with a word for each word of the regions they make a table
-  pub table_of : (words : List ℕ) → length words ≡ length rs * w → IsTable w positions words
-  table_of words count = record {
+  -- each index is one of the regions' words
+  pub indices_of : (bound : ℕ) → length rs * w ≤ bound → AreIndices w positions bound
+  indices_of bound most = record {
     one_to_one = λ x y i e f. alike x y i (get_or positions (x / w) None) (get_or positions (y / w) None) refl refl e f;
-    within = λ x i e. let k = inside x i (get_or positions (x / w) None) refl e in omega (arith, count);
+    within = λ x i e. let k = inside x i (get_or positions (x / w) None) refl e in omega (arith, most);
   }
 
   -- each address in the set has an index
@@ -106,11 +106,3 @@ module _ (w : ℕ) (rs : List ℕ) (positions : List (Option ℕ)) (pos : 0 < w)
       let e : get_or positions (x / w) None ≡ Some c.0 =
       ap (λ z. get_or positions z None) (sym (get_or_default rs c.0 0 (x / w) c.1 ∙ c.2)) ∙ p.whole c.0 c.1 in
       (c.0 * w + x % w, ap (λ m. index_at m w (x % w)) e)
-
--- a table of zeros tells of each address the address itself
-pub zeros_stay : (w n : ℕ) (positions : List (Option ℕ)) (x : ℕ) → goes_to w positions (replicate n 0) x ≡ x
-zeros_stay w n positions x = stays_at (get_or positions (x / w) None)
-  where
-    stays_at : (m : Option ℕ) → told_at (index_at m w (x % w)) (replicate n 0) x ≡ x
-    stays_at None = refl
-    stays_at (Some q) = ap (λ word. told word x) (same_there 0 n (q * w + x % w))

@@ -9,13 +9,15 @@
 //! 2. It lists to-space, and by the sizes each survivor's new address.
 //! 3. It lists the runs: which stretch of the survivors is in each region of to-space, and where
 //!    the region's last object ends.
-//! 4. It writes the new addresses into a table over the words of the collection set, from which
-//!    `Plan::forward` answers by one look-up.
+//! 4. It marks the survivors among the words of the collection set, one bit each, and counts the marks
+//!    before each 64 words. So a survivor has a number. By these it lists the new addresses, from
+//!    which `Plan::forward` answers by two look-ups.
 #![tactic(auto)]
 
 pub mod laws;
 mod measuring;
 mod new_addresses;
+mod numbers;
 mod placing;
 mod plan;
 

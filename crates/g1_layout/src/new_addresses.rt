@@ -1,19 +1,23 @@
-ghost use Rattle.std.specs.Prelude.{◌≡◌, ◌≤◌, ◌<◌, ◌+◌, ◌*◌, ◌/◌, ◌%◌, ◌++◌, ◌^◌, ◌≢◌, ℕ, List, None, replicate, length, All, AllPairs, slice_index, slice_index_or, IfOk};
+ghost use Rattle.std.specs.Prelude.{◌≡◌, ◌≤◌, ◌<◌, ◌+◌, ◌*◌, ◌/◌, ◌%◌, ◌++◌, ◌^◌, ◌≢◌, ℕ, List, None, replicate, false, length, All, AllPairs, slice_index, slice_index_or, IfOk};
 ghost use Rattle.std.specs.List.Sorted.{IsStrictlyIncreasing};
 ghost use Rattle.g1_words.specs.Geometry.{most_words};
-ghost use Rattle.g1_words.specs.Layout.{moved_to};
-ghost use Rattle.g1_layout.specs.Words.{ArePositions, IsTable, HasIndex, index_of, told, goes_to};
+ghost use Rattle.g1_words.specs.Marks.{marks_of};
+ghost use Rattle.g1_layout.specs.Numbers.{number_at};
+ghost use Rattle.g1_layout.specs.Words.{ArePositions, AreIndices, AreMarkedTo, ArePlacedTo, HasIndex, index_of};
 
+use crate::numbers::{Numbers, mark};
 use g1_words::{Geometry, region_of};
 use std::alloc::{AllocError, Global};
 
-/// New addresses by address: a word for each word of a set's regions.
+/// New addresses by address: a bit for each word of a set's regions, and a place for each survivor.
 #[derive(Drop)]
 pub(crate) struct Table {
     geometry: Geometry,
     positions: Vec<Option<u32>>,
-    // One more than the new address, so that a list of zeros is the table in which all stays.
-    words: Vec<u32>,
+    /// The words at which survivors are, among those of the set's regions.
+    numbers: Numbers,
+    /// The survivors' new addresses, in the order of their old ones.
+    places: Vec<u32>,
 }
 
 /// By region number, the position of the region in a set.
@@ -46,35 +50,69 @@ fn index_of(geometry: &Geometry, positions: &[Option<u32>], a: u64) -> Option<us
     }
 }
 
-/// The new address, by a word, of what is at an address.
-fn new_address(word: u32, a: u64) -> u64
-    ensures { result ≡ told word a }
-{
-    if word == 0 { a } else { u64::from(word - 1) }
-}
-
-/// Writes each survivor's place at its index.
-fn write_places(
-    words: &mut [u32],
+/// Sets the bit at each survivor's index.
+fn mark_survivors(
+    bits: &mut Vec<u64>,
     geometry: &Geometry,
     positions: &[Option<u32>],
     survivors: &[u64],
+)
+    requires indices { AreIndices geometry.now.w positions.now (64 * length bits.old.items) }
+    requires none { marks_of (64 * length bits.old.items) bits.old.items ≡ replicate (64 * length bits.old.items) false }
+    ensures marked { AreMarkedTo geometry.now.w positions.now survivors.now (length survivors.now) (marks_of (64 * length bits.old.items) bits.new.items) }
+    ensures same { length bits.new.items ≡ length bits.old.items }
+{
+    for a in survivors {
+        if let Some(index) = index_of(geometry, positions, *a) {
+            mark(bits, index);
+        }
+    }
+}
+
+/// Writes each survivor's place at its number.
+fn write_places(
+    by_number: &mut [u32],
+    geometry: &Geometry,
+    positions: &[Option<u32>],
+    numbers: &Numbers,
+    survivors: &[u64],
     places: &[u64],
 )
-    requires table { IsTable geometry.now.w positions.now words.old }
+    requires indices { AreIndices geometry.now.w positions.now (length numbers.now) }
     requires in_set { All (HasIndex geometry.now.w positions.now) survivors.now }
     requires distinct { AllPairs (λ a b. a ≢ b) survivors.now }
+    requires marked { AreMarkedTo geometry.now.w positions.now survivors.now (length survivors.now) numbers.now }
+    requires room { length by_number.old ≡ number_at numbers.now (length numbers.now) }
     requires one_each { length places.now ≡ length survivors.now }
     requires low { All (λ p. p < most_words) places.now }
-    requires before { (a : ℕ) → goes_to geometry.now.w positions.now words.old a ≡ a }
-    ensures table { IsTable geometry.now.w positions.now words.new }
-    ensures goes { (a : ℕ) → goes_to geometry.now.w positions.now words.new a ≡ moved_to survivors.now places.now a }
+    ensures { ArePlacedTo geometry.now.w positions.now numbers.now survivors.now places.now (length survivors.now) by_number.new }
 {
     for (i, a) in survivors.iter().enumerate() {
         if let Some(index) = index_of(geometry, positions, *a) {
-            words[index] = places[i] as u32 + 1;
+            if let Some(number) = numbers.number(index) {
+                by_number[number] = places[i] as u32;
+            }
         }
     }
+}
+
+/// The survivors' words among those of the set's regions, numbered.
+fn numbered(
+    alloc: Global,
+    geometry: &Geometry,
+    positions: &[Option<u32>],
+    set: &[u32],
+    survivors: &[u64],
+) -> Result<Numbers, AllocError>
+    requires few { length set.now * geometry.now.w ≤ most_words }
+    requires positions { ArePositions set.now positions.now }
+    ensures indices { IfOk result (λ n. AreIndices geometry.now.w positions.now (length n)) }
+    ensures marked { IfOk result (AreMarkedTo geometry.now.w positions.now survivors.now (length survivors.now)) }
+{
+    let words = geometry.words_of(set.len() as u64) as usize;
+    let mut bits = vec![in alloc; 0u64; words / 64 + 1]?;
+    mark_survivors(&mut bits, geometry, positions, survivors);
+    Numbers::new(alloc, &bits)
 }
 
 impl Table {
@@ -102,22 +140,34 @@ impl Table {
         ensures { IfOk result (λ t. Forwards t survivors.now places.now) }
     {
         let positions = positions(alloc, geometry.regions(), set)?;
-        let mut words = vec![in alloc; 0u32; geometry.words_of(set.len() as u64) as usize]?;
-        write_places(&mut words, geometry, &positions, survivors, places);
+        let numbers = numbered(alloc, geometry, &positions, set, survivors)?;
+        let mut by_number = vec![in alloc; 0u32; numbers.count() as usize]?;
+        write_places(
+            &mut by_number,
+            geometry,
+            &positions,
+            &numbers,
+            survivors,
+            places,
+        );
         Ok(Table {
             geometry: *geometry,
             positions,
-            words,
+            numbers,
+            places: by_number,
         })
     }
 
     /// What the table has for an address.
     pub(crate) fn get(&self, a: u64) -> u64
-        requires { IsTable self.now.geometry.w self.now.positions.items self.now.words.items }
-        ensures { result ≡ goes_to self.now.geometry.w self.now.positions.items self.now.words.items a }
+        requires { IsTable self.now.geometry.w self.now.positions.items self.now.numbers self.now.places.items }
+        ensures { result ≡ goes_to self.now.geometry.w self.now.positions.items self.now.numbers self.now.places.items a }
     {
-        match index_of(&self.geometry, &self.positions, a) {
-            Some(index) => new_address(self.words[index], a),
+        let Some(index) = index_of(&self.geometry, &self.positions, a) else {
+            return a;
+        };
+        match self.numbers.number(index) {
+            Some(number) => u64::from(self.places[number]),
             None => a,
         }
     }

@@ -1,3 +1,4 @@
 pub mod Chunks
 pub mod TableText
 pub mod Choosing
+pub mod Counting

@@ -1,13 +1,15 @@
 //! The table of an image: a line with its numbers, and a line for each region.
-ghost use Rattle.std.specs.Prelude.{◌≡◌, ◌≤◌, ◌<◌, ◌-◌, ◌*◌, ◌++◌, ℕ, map, flat_map, string_bytes, OnOk, IfOk, IfErr};
+ghost use Rattle.std.specs.Prelude.{◌≡◌, ◌≤◌, ◌<◌, ◌-◌, ◌*◌, ◌++◌, ℕ, length, map, flat_map, string_bytes, OnOk, IfOk, IfErr};
 ghost use Rattle.std.specs.List.{range_with_len};
+ghost use Rattle.g1_words.specs.Heap.{objects_in};
 ghost use Rattle.g1_text.specs.Lines.{line_text, text_of, heading, region_line, table_lines};
 ghost use Rattle.g1_tables.specs.Rows.{AreRows};
 
 use g1_image::Image;
 use g1_pause::Settings;
+use g1_rem::objects_end;
 use g1_text::{push_heading, push_region_line};
-use g1_words::{Fault, objects_in};
+use g1_words::{Fault, Heap, size_at};
 use g1_work::{Open, Task, each_chunk};
 use std::alloc::{AllocError, Global};
 use std::thread::Threads;
@@ -79,30 +81,42 @@ impl<'a> Task for Rows<'a> {
         let regions = self.image.heap().geometry().regions();
         let from = chunk * self.chunk;
         let to = regions.min(from + self.chunk);
-        lines(self.alloc, self.image, from as u32, to as u32)
+        Ok(lines(self.alloc, self.image, from as u32, to as u32)?)
     }
 }
 
 // The lines of the regions from one number up to another.
-fn lines(alloc: Global, image: &Image, from: u32, to: u32) -> Result<String, Fault>
+fn lines(alloc: Global, image: &Image, from: u32, to: u32) -> Result<String, AllocError>
     requires order { from ≤ to }
     requires within { to ≤ image.now.heap.geometry.n }
-    ensures text { IfOk result (λ s. string_bytes s ≡ text_of (map (region_line image.now) (range_with_len from (to - from)))) }
-    ensures memory { IfErr result (λ e. e ≡ Fault.Memory) }
+    ensures { IfOk result (λ s. string_bytes s ≡ text_of (map (region_line image.now) (range_with_len from (to - from)))) }
 {
     let mut text = String::new(alloc);
     for region in from..to {
-        push_row(alloc, image, region, &mut text)?;
+        push_row(image, region, &mut text)?;
     }
     Ok(text)
 }
 
-fn push_row(alloc: Global, image: &Image, region: u32, text: &mut String) -> Result<(), Fault>
-    requires { region < image.now.heap.geometry.n }
-    ensures text { OnOk result (string_bytes text.new ≡ string_bytes text.old ++ line_text (region_line image.now region)) }
-    ensures memory { IfErr result (λ e. e ≡ Fault.Memory) }
+// How many objects start in a region.
+fn count_objects(heap: &Heap, region: u32) -> usize
+    requires { region < heap.now.geometry.n }
+    ensures { result ≡ length (objects_in heap.now region) }
 {
-    let objects = objects_in(alloc, image.heap(), region)?.len();
-    push_region_line(text, image, region, objects)?;
-    Ok(())
+    let end = objects_end(heap, region);
+    let mut at = heap.geometry().start(region);
+    let mut count: usize = 0;
+    'objects: while at < end {
+        at += size_at(heap, at);
+        count += 1;
+    }
+    count
+}
+
+fn push_row(image: &Image, region: u32, text: &mut String) -> Result<(), AllocError>
+    requires { region < image.now.heap.geometry.n }
+    ensures { OnOk result (string_bytes text.new ≡ string_bytes text.old ++ line_text (region_line image.now region)) }
+{
+    let objects = count_objects(image.heap(), region);
+    push_region_line(text, image, region, objects)
 }

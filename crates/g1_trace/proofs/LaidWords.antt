@@ -1,11 +1,16 @@
 -- The used words of a store's heap are laid.
-use Rattle.std.proofs.Common.{◌≡◌, ◌≤◌, ◌<◌, ℕ, zero, suc, ◌+◌, ◌*◌, List, length, set, replicate, slice_index_or, Option, refl, sym, arith, subst}
+use Rattle.std.proofs.Common.{◌≡◌, ◌≢◌, ◌⊎◌, ◌≤◌, ◌<◌, ◌&&◌, inl, inr, ℕ, zero, suc, ◌+◌, ◌*◌, Bool, true, false, cond, List, length, set, get_or, replicate, slice_index_or, Option, refl, sym, ap, ◌∙◌, arith, subst}
+use Rattle.std.proofs.Common.{ltb, leb, leb-true, le-ltb, length-set, get_or-set_other}
+use Rattle.std.proofs.lemmas.Bool.{cases_lt}
 use Rattle.std.proofs.Math.Nat.{mul-le-mul_right}
 use Rattle.g1_words.specs.Geometry.{Geometry}
 use Rattle.g1_words.specs.Heap.{Heap, free_region}
 use Rattle.g1_words.specs.Valid.{IsValid}
 use Rattle.g1_words.specs.Words.{AreLaid}
 use Rattle.g1_words.specs.declared.region.Region.{Region}
+use Rattle.g1_trace.specs.Mutator.{run_region}
+use Rattle.g1_trace.specs.Placing.{table_heap, run_taken}
+use Rattle.g1_trace.proofs.Tables.{at_taken, taken_size}
 
 -- no word of a free region is used
 free_top : (n r : ℕ) → (slice_index_or (replicate n free_region) r free_region).top ≡ 0
@@ -37,9 +42,52 @@ pub same_heap : (g : Geometry) (ws vs : List ℕ) (rs : List Region) (roots : Li
     let b : Heap = record { geometry = g; words = vs; regions = rs; roots = roots; current = current } in a ≡ b)
 same_heap g ws vs rs roots current e = λ t. record { geometry = g; words = e t; regions = rs; roots = roots; current = current }
 
--- all is laid
-pub all_laid : (h : Heap) (laid : ℕ) → IsValid h → length h.words ≤ laid → AreLaid h.geometry.w h.regions laid
-all_laid h laid valid le r i lt small few =
-    let rows : (r + 1) * h.geometry.w ≤ h.geometry.n * h.geometry.w = mul-le-mul_right h.geometry.w (omega (arith, lt, valid.region_count)) in
-    let sum : (r + 1) * h.geometry.w ≡ r * h.geometry.w + h.geometry.w = omega arith in
-    omega (arith, rows, sum, small, valid.word_count, le)
+-- ---- regions that are taken
+
+-- regions change within a stretch of words that is laid, and no others
+pub laid_within : (w : ℕ) (rs qs : List Region) (laid more first last : ℕ) → AreLaid w rs laid → laid ≤ more → last * w ≤ more → length qs ≡ length rs →
+    ((q : ℕ) → q < length rs → (q < first) ⊎ (last ≤ q) → slice_index_or qs q free_region ≡ slice_index_or rs q free_region) → AreLaid w qs more
+laid_within w rs qs laid more first last are le room same others q i lt small few = elim (cases_lt q first) [
+  | inl before ↦ kept (inl before)
+  | inr ge ↦ elim (cases_lt q last) [
+    | inl within ↦
+        let rows : (q + 1) * w ≤ last * w = mul-le-mul_right w (omega (arith, within)) in
+        let sum : (q + 1) * w ≡ q * w + w = omega arith in
+        omega (arith, rows, sum, small, room)
+    | inr past ↦ kept (inr past)
+  ]
+]
+  where
+    kept : (q < first) ⊎ (last ≤ q) → q * w + i < more
+    kept out =
+        let there : q < length rs = omega (arith, lt, same) in
+        let used : i < (slice_index_or rs q free_region).top = subst (λ (x : Region). i < x.top) (others q there out) few in
+        let k = are q i there small used in omega (arith, k, le)
+
+-- one region
+pub laid_one : (w : ℕ) (rs : List Region) (laid more r : ℕ) (x : Region) → AreLaid w rs laid → laid ≤ more → (r + 1) * w ≤ more → AreLaid w (set rs r x) more
+laid_one w rs laid more r x are le room =
+    laid_within w rs (set rs r x) laid more r (r + 1) are le room (length-set rs r x) (λ q lt out. get_or-set_other rs r q x free_region (apart q out))
+  where
+    apart : (q : ℕ) → (q < r) ⊎ (r + 1 ≤ q) → q ≢ r
+    apart q (inl lt) e = omega (arith, lt, e)
+    apart q (inr ge) e = omega (arith, ge, e)
+
+-- a region outside of a run isn't taken
+not_taken : (r m q : ℕ) → (q < r) ⊎ (r + m ≤ q) → (leb r q && ltb q (r + m)) ≡ false
+not_taken r m q (inl lt) = by (leb r q) refl
+  where
+    by : (b : Bool) → leb r q ≡ b → (b && ltb q (r + m)) ≡ false
+    by true e = let l = leb-true r q e in absurd (omega (arith, l, lt))
+    by false e = refl
+not_taken r m q (inr ge) = by (leb r q)
+  where
+    by : (b : Bool) → (b && ltb q (r + m)) ≡ false
+    by true = le-ltb q (r + m) ge
+    by false = refl
+
+-- a run of regions
+pub laid_run : (w : ℕ) (rs : List Region) (laid more r size m : ℕ) → AreLaid w rs laid → laid ≤ more → (r + m) * w ≤ more → AreLaid w (run_taken w rs r size m) more
+laid_run w rs laid more r size m are le room =
+    laid_within w rs (run_taken w rs r size m) laid more r (r + m) are le room (taken_size w rs r size m) (λ q lt out.
+    at_taken w rs r size m q lt ∙ ap (λ b. cond b (run_region (table_heap w rs) r size q) (get_or rs q free_region)) (not_taken r m q out))

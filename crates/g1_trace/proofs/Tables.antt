@@ -38,12 +38,13 @@ rounded_up w size p =
     sym (ap (λ x. x / w) row ∙ div-mul-add (div_ceil size w) w (size + (w - 1) - div_ceil size w * w) (omega (arith, k.0, k.1, p)))
 
 module _ (w : ℕ) (regions : List Region) (r size : ℕ) where
-  at_taken : (m q : ℕ) → q < length regions
+  -- what stands at a place once so many are taken
+  pub at_taken : (m q : ℕ) → q < length regions
       → get_or (run_taken w regions r size m) q free_region ≡ cond (leb r q && ltb q (r + m)) (run_region (table_heap w regions) r size q) (get_or regions q free_region)
   at_taken m q lt = get_or-map-range_with_len (λ q. cond (leb r q && ltb q (r + m)) (run_region (table_heap w regions) r size q)
       (get_or regions q free_region)) 0 (length regions) q q free_region lt (omega arith)
 
-  taken_size : (m : ℕ) → length (run_taken w regions r size m) ≡ length regions
+  pub taken_size : (m : ℕ) → length (run_taken w regions r size m) ≡ length regions
   taken_size m = length-map-range_with_len (λ q. cond (leb r q && ltb q (r + m)) (run_region (table_heap w regions) r size q) (get_or regions q free_region)) 0 (length regions)
 
   not_first : (q : ℕ) → (leb r q && ltb q (r + 0)) ≡ false

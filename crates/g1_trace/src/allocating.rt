@@ -135,7 +135,8 @@ fn place_ordinary(heap: &mut Heap, r: u32, root: u64, size: u64, refs: u64)
 {
     let Region { top, pinned, .. } = heap.regions[r as usize];
     let at = heap.geometry.start(r) + u64::from(top);
-    heap.words.lay_to(heap.words.len());
+    let end = heap.geometry.start(r + 1);
+    heap.words.lay_to(end as usize);
     heap.words.set(at, header_word(size, refs));
     heap.roots[root as usize] = at + 1;
     heap.regions[r as usize] = Region {
@@ -160,7 +161,9 @@ fn place_humongous(heap: &mut Heap, r: u32, root: u64, size: u64, refs: u64)
     ensures { heap.new ≡ humongous_heap heap.old r size refs root }
 {
     let at = heap.geometry.start(r);
-    heap.words.lay_to(heap.words.len());
+    let count = heap.geometry.regions_for(size);
+    let end = heap.geometry.words_of(u64::from(r) + count);
+    heap.words.lay_to(end as usize);
     heap.words.set(at, header_word(size, refs));
     heap.roots[root as usize] = at + 1;
     take_run(&mut heap.regions, &heap.geometry, r, size);

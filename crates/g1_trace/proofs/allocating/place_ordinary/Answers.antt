@@ -1,9 +1,10 @@
-use Rattle.std.proofs.Common.{◌≡◌, set, length-set, ◌+◌, ◌*◌, ◌<◌, length, get_or, sym, ◌∙◌, ap, subst, arith}
+use Rattle.std.proofs.Common.{◌≡◌, ◌≤◌, ℕ, set, ◌+◌, ◌*◌, ◌<◌, length, get_or, sym, ◌∙◌, ap, subst, arith}
+use Rattle.std.proofs.Math.Nat.{mul-le-mul_right}
 use Rattle.std.proofs.lemmas.List.{get_or_default}
 use Rattle.g1_words.specs.declared.region.Region.{Region}
 use Rattle.g1_words.specs.Heap.{Heap, free_region, top, end}
 use Rattle.g1_words.specs.Valid.{IsValid}
-use Rattle.g1_trace.proofs.LaidWords.{all_laid, same_heap}
+use Rattle.g1_trace.proofs.LaidWords.{laid_one, same_heap}
 use Rattle.g1_trace.proofs.Placed.{ordinary_same}
 use Rattle.g1_trace.proofs.allocating.place_ordinary.Goals as goal
 
@@ -21,7 +22,18 @@ invariant_of-heap c =
     let base = subst IsValid (ordinary_same h _ c.args.r c.args.size c.args.refs c.args.root c.header_word.result (c.start.result + c.from.result)
     (c.index.result.now.top + c.args.size) c.index.result.now.pinned here at (ap (λ x. x + c.args.size) used) (ap (λ (x : Region). x.pinned) read) c.header_word.ensures) c.requires.kept in
     let valid = subst IsValid (sym (same_heap _ _ _ _ _ _ is)) base in
-    (valid, all_laid _ c.set.new.self.laid valid (omega (arith, c.set.ensures.laid, c.lay_to.ensures.laid, c.len.ensures, ap length is, length-set c.heap.inside.words.items (c.start.result + c.from.result) c.header_word.result)))
+    let w : ℕ = c.heap.inside.geometry.w in
+    let room : (c.args.r + 1) * w ≤ c.set.new.self.laid = omega (arith, c.set.ensures.laid, c.lay_to.ensures.laid, c.start-end.ensures.value) in
+    let more : c.heap.inside.words.laid ≤ c.set.new.self.laid = omega (arith, c.set.ensures.laid, c.lay_to.ensures.laid) in
+    (valid, laid_one w c.heap.inside.regions.items c.heap.inside.words.laid c.set.new.self.laid c.args.r _ c.heap.invariant.1 more room)
+
+-- the region ends within the words
+pub lay_to-requires : goal.lay_to-requires
+lay_to-requires c =
+    let valid = c.heap.invariant.0 in
+    let w : ℕ = c.heap.inside.geometry.w in
+    let rows : (c.args.r + 1) * w ≤ c.heap.inside.geometry.n * w = mul-le-mul_right w (omega (arith, c.requires.region, ap (λ (x : Heap). length x.regions) c.heap.view_is, valid.region_count)) in
+    omega (arith, rows, c.start-end.ensures.value, valid.word_count)
 
 pub returns : goal.returns
 returns c =
