@@ -14,6 +14,7 @@ pub mod Assembly
 pub mod Winning
 pub mod Looks
 pub mod Looked
+pub mod Spans
 pub mod Merges
 pub mod Claimed
 pub mod Alone

@@ -115,13 +115,13 @@ module _ {A B : Type 0} (R : B → B → Type 0) (f : A → List B) (size : ℕ)
   cut : (n : ℕ) → Ordered R (flat_map f (take n xs)) × Ordered R (flat_map f (drop n xs)) × ((x y : B) → In (flat_map f (take n xs)) x → In (flat_map f (drop n xs)) y → R x y)
   cut n = Ordered-apart R (flat_map f (take n xs)) (flat_map f (drop n xs)) (subst (Ordered R) (sym (sym (flat_map-append f (take n xs) (drop n xs)) ∙ ap (flat_map f) (take_drop n xs))) o)
 
-  piece_ordered : (k : ℕ) → Ordered R (flat_map f (slice_of size k xs))
+  pub piece_ordered : (k : ℕ) → Ordered R (flat_map f (slice_of size k xs))
   piece_ordered k =
       let rest : List A = drop (k * size) xs in
       (Ordered-apart R (flat_map f (take size rest)) (flat_map f (drop size rest))
       (subst (Ordered R) (sym (sym (flat_map-append f (take size rest) (drop size rest)) ∙ ap (flat_map f) (take_drop size rest))) (cut (k * size)).1)).0
 
-  pieces_apart : (j k : ℕ) (x y : B) → j < k → In (flat_map f (slice_of size j xs)) x → In (flat_map f (slice_of size k xs)) y → R x y
+  pub pieces_apart : (j k : ℕ) (x y : B) → j < k → In (flat_map f (slice_of size j xs)) x → In (flat_map f (slice_of size k xs)) y → R x y
   pieces_apart j k x y lt a b =
       let m : (j + 1) * size ≤ k * size = mul-le-mul_right size (omega (arith, lt)) in
       let p = flat_map_cases f (slice_of size j xs) x a in

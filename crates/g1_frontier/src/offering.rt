@@ -19,11 +19,20 @@ use g1_words::{Fault, Heap};
 use g1_work::Task;
 use std::alloc::{AllocError, Global};
 
-/// A worker's seat, and the ranks and addresses whose offers by it answered true.
+/// A worker's number and seat, and its room: the ranks and addresses whose offers by it answered true.
 #[derive(Drop)]
 pub struct Holder {
+    pub number: usize,
     pub seat: ClaimSeat,
     pub kept: Vec<(u64, u64)>,
+}
+
+/// What a worker kept of one chunk: where in its room this begins and ends.
+#[derive(Drop)]
+pub struct Span {
+    pub worker: usize,
+    pub from: usize,
+    pub to: usize,
 }
 
 /// What a worker offers with.
@@ -244,7 +253,7 @@ pub struct Round<'a> {
 impl<'a> Task for Round<'a> {
     type State = Holder;
 
-    type Out = ();
+    type Out = Span;
 
     ghost use Rattle.std.specs.Prelude.{◌≡◌, ◌<◌, ◌≤◌, ◌*◌, ◌^◌, length};
     ghost use Rattle.std.specs.List.{All};
@@ -254,18 +263,23 @@ impl<'a> Task for Round<'a> {
     ghost use Rattle.g1_claim.specs.Claims.{IsSeatOf};
     ghost use Rattle.g1_frontier.specs.Items.{IsItem, AreRanks};
     ghost use Rattle.g1_frontier.specs.Scope.{place_in, all_pairs_in};
-    ghost use Rattle.g1_frontier.specs.Offering.{HasTried, HasPlaces};
+    ghost use Rattle.g1_frontier.specs.Offering.{HasTried, HasPlaces, IsSpan};
 
     ghost ready = { λ s h k. HasPlaces s.offers.scope.now s.offers.claims.now × IsSeatOf s.offers.claims.now h.seat × All (IsItem s.offers.scope.now.heap.now) s.items.now × AreRanks (all_pairs_in s.offers.scope.now s.items.now) × (0 < s.chunk) × (k * s.chunk < length s.items.now) × (k < 2 ^ 32) × (s.chunk ≤ most_chunk) };
 
-    ghost runs = { λ s h k t _. HasTried (place_in s.offers.scope.now) (all_pairs_in s.offers.scope.now (slice_of s.chunk k s.items.now)) h t };
+    ghost runs = { λ s h k t o. HasTried (place_in s.offers.scope.now) (all_pairs_in s.offers.scope.now (slice_of s.chunk k s.items.now)) h t × IsSpan h t o };
 
     ghost may_fail = { λ _ _ e. e ≡ Memory };
 
-    fn run(&self, state: &mut Holder, chunk: u64) -> Result<(), Fault> {
+    fn run(&self, state: &mut Holder, chunk: u64) -> Result<Span, Fault> {
+        let from = state.kept.len();
         let rest = &self.items[chunk as usize * self.chunk..];
         let items = &rest[..rest.len().min(self.chunk)];
         self.offers.offer_items(self.alloc, state, items)?;
-        Ok(())
+        Ok(Span {
+            worker: state.number,
+            from,
+            to: state.kept.len(),
+        })
     }
 }

@@ -9,7 +9,7 @@ ghost use Rattle.g1_frontier.specs.Items.{first_items, object_items, slot_count}
 ghost use Rattle.g1_frontier.specs.Scope.{IsScope};
 ghost use Rattle.g1_frontier.specs.Search.{IsSearching};
 
-use crate::crew::Crew;
+use crate::crew::{Crew, Merging};
 use crate::headers::slot_counts_by;
 use crate::item::Item;
 use crate::numbers::Numbers;
@@ -24,11 +24,12 @@ use std::alloc::{AllocError, Global};
 use std::thread::Threads;
 
 // What was found, and from where on it is still to be searched; the table, the seat of all its
-// shares, and the rank from which on none was offered.
+// shares, the lists that a round left to be used again, and the rank from which on none was offered.
 #[derive(Drop)]
 pub struct Search {
     pub claims: Claims,
     pub seat: ClaimSeat,
+    pub rooms: Vec<Vec<(u64, u64)>>,
     pub found: Vec<u64>,
     pub from: usize,
     pub next: u64,
@@ -106,12 +107,15 @@ pub(crate) fn first_round<R: Threads + Sync, G: Gate + Sync>(
     let first = first_items(alloc, roots, cards)?;
     let items = first.as_slice();
     let hired = crew.hire(items.len(), 0);
-    let (seat, won) = round_in(&hired, scope, &claims, seat, items)?;
+    let mut rooms = Vec::new(alloc);
+    let (seat, won) = round_in(&hired, scope, &claims, seat, &mut rooms, items)?;
     let mut found = Vec::new(alloc);
     push_addresses(&mut found, won.as_slice())?;
+    rooms.push(won)?;
     Ok(Search {
         claims,
         seat,
+        rooms,
         found,
         from: 0,
         next: roots + scope.heap.words().len() as u64,
@@ -133,6 +137,7 @@ pub(crate) fn next_round<R: Threads + Sync, G: Gate + Sync>(
     let Search {
         claims,
         seat,
+        mut rooms,
         mut found,
         from,
         next,
@@ -142,12 +147,14 @@ pub(crate) fn next_round<R: Threads + Sync, G: Gate + Sync>(
     let counts = slot_counts_by(crew.rt, crew.alloc, scope.heap, addresses, workers)?;
     let (items, next) = object_items(crew.alloc, scope.heap, addresses, counts.as_slice(), next)?;
     let items = items.as_slice();
-    let (seat, won) = round_in(crew, scope, &claims, seat, items)?;
+    let (seat, won) = round_in(crew, scope, &claims, seat, &mut rooms, items)?;
     let from = found.len();
     push_addresses(&mut found, won.as_slice())?;
+    rooms.push(won)?;
     Ok(Search {
         claims,
         seat,
+        rooms,
         found,
         from,
         next,
@@ -219,6 +226,7 @@ pub fn discover<R: Threads + Sync, G: Gate + Sync>(
         rt,
         alloc,
         team: Team::new(workers, chunk),
+        merging: Merging::Chunks,
         gate,
     };
     // One worker competes with nobody. It marks words, so it needs no claims, and no pass over the

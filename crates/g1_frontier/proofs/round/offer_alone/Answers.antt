@@ -8,9 +8,10 @@ returns-clause-offered c =
     let s = c.args.scope.now in
     let tried = c.in_ok-offer_items.ensures in
     alone_offered c.args.claims.now (place_in s) (all_pairs_in s c.args.items.now) (record {
+      number = 0;
       seat = c.args.seat;
-      kept = c.new.result;
-    }) c.offer_items.new.holder tried c.new.ensures.items c.requires.seat.1 c.requires.rise
+      kept = c.empty_room.result;
+    }) c.offer_items.new.holder tried c.empty_room.ensures c.requires.seat.1 c.requires.rise
     (tried.table ∙ c.requires.seat.0) (c.settled.ensures.whole (tried.shares ∙ c.requires.seat.1))
 
 pub returns-clause-won : goal.returns-clause-won
@@ -18,7 +19,8 @@ returns-clause-won c =
     let s = c.args.scope.now in
     let tried = c.in_ok-offer_items.ensures in
     alone_won c.args.claims.now (place_in s) (all_pairs_in s c.args.items.now) (record {
+      number = 0;
       seat = c.args.seat;
-      kept = c.new.result;
-    }) c.offer_items.new.holder tried c.new.ensures.items c.requires.seat.1 c.requires.rise
+      kept = c.empty_room.result;
+    }) c.offer_items.new.holder tried c.empty_room.ensures c.requires.seat.1 c.requires.rise
     (tried.table ∙ c.requires.seat.0) (c.settled.ensures.whole (tried.shares ∙ c.requires.seat.1)) c.requires.above

@@ -79,7 +79,7 @@ returns-clause-ok g c =
     let listed : c.as_slice-items.result.now ≡ object_items h s.next (drop s.from s.found.items) = c.as_slice-items.ensures.value ∙ c.in_ok-items.ensures.items ∙ ap (object_items h s.next) cut in
     let r = c.in_ok-seat.ensures.ok in
     next_search h c.requires.scope.valid window c.requires.scope.regions s c.requires.search c.requires.scope.numbers
-    (record { claims = s.claims; seat = c.in_ok-seat.seat; found = c.push_addresses.new.found; from = c.len-from.result; next = c.in_ok-items.next })
+    (record { claims = s.claims; seat = c.in_ok-seat.seat; rooms = c.push.new.self; found = c.push_addresses.new.found; from = c.len-from.result; next = c.in_ok-items.next })
     r.table
     r.whole
     refl

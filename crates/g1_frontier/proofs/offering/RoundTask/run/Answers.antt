@@ -26,9 +26,11 @@ pub returns : goal.returns
 returns c =
     let s = c.args.self.now.offers.scope.now in
     let tried = c.in_ok-offer_items.ensures in record {
-      ok =
-          subst (λ l. HasTried (place_in s) (all_pairs_in s l) c.args.state.now c.offer_items.new.holder)
-          (piece_cut c.args.self.now.chunk c.args.chunk c.min.result c.args.self.now.items.now c.min.ensures) tried;
+      ok = (
+        subst (λ l. HasTried (place_in s) (all_pairs_in s l) c.args.state.now c.offer_items.new.holder)
+            (piece_cut c.args.self.now.chunk c.args.chunk c.min.result c.args.self.now.items.now c.min.ensures) tried,
+        record { worker = tried.number; from = c.len-from.ensures; to = c.len.ensures },
+      );
       err = tt;
       keeps = λ other apart before. (before.0, tried.table ∙ before.1, before.2, before.3, before.4, before.5, before.6, before.7);
     }
