@@ -8,6 +8,7 @@ pub mod Seeds
 pub mod Names
 pub mod Scopes
 pub mod Numberings
+pub mod Soughts
 pub mod Offerings
 pub mod Pieces
 pub mod Assembly

@@ -1,6 +1,6 @@
 -- What the spans of a round's chunks have: what the workers kept, by rising rank.
-use Rattle.std.proofs.Common.{◌≡◌, ℕ, suc, ◌+◌, ◌-◌, ◌*◌, ◌<◌, ◌≤◌, inl, inr, List, [], ◌∷◌, ◌++◌, map, filter, length, take, drop, sym, refl, ap, ◌∙◌, subst, arith, append_assoc}
-use Rattle.std.proofs.Common.{append-nil, length-append, IsPermutation, All}
+use Rattle.std.proofs.Common.{◌≡◌, ℕ, ◌+◌, ◌-◌, ◌<◌, ◌≤◌, inl, inr, List, [], ◌∷◌, ◌++◌, map, filter, length, take, drop, sym, refl, ap, ◌∙◌, subst, arith, append_assoc}
+use Rattle.std.proofs.Common.{append-nil, length-append, IsPermutation}
 use Rattle.std.specs.Prelude.{slice_index_or}
 use Rattle.std.specs.List.{flat_map, enumerate_from, range_with_len}
 use Rattle.std.proofs.lemmas.List.Concat.{flat_map-append}
@@ -18,7 +18,7 @@ use Rattle.g1_frontier.specs.Offering.{Try, pair_of, answered_true, HasTried, Is
 use Rattle.g1_frontier.specs.Round.{IsGivenOut, HasTaken, IsByRank, AreSpans}
 use Rattle.g1_frontier.proofs.Assembly.{RankLess, kept_ordered, ran_tried, last_apart, as_many}
 use Rattle.g1_frontier.proofs.Claimed.{in_some}
-use Rattle.g1_frontier.proofs.Pieces.{piece_ordered, pieces_apart}
+use Rattle.g1_frontier.proofs.Pieces.{at_end, piece_ordered, pieces_apart}
 use Rattle.g1_frontier.proofs.Scopes.{all_in, all_from_in}
 use Rattle.g1_frontier.proofs.Seeds.{flat_of_map}
 use Rattle.g1_frontier.proofs.Winning.{in_permuted}
@@ -32,10 +32,6 @@ cut_front (k ∷ ks) rs = ap (λ l. k ∷ l) (cut_front ks rs)
 cut_middle : {A : Type 0} (xs ks rs : List A) → take (length ks) (drop (length xs) ((xs ++ ks) ++ rs)) ≡ ks
 cut_middle [] ks rs = cut_front ks rs
 cut_middle (x ∷ xs) ks rs = cut_middle xs ks rs
-
-at_end : {A : Type 0} (xs : List A) (y : A) (ys : List A) (d : A) → slice_index_or (xs ++ y ∷ ys) (length xs) d ≡ y
-at_end [] y ys d = refl
-at_end (x ∷ xs) y ys d = at_end xs y ys d
 
 head_of : List ℕ → ℕ
 head_of [] = 0

@@ -5,7 +5,7 @@ ghost use Rattle.g1_work.specs.Team.{IsTeam};
 ghost use Rattle.g1_rem.specs.Starts.{IsStartsOf};
 ghost use Rattle.g1_claim.specs.Claims.{all_shares, IsSeatOf, IsSettled};
 ghost use Rattle.g1_frontier.specs.Window.{AreRegions, place};
-ghost use Rattle.g1_frontier.specs.Items.{IsItem, IsOutside, all_pairs, AreRanks};
+ghost use Rattle.g1_frontier.specs.Items.{IsItem, IsOutside, all_pairs, AreRanks, items_of, ArePaired};
 ghost use Rattle.g1_frontier.specs.Numbers.{BeginsIn};
 ghost use Rattle.g1_frontier.specs.Scope.{IsScope, place_in, place_count, all_pairs_in};
 ghost use Rattle.g1_frontier.specs.Offering.{HasPlaces};
@@ -17,6 +17,7 @@ use crate::looking::look_again;
 use crate::offering::{Holder, Offers, Round, Span};
 use crate::rooms::{empty_room, push_spans};
 use crate::scope::{Numbering, Scope, positions};
+use crate::sought::Sought;
 use g1_claim::{ClaimSeat, Claims};
 use g1_rem::Starts;
 use g1_words::{Fault, Heap};
@@ -116,23 +117,24 @@ fn offer_alone(
     claims: &Claims,
     seat: ClaimSeat,
     rooms: &mut Vec<Vec<(u64, u64)>>,
-    items: &[Item],
+    sought: Sought,
 ) -> Result<(ClaimSeat, Vec<(u64, u64)>), AllocError>
     requires places { HasPlaces scope.now claims.now }
     requires seat { IsSeatOf claims.now seat × (seat.hand.shares ≡ all_shares) }
-    requires items { All (IsItem scope.now.heap.now) items.now }
-    requires ranks { AreRanks (all_pairs_in scope.now items.now) }
-    requires rise { Rises (all_pairs_in scope.now items.now) }
-    requires above { AreAbove seat.hand.offers (all_pairs_in scope.now items.now) }
-    ensures offered { IfOk result (λ r. HasOffered claims.now (place_in scope.now) (all_pairs_in scope.now items.now) seat r.0 (r.1.items ∷ [])) }
-    ensures won { IfOk result (λ r. r.1.items ≡ winners (place_in scope.now) r.0.hand.offers (all_pairs_in scope.now items.now)) }
+    requires items { All (IsItem scope.now.heap.now) (items_of sought) }
+    requires paired { ArePaired sought }
+    requires ranks { AreRanks (all_pairs_in scope.now (items_of sought)) }
+    requires rise { Rises (all_pairs_in scope.now (items_of sought)) }
+    requires above { AreAbove seat.hand.offers (all_pairs_in scope.now (items_of sought)) }
+    ensures offered { IfOk result (λ r. HasOffered claims.now (place_in scope.now) (all_pairs_in scope.now (items_of sought.entry)) seat r.0 (r.1.items ∷ [])) }
+    ensures won { IfOk result (λ r. r.1.items ≡ winners (place_in scope.now) r.0.hand.offers (all_pairs_in scope.now (items_of sought.entry))) }
 {
     let mut holder = Holder {
         number: 0,
         seat,
         kept: empty_room(alloc, rooms),
     };
-    Offers { scope, claims }.offer_items(alloc, &mut holder, items)?;
+    Offers { scope, claims }.offer_sought(alloc, &mut holder, sought)?;
     let Holder {
         number: _,
         seat,
@@ -156,26 +158,27 @@ fn offer_all<R: Threads + Sync, G: Gate + Sync>(
     claims: &Claims,
     seat: ClaimSeat,
     rooms: &mut Vec<Vec<(u64, u64)>>,
-    items: &[Item],
+    sought: Sought,
 ) -> Result<(ClaimSeat, Kept), Fault>
     requires places { HasPlaces scope.now claims.now }
     requires seat { IsSeatOf claims.now seat × (seat.hand.shares ≡ all_shares) }
-    requires items { All (IsItem scope.now.heap.now) items.now }
-    requires ranks { AreRanks (all_pairs_in scope.now items.now) }
-    requires rise { Rises (all_pairs_in scope.now items.now) }
-    requires few { length items.now < 2 ^ 32 }
-    ensures ok { IfOk result (λ r. HasOffered claims.now (place_in scope.now) (all_pairs_in scope.now items.now) seat r.0 (map (λ l. l.items) r.1.lists.items)) }
+    requires items { All (IsItem scope.now.heap.now) (items_of sought) }
+    requires paired { ArePaired sought }
+    requires ranks { AreRanks (all_pairs_in scope.now (items_of sought)) }
+    requires rise { Rises (all_pairs_in scope.now (items_of sought)) }
+    requires few { length (items_of sought) < 2 ^ 32 }
+    ensures ok { IfOk result (λ r. HasOffered claims.now (place_in scope.now) (all_pairs_in scope.now (items_of sought.entry)) seat r.0 (map (λ l. l.items) r.1.lists.items)) }
     ensures spans { IfOk result (λ r. AreSpans (map (λ l. l.items) r.1.lists.items) r.1.spans.items) }
     ensures memory { IfErr result (λ e. e ≡ Memory) }
 {
     let alloc = crew.alloc;
     let chunk = crew.team.chunk() as usize;
-    let count = (items.len() + chunk - 1) / chunk;
+    let count = (sought.len() + chunk - 1) / chunk;
     let team = crew.team.for_chunks(count as u64);
     let holders = give_out(alloc, claims, seat, rooms, team)?;
     let round = Round {
         offers: Offers { scope, claims },
-        items,
+        sought,
         chunk,
         alloc,
     };
@@ -238,19 +241,20 @@ fn offer_by_crew<R: Threads + Sync, G: Gate + Sync>(
     claims: &Claims,
     seat: ClaimSeat,
     rooms: &mut Vec<Vec<(u64, u64)>>,
-    items: &[Item],
+    sought: Sought,
 ) -> Result<(ClaimSeat, Vec<(u64, u64)>), Fault>
     requires places { HasPlaces scope.now claims.now }
     requires seat { IsSeatOf claims.now seat × (seat.hand.shares ≡ all_shares) }
-    requires items { All (IsItem scope.now.heap.now) items.now }
-    requires ranks { AreRanks (all_pairs_in scope.now items.now) }
-    requires rise { Rises (all_pairs_in scope.now items.now) }
-    requires above { AreAbove seat.hand.offers (all_pairs_in scope.now items.now) }
-    requires few { length items.now < 2 ^ 32 }
-    ensures ok { IfOk result (λ r. IsRound claims.now (place_in scope.now) (all_pairs_in scope.now items.now) seat r.0 r.1.items) }
+    requires items { All (IsItem scope.now.heap.now) (items_of sought) }
+    requires paired { ArePaired sought }
+    requires ranks { AreRanks (all_pairs_in scope.now (items_of sought)) }
+    requires rise { Rises (all_pairs_in scope.now (items_of sought)) }
+    requires above { AreAbove seat.hand.offers (all_pairs_in scope.now (items_of sought)) }
+    requires few { length (items_of sought) < 2 ^ 32 }
+    ensures ok { IfOk result (λ r. IsRound claims.now (place_in scope.now) (all_pairs_in scope.now (items_of sought.entry)) seat r.0 r.1.items) }
     ensures memory { IfErr result (λ e. e ≡ Memory) }
 {
-    let (seat, kept) = offer_all(crew, scope, claims, seat, rooms, items)?;
+    let (seat, kept) = offer_all(crew, scope, claims, seat, rooms, sought)?;
     let kept = by_rank(crew.alloc, crew.merging, rooms, kept)?;
     let (seat, won) = look_again(crew, scope, claims, seat, rooms, kept.as_slice())?;
     rooms.push(kept)?;
@@ -265,25 +269,26 @@ pub(crate) fn round_in<R: Threads + Sync, G: Gate + Sync>(
     claims: &Claims,
     seat: ClaimSeat,
     rooms: &mut Vec<Vec<(u64, u64)>>,
-    items: &[Item],
+    sought: Sought,
 ) -> Result<(ClaimSeat, Vec<(u64, u64)>), Fault>
     requires scope { IsScope scope.now }
-    requires items { All (IsItem scope.now.heap.now) items.now }
-    requires few { length items.now < 2 ^ 32 }
+    requires items { All (IsItem scope.now.heap.now) (items_of sought) }
+    requires few { length (items_of sought) < 2 ^ 32 }
     requires table { IsSeatOf claims.now seat }
     requires whole { seat.hand.shares ≡ all_shares }
     requires places { place_count scope.now ≤ claims.now.places }
-    requires rise { Rises (all_pairs_in scope.now items.now) }
-    requires ranks { AreRanks (all_pairs_in scope.now items.now) }
-    requires above { AreAbove seat.hand.offers (all_pairs_in scope.now items.now) }
-    ensures ok { IfOk result (λ r. IsRound claims.now (place_in scope.now) (all_pairs_in scope.now items.now) seat r.0 r.1.items) }
+    requires rise { Rises (all_pairs_in scope.now (items_of sought)) }
+    requires paired { ArePaired sought }
+    requires ranks { AreRanks (all_pairs_in scope.now (items_of sought)) }
+    requires above { AreAbove seat.hand.offers (all_pairs_in scope.now (items_of sought)) }
+    ensures ok { IfOk result (λ r. IsRound claims.now (place_in scope.now) (all_pairs_in scope.now (items_of sought.entry)) seat r.0 r.1.items) }
     ensures memory { IfErr result (λ e. e ≡ Memory) }
 {
-    if crew.team.workers() == 1 || items.len() as u64 <= crew.team.chunk() {
+    if crew.team.workers() == 1 || sought.len() as u64 <= crew.team.chunk() {
         // A worker alone offers by rising rank, so what it kept is least.
-        return Ok(offer_alone(crew.alloc, scope, claims, seat, rooms, items)?);
+        return Ok(offer_alone(crew.alloc, scope, claims, seat, rooms, sought)?);
     }
-    offer_by_crew(crew, scope, claims, seat, rooms, items)
+    offer_by_crew(crew, scope, claims, seat, rooms, sought)
 }
 
 /// One round of claims: offers what the items reference in the window, and answers what won.
@@ -348,6 +353,7 @@ pub fn claim_round<R: Threads + Sync, G: Gate + Sync>(
         gate,
     };
     let mut rooms = Vec::new(alloc);
-    let (seat, won) = round_in(&crew, &scope, &claims, seat, &mut rooms, items)?;
+    let sought = Sought::Items(items);
+    let (seat, won) = round_in(&crew, &scope, &claims, seat, &mut rooms, sought)?;
     Ok((claims, seat, won))
 }

@@ -1,5 +1,4 @@
-use Rattle.std.proofs.Common.{◌≡◌, ◌∙◌, ◌+◌, ◌++◌, [], ◌∷◌, arith, ap, sym, take, map, flat_map}
-use Rattle.g1_frontier.specs.Offering.{in_span}
+use Rattle.std.proofs.Common.{arith}
 use Rattle.g1_frontier.proofs.rooms.push_spans.Goals as goal
 
 pub loop-span-smaller : goal.loop-span-smaller

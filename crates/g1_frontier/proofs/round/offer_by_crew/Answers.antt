@@ -2,7 +2,7 @@ use Rattle.std.proofs.Common.{◌∙◌, ◌≤◌, ◌^◌, length, ℕ, List, 
 use Rattle.std.specs.List.{flat_map}
 use Rattle.g1_frontier.specs.Numbers.{BeginsIn}
 use Rattle.g1_claim.specs.declared.rule.Offer.{Offer}
-use Rattle.g1_frontier.specs.Items.{all_pairs}
+use Rattle.g1_frontier.specs.Items.{all_pairs, items_of}
 use Rattle.g1_claim.specs.Claims.{IsSettled}
 use Rattle.g1_frontier.specs.Round.{winners}
 use Rattle.g1_frontier.proofs.Seeds.{flat_of_map}
@@ -21,18 +21,18 @@ pub look_again-requires-clause-inside : goal.look_again-requires-clause-inside
 look_again-requires-clause-inside g c κs within =
     let h = c.args.scope.now.heap.now in
     let window : List ℕ = c.args.scope.now.window.now in
-    let ps : List (ℕ × ℕ) = all_pairs h window c.args.items.now in
+    let ps : List (ℕ × ℕ) = all_pairs h window (items_of c.args.sought) in
     let lists = map (λ (v : Vec (ℕ × ℕ) Global). v.items) c.in_ok-seat.kept.lists.items in
     let perm : IsPermutation (flat_map (λ (l : List (ℕ × ℕ)). l) lists) c.in_ok-kept.kept.items =
     subst (λ l. IsPermutation l c.in_ok-kept.kept.items) (sym (flat_of_map (λ (l : List (ℕ × ℕ)). l) (λ (v : Vec (ℕ × ℕ) Global). v.items) c.in_ok-seat.kept.lists.items)) c.in_ok-kept.ensures.same in
     subst (All (λ q. BeginsIn h window q.1)) (sym c.as_slice.ensures.value)
     (all_from_in (λ q. BeginsIn h window q.1) c.in_ok-kept.kept.items
-    (λ q i. all_begin h window c.args.items.now q c.requires.places.scope.valid c.requires.items (merged_from c.args.claims.now (place_in c.args.scope.now) ps c.args.seat c.in_ok-seat.seat lists
+    (λ q i. all_begin h window (items_of c.args.sought) q c.requires.places.scope.valid c.requires.items (merged_from c.args.claims.now (place_in c.args.scope.now) ps c.args.seat c.in_ok-seat.seat lists
     c.in_ok-seat.ensures.ok c.in_ok-kept.kept.items perm q i)))
 
 pub returns-clause-ok : goal.returns-clause-ok
 returns-clause-ok g c =
-    let ps : List (ℕ × ℕ) = all_pairs_in c.args.scope.now c.args.items.now in
+    let ps : List (ℕ × ℕ) = all_pairs_in c.args.scope.now (items_of c.args.sought) in
     let lists = map (λ (v : Vec (ℕ × ℕ) Global). v.items) c.in_ok-seat.kept.lists.items in
     let perm : IsPermutation (flat_map (λ (l : List (ℕ × ℕ)). l) lists) c.in_ok-kept.kept.items =
     subst (λ l. IsPermutation l c.in_ok-kept.kept.items) (sym (flat_of_map (λ (l : List (ℕ × ℕ)). l) (λ (v : Vec (ℕ × ℕ) Global). v.items) c.in_ok-seat.kept.lists.items)) c.in_ok-kept.ensures.same in
@@ -50,7 +50,7 @@ returns-clause-ok g c =
 
 pub look_again-requires-clause-few : goal.look_again-requires-clause-few
 look_again-requires-clause-few g c κs within =
-    let ps : List (ℕ × ℕ) = all_pairs_in c.args.scope.now c.args.items.now in
+    let ps : List (ℕ × ℕ) = all_pairs_in c.args.scope.now (items_of c.args.sought) in
     let lists = map (λ (v : Vec (ℕ × ℕ) Global). v.items) c.in_ok-seat.kept.lists.items in
     let perm : IsPermutation (flat_map (λ (l : List (ℕ × ℕ)). l) lists) c.in_ok-kept.kept.items =
     subst (λ l. IsPermutation l c.in_ok-kept.kept.items) (sym (flat_of_map (λ (l : List (ℕ × ℕ)). l) (λ (v : Vec (ℕ × ℕ) Global). v.items) c.in_ok-seat.kept.lists.items)) c.in_ok-kept.ensures.same in
