@@ -6,6 +6,7 @@ use crate::item::Item;
 /// What a round looks at.
 #[derive(Clone, Copy, Drop)]
 pub enum Sought<'a> {
+    /// Items, each with a base of its own.
     Items(&'a [Item]),
     /// The objects at some addresses, and the base of each.
     Objects(&'a [u64], &'a [u64]),
