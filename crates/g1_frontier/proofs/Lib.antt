@@ -8,12 +8,14 @@ pub mod Seeds
 pub mod Names
 pub mod Scopes
 pub mod Numberings
+pub mod Soughts
 pub mod Offerings
 pub mod Pieces
 pub mod Assembly
 pub mod Winning
 pub mod Looks
 pub mod Looked
+pub mod Spans
 pub mod Merges
 pub mod Claimed
 pub mod Alone

@@ -35,14 +35,15 @@ no_member [] p = refl
 no_member (m ∷ ms) p = absurd (in_permuted (map pair_of (m ∷ ms)) [] (pair_of m) p (inl refl))
 
 module _ (t : TableView) (place : ℕ → ℕ) (size : ℕ) (pairs : List (ℕ × ℕ)) {O : Type 0} (list_of : O → List (ℕ × ℕ)) (runs : Holder → ℕ → Holder → O → Type 0)
-    (says : (s : Holder) (k : ℕ) (u : Holder) (o : O) → runs s k u o → (u.kept.items ≡ s.kept.items) × HasLooked place (slice_of size k pairs) s.seat u.seat (list_of o)) where
+    (says : (s : Holder) (k : ℕ) (u : Holder) (o : O) → runs s k u o → (u.kept.items ≡ s.kept.items) × (u.number ≡ s.number) × HasLooked place (slice_of size k pairs) s.seat u.seat (list_of o)) where
   pub tried : (s : Holder) (k : ℕ) (u : Holder) (o : O) → runs s k u o → HasTried place (flat_map none (slice_of size k pairs)) s u
   tried s k u o r =
-      let h = (says s k u o r).1 in record {
+      let h = (says s k u o r).2 in record {
         made = [];
         each = sym (flat_none (slice_of size k pairs));
         offers = h.offers ∙ sym (append-nil s.seat.hand.offers);
         kept = (says s k u o r).0 ∙ sym (append-nil s.kept.items);
+        number = (says s k u o r).1;
         table = h.table;
         shares = h.shares;
         lowers = λ all. tt;
@@ -73,7 +74,7 @@ module _ (t : TableView) (place : ℕ → ℕ) (size : ℕ) (pairs : List (ℕ �
       ])) in
       let begun : (s : Holder) → In before s → Begins s.seat.seen seat.seen = λ s i.
       subst (λ l. Begins l seat.seen) (sym (all_in (λ h. h.seat.seen ≡ seat.seen) before s g.seen i)) (begins_all seat.seen) in
-      let each = each_won place os seat.seen are (λ j. slice_of size j pairs) list_of runs (λ s j u x z. (says s j u x z).1) n before r.parts after r.workers begun there in record {
+      let each = each_won place os seat.seen are (λ j. slice_of size j pairs) list_of runs (λ s j u x z. (says s j u x z).2) n before r.parts after r.workers begun there in record {
         whole = o.whole;
         offers = same;
         won = chunks_pass (is_least place os) list_of size pairs outs (subst (λ m. length pairs ≤ m * size) (sym r.count) le)

@@ -20,6 +20,7 @@ module _ (place : ℕ → ℕ) where
     each = refl;
     offers = sym (append-nil h.seat.hand.offers);
     kept = sym (append-nil h.kept.items);
+    number = refl;
     table = refl;
     shares = refl;
     lowers = λ all. tt;
@@ -40,6 +41,7 @@ module _ (place : ℕ → ℕ) where
     kept =
         y.kept ∙ ap (λ is. is ++ map pair_of (filter answered_true y.made)) x.kept ∙ append_assoc a.kept.items (map pair_of (filter answered_true x.made)) (map pair_of (filter answered_true y.made))
         ∙ ap (λ is. a.kept.items ++ is) (sym (ap (map pair_of) (filter_append answered_true x.made y.made) ∙ map-append pair_of (filter answered_true x.made) (filter answered_true y.made)));
+    number = y.number ∙ x.number;
     table = y.table ∙ x.table;
     shares = y.shares ∙ x.shares;
     lowers = λ all. lowers_append a.seat.hand.offers x.made y.made (x.lowers all) (subst (λ os. Lowers place os y.made) x.offers (y.lowers (x.shares ∙ all)));
@@ -47,13 +49,14 @@ module _ (place : ℕ → ℕ) where
 
   -- one offer
   pub tried_one : (rank a : ℕ) (b : Bool) (h t : Holder) → t.seat.hand.offers ≡ h.seat.hand.offers ++ offer (place a) rank b ∷ [] → t.kept.items ≡ h.kept.items ++ cond b ((rank, a) ∷ []) []
-      → t.seat.table ≡ h.seat.table → t.seat.hand.shares ≡ h.seat.hand.shares
+      → t.number ≡ h.number → t.seat.table ≡ h.seat.table → t.seat.hand.shares ≡ h.seat.hand.shares
       → (h.seat.hand.shares ≡ 64 → b ≡ true → rank < least_rank (place a) h.seat.hand.offers) → HasTried place ((rank, a) ∷ []) h t
-  tried_one rank a b h t os ks table shares low = record {
+  tried_one rank a b h t os ks number table shares low = record {
     made = ((rank, a), b) ∷ [];
     each = refl;
     offers = os;
     kept = ks ∙ ap (λ l. h.kept.items ++ l) (at b);
+    number = number;
     table = table;
     shares = shares;
     lowers = λ all. (low all, tt);

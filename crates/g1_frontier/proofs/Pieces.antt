@@ -1,5 +1,5 @@
 -- Items cut into chunks.
-use Rattle.std.proofs.Common.{◌≡◌, ℕ, zero, suc, ◌+◌, ◌-◌, ◌*◌, ◌/◌, ◌<◌, ◌≤◌, inl, inr, List, [], ◌∷◌, ◌++◌, length, map, take, drop, min, sym, refl, ap, ◌∙◌, subst, arith, lt_of_not-le}
+use Rattle.std.proofs.Common.{◌≡◌, ℕ, zero, suc, ◌+◌, ◌-◌, ◌*◌, ◌/◌, ◌<◌, ◌≤◌, inl, inr, List, [], ◌∷◌, ◌++◌, length, map, take, drop, get_or, min, sym, refl, ap, ◌∙◌, subst, arith, lt_of_not-le}
 use Rattle.std.specs.List.{flat_map, enumerate_from, range_with_len, AllZip}
 use Rattle.std.proofs.lemmas.List.{drop-drop, take_rest, take_min, map-append}
 use Rattle.std.proofs.lemmas.List.Concat.{flat_map-append}
@@ -23,6 +23,11 @@ take_drop : {A : Type 0} (n : ℕ) (ys : List A) → take n ys ++ drop n ys ≡ 
 take_drop zero ys = refl
 take_drop (suc n) [] = refl
 take_drop (suc n) (y ∷ ys) = ap (λ l. y ∷ l) (take_drop n ys)
+
+-- what stands behind a list
+pub at_end : {A : Type 0} (xs : List A) (y : A) (ys : List A) (d : A) → get_or (xs ++ y ∷ ys) (length xs) d ≡ y
+at_end [] y ys d = refl
+at_end (x ∷ xs) y ys d = at_end xs y ys d
 
 -- so many pieces reach to the end, and each has an item
 pub enough : (n c : ℕ) → 0 < c → n ≤ ((n + c) - 1) / c * c
@@ -48,6 +53,14 @@ piece_cut size k n xs e =
     let rest = take_rest xs (k * size) in
     let least : n ≡ min size (length (drop (k * size) xs)) = omega (arith, e, ap length rest) in
     ap (λ l. take n l) rest ∙ ap (λ m. take m (drop (k * size) xs)) least ∙ take_min size (drop (k * size) xs)
+
+-- so is a part from any place on
+pub part_cut : {A : Type 0} (from most n : ℕ) (xs : List A) → n ≡ min (length (take (length xs - from) (drop from xs))) most →
+    take n (take (length xs - from) (drop from xs)) ≡ take most (drop from xs)
+part_cut from most n xs e =
+    let rest = take_rest xs from in
+    let least : n ≡ min most (length (drop from xs)) = omega (arith, e, ap length rest) in
+    ap (λ l. take n l) rest ∙ ap (λ m. take m (drop from xs)) least ∙ take_min most (drop from xs)
 
 module _ {A B : Type 0} (f : A → List B) (size : ℕ) (xs : List A) where
   -- the pieces of all chunks are the items
@@ -115,13 +128,13 @@ module _ {A B : Type 0} (R : B → B → Type 0) (f : A → List B) (size : ℕ)
   cut : (n : ℕ) → Ordered R (flat_map f (take n xs)) × Ordered R (flat_map f (drop n xs)) × ((x y : B) → In (flat_map f (take n xs)) x → In (flat_map f (drop n xs)) y → R x y)
   cut n = Ordered-apart R (flat_map f (take n xs)) (flat_map f (drop n xs)) (subst (Ordered R) (sym (sym (flat_map-append f (take n xs) (drop n xs)) ∙ ap (flat_map f) (take_drop n xs))) o)
 
-  piece_ordered : (k : ℕ) → Ordered R (flat_map f (slice_of size k xs))
+  pub piece_ordered : (k : ℕ) → Ordered R (flat_map f (slice_of size k xs))
   piece_ordered k =
       let rest : List A = drop (k * size) xs in
       (Ordered-apart R (flat_map f (take size rest)) (flat_map f (drop size rest))
       (subst (Ordered R) (sym (sym (flat_map-append f (take size rest) (drop size rest)) ∙ ap (flat_map f) (take_drop size rest))) (cut (k * size)).1)).0
 
-  pieces_apart : (j k : ℕ) (x y : B) → j < k → In (flat_map f (slice_of size j xs)) x → In (flat_map f (slice_of size k xs)) y → R x y
+  pub pieces_apart : (j k : ℕ) (x y : B) → j < k → In (flat_map f (slice_of size j xs)) x → In (flat_map f (slice_of size k xs)) y → R x y
   pieces_apart j k x y lt a b =
       let m : (j + 1) * size ≤ k * size = mul-le-mul_right size (omega (arith, lt)) in
       let p = flat_map_cases f (slice_of size j xs) x a in

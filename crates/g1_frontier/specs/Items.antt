@@ -9,6 +9,8 @@ use Rattle.g1_rem.specs.Starts.{card_count}
 use Rattle.g1_rem.specs.Slots.{slots_on}
 use Rattle.g1_frontier.specs.declared.item.Item.{Item}
 use Rattle.g1_frontier.specs.declared.item.Item.TheVariants.{Root, Card, Object}
+use Rattle.g1_frontier.specs.declared.sought.Sought.{Sought}
+use Rattle.g1_frontier.specs.declared.sought.Sought.TheVariants.{Items, Objects}
 
 -- the item is one of the heap's
 abbrev pub IsItem : Heap → Item → Type 0
@@ -62,3 +64,24 @@ item_slots h (Object a b) = slot_count h a
 abbrev pub object_items : Heap → ℕ → List ℕ → List Item
 object_items h base [] = []
 object_items h base (a ∷ rest) = Object a base ∷ object_items h (base + slot_count h a) rest
+
+-- the objects at some addresses, each with its base
+abbrev pub items_at : List ℕ → List ℕ → List Item
+items_at [] bases = []
+items_at (a ∷ rest) [] = []
+items_at (a ∷ rest) (b ∷ bases) = Object a b ∷ items_at rest bases
+
+-- numbers that begin at one: each is the one before and what stands beside that
+abbrev pub numbered_on : ℕ → List ℕ → List ℕ
+numbered_on base [] = []
+numbered_on base (n ∷ counts) = base ∷ numbered_on (base + n) counts
+
+-- the items that a round looks at
+abbrev pub items_of : Sought → List Item
+items_of (Items items) = items.now
+items_of (Objects addresses bases) = items_at addresses.now bases.now
+
+-- each address has a base
+abbrev pub ArePaired : Sought → Type 0
+ArePaired (Items items) = Unit {0}
+ArePaired (Objects addresses bases) = length bases.now ≡ length addresses.now

@@ -1,10 +1,11 @@
 -- What a round of offers leaves.
 use Rattle.std.specs.Prelude.{◌≡◌, ℕ, ◌+◌, ◌<◌, ◌≤◌, Bool, eqb, List, [], ◌∷◌, ◌++◌, map, filter, flat_map, length, sum_by, IsPermutation}
-use Rattle.std.specs.List.{All, AllPairs}
+use Rattle.std.specs.List.{All, AllPairs, range_with_len}
 use Rattle.g1_claim.specs.declared.rule.Offer.{Offer}
 use Rattle.g1_claim.specs.Claims.{all_shares, TableView, SeatView, IsSeatOf, IsSettled, AreWon, least_rank}
 use Rattle.g1_frontier.specs.declared.offering.Holder.{Holder}
-use Rattle.g1_frontier.specs.Offering.{Try, pair_of, answered_true, offer_of}
+use Rattle.g1_frontier.specs.declared.offering.Span.{Span}
+use Rattle.g1_frontier.specs.Offering.{Try, pair_of, answered_true, offer_of, in_span, IsWithin}
 
 -- the ranks rise
 abbrev pub Rises : List (ℕ × ℕ) → Type 0
@@ -41,12 +42,14 @@ pub record IsFreshHolder (t : TableView) (h : Holder) : Type 0 where
   pub no_offers : h.seat.hand.offers ≡ []
   pub none_kept : h.kept.items ≡ []
 
--- so many workers; the last one has the shares that are left, and what the seat offered; each has seen what the seat has
+-- so many workers, the last of number 0 and the others numbered from 1; the last one has the shares that are left, and what the seat offered; each has seen what the seat has
 pub record IsGivenOut (t : TableView) (before : SeatView) (count : ℕ) (holders : List Holder) : Type 0 where
   pub others : List Holder
   pub last : Holder
   pub are : holders ≡ others ++ last ∷ []
   pub count_is : length holders ≡ count
+  pub numbers : map (λ h. h.number) others ≡ range_with_len 1 (length others)
+  pub first : last.number ≡ 0
   pub fresh : All (IsFreshHolder t) others
   pub seat : IsSeatOf t last.seat
   pub shares : length others + last.seat.hand.shares ≡ all_shares
@@ -81,6 +84,12 @@ pub record HasOffered (t : TableView) (place : ℕ → ℕ) (ps : List (ℕ × �
 -- no rank is above a later one
 abbrev pub IsByRank : List (ℕ × ℕ) → Type 0
 IsByRank ps = AllPairs (λ q r. q.0 ≤ r.0) ps
+
+-- the spans of the chunks have what the workers kept, by rising rank
+pub record AreSpans (lists : List (List (ℕ × ℕ))) (spans : List Span) : Type 0 where
+  pub within : All (IsWithin lists) spans
+  pub same : IsPermutation (flat_map (λ l. l) lists) (flat_map (in_span lists) spans)
+  pub in_order : IsByRank (flat_map (in_span lists) spans)
 
 -- after a round the whole seat has one more offer for each pair, at the place of its address, and those that won are listed
 pub record IsRound (t : TableView) (place : ℕ → ℕ) (ps : List (ℕ × ℕ)) (before after : SeatView) (list : List (ℕ × ℕ)) : Type 0 where

@@ -4,13 +4,23 @@ use g1_work::{Gate, Team};
 use std::alloc::Global;
 use std::thread::Threads;
 
-/// What a round runs with: threads and memory, how many workers draw how many items at once, and the
-/// gate to which they report.
+/// How a round puts what its workers kept in the order of the ranks.
+#[derive(Clone, Copy, Drop)]
+pub(crate) enum Merging {
+    /// Their lists are merged by rank.
+    Ranks,
+    /// What was kept of each chunk is taken from them, chunk by chunk.
+    Chunks,
+}
+
+/// What a round runs with: threads and memory, how many workers draw how many items at once, how what
+/// they keep is put in order, and the gate to which they report.
 #[derive(Drop)]
 pub(crate) struct Crew<'a, R, G> {
     pub rt: &'a R,
     pub alloc: Global,
     pub team: Team,
+    pub merging: Merging,
     pub gate: &'a G,
 }
 
@@ -40,6 +50,7 @@ impl<'a, R: Threads + Sync, G: Gate + Sync> Crew<'a, R, G> {
             rt: self.rt,
             alloc: self.alloc,
             team: Team::new(workers, self.team.chunk()),
+            merging: self.merging,
             gate: self.gate,
         }
     }

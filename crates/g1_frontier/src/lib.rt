@@ -16,12 +16,15 @@
 //! 3. The workers draw chunks of a round's items. For each slot that references an object in the
 //!    window they offer its rank at the object's place, and keep rank and address if the offer
 //!    lowered the word.
-//! 4. When all have ended, their lists are merged by rank, and the workers look at the words again,
-//!    each at a part of the list. An address whose rank is still the word is found. A worker alone
-//!    offers by rising rank, so all that it kept is found.
+//! 4. When all have ended, what they kept is put in the order of the ranks. `claim_round` merges their
+//!    lists. `discover` takes from them what was kept of each chunk, chunk by chunk, and its next round
+//!    uses the lists again. Then the workers look at the words again, each at a part of the list. An
+//!    address whose rank is still the word is found. A worker alone offers by rising rank, so all that
+//!    it kept is found.
 //! 5. What a round found is the next round's items, until a round finds nothing. The workers count the
-//!    slots of these objects, and one thread numbers them on. Since ranks rise over all rounds, a
-//!    place that has a word keeps it.
+//!    slots of these objects, and one thread turns the counts into bases. No list of these items is
+//!    made: an address among those found and the base at its place are one. Since ranks rise over all
+//!    rounds, a place that has a word keeps it.
 //!
 //! The chunk says how many items a worker draws at once, and nothing else. A round hires one worker for
 //! each 2,048 items, and the first rounds at least two; a second look one for each 4,096 of what was kept. A round of one worker, or of one chunk, makes
@@ -46,8 +49,10 @@ mod looking;
 mod numbers;
 mod offering;
 mod queue;
+mod rooms;
 mod round;
 mod scope;
+mod sought;
 mod survivors;
 
 pub use item::Item;

@@ -11,6 +11,7 @@ ghost use Rattle.g1_frontier.specs.Scope.{place_in};
 
 use crate::crew::Crew;
 use crate::offering::{Holder, keep_if};
+use crate::rooms::join_lists;
 use crate::round::{give_out, take_in};
 use crate::scope::Scope;
 use g1_claim::{ClaimSeat, Claims};
@@ -79,7 +80,7 @@ impl<'a> Task for Looking<'a> {
 
     ghost ready = { λ s h k. HasPlaces s.scope.now s.claims.now × IsSeatOf s.claims.now h.seat × All (λ q. BeginsIn s.scope.now.heap.now s.scope.now.window.now q.1) s.pairs.now × (0 < s.chunk) × (k * s.chunk < length s.pairs.now) × (k < 2 ^ 32) × (s.chunk ≤ most_chunk) };
 
-    ghost runs = { λ s h k t out. (t.kept.items ≡ h.kept.items) × HasLooked (place_in s.scope.now) (slice_of s.chunk k s.pairs.now) h.seat t.seat out.items };
+    ghost runs = { λ s h k t out. (t.kept.items ≡ h.kept.items) × (t.number ≡ h.number) × HasLooked (place_in s.scope.now) (slice_of s.chunk k s.pairs.now) h.seat t.seat out.items };
 
     ghost may_fail = { λ _ _ e. e ≡ Memory };
 
@@ -112,7 +113,9 @@ fn look_by_chunks<R: Threads + Sync, G: Gate + Sync>(
     let alloc = crew.alloc;
     let count = (pairs.len() + LOOKS_A_CHUNK - 1) / LOOKS_A_CHUNK;
     let team = crew.team.for_chunks((pairs.len() / LOOKS_A_WORKER) as u64);
-    let holders = give_out(alloc, claims, seat, team)?;
+    // What they see is listed by chunks, so they need no room.
+    let mut none = Vec::new(alloc);
+    let holders = give_out(alloc, claims, seat, &mut none, team)?;
     let looking = Looking {
         scope,
         claims,
@@ -131,6 +134,7 @@ pub(crate) fn look_again<R: Threads + Sync, G: Gate + Sync>(
     scope: &Scope,
     claims: &Claims,
     mut seat: ClaimSeat,
+    rooms: &mut Vec<Vec<(u64, u64)>>,
     pairs: &[(u64, u64)],
 ) -> Result<(ClaimSeat, Vec<(u64, u64)>), Fault>
     requires places { HasPlaces scope.now claims.now }
@@ -150,6 +154,6 @@ pub(crate) fn look_again<R: Threads + Sync, G: Gate + Sync>(
     // By this look the whole seat sees all offers, and hands that on to those that are split from it.
     claims.least(&mut seat, place);
     let (seat, lists) = look_by_chunks(crew, scope, claims, seat, pairs)?;
-    let won = lists.concat(crew.alloc)?;
+    let won = join_lists(crew.alloc, rooms, lists.as_slice())?;
     Ok((seat, won))
 }

@@ -12,18 +12,29 @@ ghost use Rattle.g1_frontier.specs.Scope.{IsScope, place_in, aims_in, pairs_in, 
 ghost use Rattle.g1_frontier.specs.Offering.{HasTried};
 
 use crate::item::Item;
+use crate::queue::read_headers;
 use crate::scope::Scope;
+use crate::sought::Sought;
 use g1_claim::{ClaimSeat, Claims};
 use g1_rem::slots_on;
-use g1_words::{Fault, Heap};
+use g1_words::{Fault, Heap, Object};
 use g1_work::Task;
 use std::alloc::{AllocError, Global};
 
-/// A worker's seat, and the ranks and addresses whose offers by it answered true.
+/// A worker's number and seat, and its room: the ranks and addresses whose offers by it answered true.
 #[derive(Drop)]
 pub struct Holder {
+    pub number: usize,
     pub seat: ClaimSeat,
     pub kept: Vec<(u64, u64)>,
+}
+
+/// What a worker kept of one chunk: where in its room this begins and ends.
+#[derive(Drop)]
+pub struct Span {
+    pub worker: usize,
+    pub from: usize,
+    pub to: usize,
 }
 
 /// What a worker offers with.
@@ -84,7 +95,7 @@ impl<'a> Offers<'a> {
     ghost use Rattle.g1_rem.specs.Starts.{card_count};
     ghost use Rattle.g1_rem.specs.Slots.{slots_on};
     ghost use Rattle.g1_claim.specs.Claims.{IsSeatOf};
-    ghost use Rattle.g1_frontier.specs.Items.{IsItem, AreRanks, slot_count, item_slots};
+    ghost use Rattle.g1_frontier.specs.Items.{IsItem, AreRanks, slot_count, item_slots, items_at, items_of, ArePaired};
     ghost use Rattle.g1_frontier.specs.Scope.{IsScope, place_in, aims_in, pairs_in, all_pairs_in};
     ghost use Rattle.g1_frontier.specs.Offering.{HasTried, HasPlaces};
 
@@ -207,7 +218,7 @@ impl<'a> Offers<'a> {
     }
 
     // Offers what the items reference in the window, in order.
-    pub(crate) fn offer_items(
+    fn offer_items(
         &self,
         alloc: Global,
         holder: &mut Holder,
@@ -230,13 +241,85 @@ impl<'a> Offers<'a> {
         }
         Ok(())
     }
+
+    // Offers what the objects of a batch reference in the window, in order, each from its base on. Their
+    // headers were read ahead.
+    fn offer_headers(
+        &self,
+        holder: &mut Holder,
+        addresses: &[u64],
+        ahead: &[Object],
+        bases: &[u64],
+    ) -> Result<(), AllocError>
+        requires places { HasPlaces self.now.scope.now self.now.claims.now }
+        requires seat { IsSeatOf self.now.claims.now holder.old.seat }
+        requires items { All (IsItem self.now.scope.now.heap.now) (items_at addresses.now bases.now) }
+        requires ahead { ahead.now ≡ map (object_at self.now.scope.now.heap.now) addresses.now }
+        requires paired { length bases.now ≡ length addresses.now }
+        requires ranks { AreRanks (all_pairs_in self.now.scope.now (items_at addresses.now bases.now)) }
+        ensures { OnOk result (HasTried (place_in self.now.scope.now) (all_pairs_in self.now.scope.now (items_at addresses.now bases.now)) holder.old holder.new) }
+    {
+        for (index, at) in addresses.iter().enumerate() {
+            self.offer_object(holder, *at, bases[index], ahead[index].refs)?;
+        }
+        Ok(())
+    }
+
+    // Offers what the objects at some addresses reference in the window, in order, each from its base on.
+    fn offer_objects(
+        &self,
+        alloc: Global,
+        holder: &mut Holder,
+        addresses: &[u64],
+        bases: &[u64],
+    ) -> Result<(), AllocError>
+        requires places { HasPlaces self.now.scope.now self.now.claims.now }
+        requires seat { IsSeatOf self.now.claims.now holder.old.seat }
+        requires items { All (IsItem self.now.scope.now.heap.now) (items_at addresses.now bases.now) }
+        requires paired { length bases.now ≡ length addresses.now }
+        requires ranks { AreRanks (all_pairs_in self.now.scope.now (items_at addresses.now bases.now)) }
+        ensures { OnOk result (HasTried (place_in self.now.scope.now) (all_pairs_in self.now.scope.now (items_at addresses.now bases.now)) holder.old holder.new) }
+    {
+        let mut ahead = Vec::with_capacity(alloc, HEADERS_AHEAD)?;
+        let mut from = 0;
+        while from < addresses.len() {
+            let to = addresses.len().min(from + HEADERS_AHEAD);
+            let batch = &addresses[from..to];
+            read_headers(self.scope.heap, batch, &mut ahead)?;
+            self.offer_headers(holder, batch, ahead.as_slice(), &bases[from..to])?;
+            from = to;
+        }
+        Ok(())
+    }
+
+    // Offers what a round looks at references in the window, in order.
+    pub(crate) fn offer_sought(
+        &self,
+        alloc: Global,
+        holder: &mut Holder,
+        sought: Sought,
+    ) -> Result<(), AllocError>
+        requires places { HasPlaces self.now.scope.now self.now.claims.now }
+        requires seat { IsSeatOf self.now.claims.now holder.old.seat }
+        requires items { All (IsItem self.now.scope.now.heap.now) (items_of sought) }
+        requires paired { ArePaired sought }
+        requires ranks { AreRanks (all_pairs_in self.now.scope.now (items_of sought)) }
+        ensures { OnOk result (HasTried (place_in self.now.scope.now) (all_pairs_in self.now.scope.now (items_of sought.entry)) holder.old holder.new) }
+    {
+        match sought {
+            Sought::Items(items) => self.offer_items(alloc, holder, items),
+            Sought::Objects(addresses, bases) => {
+                self.offer_objects(alloc, holder, addresses, bases)
+            }
+        }
+    }
 }
 
-/// The items of a round, by chunks of this many.
+/// What a round looks at, by chunks of this many.
 #[derive(Drop)]
 pub struct Round<'a> {
     pub offers: Offers<'a>,
-    pub items: &'a [Item],
+    pub sought: Sought<'a>,
     pub chunk: usize,
     pub alloc: Global,
 }
@@ -244,7 +327,7 @@ pub struct Round<'a> {
 impl<'a> Task for Round<'a> {
     type State = Holder;
 
-    type Out = ();
+    type Out = Span;
 
     ghost use Rattle.std.specs.Prelude.{◌≡◌, ◌<◌, ◌≤◌, ◌*◌, ◌^◌, length};
     ghost use Rattle.std.specs.List.{All};
@@ -252,20 +335,24 @@ impl<'a> Task for Round<'a> {
     ghost use Rattle.g1_work.specs.Regions.{slice_of};
     ghost use Rattle.g1_work.specs.Team.{most_chunk};
     ghost use Rattle.g1_claim.specs.Claims.{IsSeatOf};
-    ghost use Rattle.g1_frontier.specs.Items.{IsItem, AreRanks};
+    ghost use Rattle.g1_frontier.specs.Items.{IsItem, AreRanks, items_of, ArePaired};
     ghost use Rattle.g1_frontier.specs.Scope.{place_in, all_pairs_in};
-    ghost use Rattle.g1_frontier.specs.Offering.{HasTried, HasPlaces};
+    ghost use Rattle.g1_frontier.specs.Offering.{HasTried, HasPlaces, IsSpan};
 
-    ghost ready = { λ s h k. HasPlaces s.offers.scope.now s.offers.claims.now × IsSeatOf s.offers.claims.now h.seat × All (IsItem s.offers.scope.now.heap.now) s.items.now × AreRanks (all_pairs_in s.offers.scope.now s.items.now) × (0 < s.chunk) × (k * s.chunk < length s.items.now) × (k < 2 ^ 32) × (s.chunk ≤ most_chunk) };
+    ghost ready = { λ s h k. HasPlaces s.offers.scope.now s.offers.claims.now × IsSeatOf s.offers.claims.now h.seat × All (IsItem s.offers.scope.now.heap.now) (items_of s.sought) × ArePaired s.sought × AreRanks (all_pairs_in s.offers.scope.now (items_of s.sought)) × (0 < s.chunk) × (k * s.chunk < length (items_of s.sought)) × (k < 2 ^ 32) × (s.chunk ≤ most_chunk) };
 
-    ghost runs = { λ s h k t _. HasTried (place_in s.offers.scope.now) (all_pairs_in s.offers.scope.now (slice_of s.chunk k s.items.now)) h t };
+    ghost runs = { λ s h k t o. HasTried (place_in s.offers.scope.now) (all_pairs_in s.offers.scope.now (slice_of s.chunk k (items_of s.sought))) h t × IsSpan h t o };
 
     ghost may_fail = { λ _ _ e. e ≡ Memory };
 
-    fn run(&self, state: &mut Holder, chunk: u64) -> Result<(), Fault> {
-        let rest = &self.items[chunk as usize * self.chunk..];
-        let items = &rest[..rest.len().min(self.chunk)];
-        self.offers.offer_items(self.alloc, state, items)?;
-        Ok(())
+    fn run(&self, state: &mut Holder, chunk: u64) -> Result<Span, Fault> {
+        let from = state.kept.len();
+        let sought = self.sought.part(chunk as usize * self.chunk, self.chunk);
+        self.offers.offer_sought(self.alloc, state, sought)?;
+        Ok(Span {
+            worker: state.number,
+            from,
+            to: state.kept.len(),
+        })
     }
 }

@@ -20,7 +20,11 @@ pub struct Queue {
 }
 
 // Reads the headers of the objects at these addresses, one load beside the other.
-fn read_headers(heap: &Heap, addresses: &[u64], ahead: &mut Vec<Object>) -> Result<(), AllocError>
+pub(crate) fn read_headers(
+    heap: &Heap,
+    addresses: &[u64],
+    ahead: &mut Vec<Object>,
+) -> Result<(), AllocError>
     requires { All (λ a. Contains (objects heap.now) (object_at heap.now a)) addresses.now }
     ensures { OnOk result (ahead.new.items ≡ map (object_at heap.now) addresses.now) }
 {

@@ -5,17 +5,19 @@ ghost use Rattle.g1_work.specs.Team.{IsTeam};
 ghost use Rattle.g1_rem.specs.Starts.{IsStartsOf};
 ghost use Rattle.g1_claim.specs.Claims.{all_shares, IsSeatOf, IsSettled};
 ghost use Rattle.g1_frontier.specs.Window.{AreRegions, place};
-ghost use Rattle.g1_frontier.specs.Items.{IsItem, IsOutside, all_pairs, AreRanks};
+ghost use Rattle.g1_frontier.specs.Items.{IsItem, IsOutside, all_pairs, AreRanks, items_of, ArePaired};
 ghost use Rattle.g1_frontier.specs.Numbers.{BeginsIn};
 ghost use Rattle.g1_frontier.specs.Scope.{IsScope, place_in, place_count, all_pairs_in};
 ghost use Rattle.g1_frontier.specs.Offering.{HasPlaces};
-ghost use Rattle.g1_frontier.specs.Round.{Rises, AreAbove, AddsOffers, winners, IsGivenOut, HasTaken, HasOffered, IsByRank, IsRound};
+ghost use Rattle.g1_frontier.specs.Round.{Rises, AreAbove, AddsOffers, winners, IsGivenOut, HasTaken, HasOffered, IsByRank, AreSpans, IsRound};
 
-use crate::crew::Crew;
+use crate::crew::{Crew, Merging};
 use crate::item::Item;
 use crate::looking::look_again;
-use crate::offering::{Holder, Offers, Round};
+use crate::offering::{Holder, Offers, Round, Span};
+use crate::rooms::{empty_room, push_spans};
 use crate::scope::{Numbering, Scope, positions};
+use crate::sought::Sought;
 use g1_claim::{ClaimSeat, Claims};
 use g1_rem::Starts;
 use g1_words::{Fault, Heap};
@@ -24,12 +26,13 @@ use itertools::Itertools;
 use std::alloc::{AllocError, Global};
 use std::thread::Threads;
 
-// A seat for each worker. The last one keeps the shares that are left, and what the whole seat
-// offered before.
+// A seat and a room for each worker. The last one has number 0, and keeps the shares that are left,
+// and what the whole seat offered before.
 pub(crate) fn give_out(
     alloc: Global,
     claims: &Claims,
     mut seat: ClaimSeat,
+    rooms: &mut Vec<Vec<(u64, u64)>>,
     team: Team,
 ) -> Result<Vec<Holder>, AllocError>
     requires seat { IsSeatOf claims.now seat × (seat.hand.shares ≡ all_shares) }
@@ -37,16 +40,18 @@ pub(crate) fn give_out(
 {
     let count = team.workers() as usize;
     let mut holders = Vec::with_capacity(alloc, count)?;
-    for _i in 1..count {
+    for number in 1..count {
         let theirs = claims.split(&mut seat);
         holders.push(Holder {
+            number,
             seat: theirs,
-            kept: Vec::new(alloc),
+            kept: empty_room(alloc, rooms),
         })?;
     }
     holders.push(Holder {
+        number: 0,
         seat,
-        kept: Vec::new(alloc),
+        kept: empty_room(alloc, rooms),
     })?;
     Ok(holders)
 }
@@ -67,7 +72,11 @@ fn join_all(
     ensures kept { OnOk result (map (λ l. l.items) lists.new.items ≡ map (λ l. l.items) lists.old.items ++ map (λ h. h.kept.items) others.items) }
 {
     for holder in others {
-        let Holder { seat: theirs, kept } = holder;
+        let Holder {
+            number: _,
+            seat: theirs,
+            kept,
+        } = holder;
         claims.join(seat, theirs);
         lists.push(kept)?;
     }
@@ -87,7 +96,11 @@ pub(crate) fn take_in(
     let Some(last) = holders.pop() else {
         unreachable!()
     };
-    let Holder { mut seat, kept } = last;
+    let Holder {
+        number: _,
+        mut seat,
+        kept,
+    } = last;
     let mut lists = Vec::new(alloc);
     lists.push(kept)?;
     join_all(claims, &mut seat, &mut lists, holders)?;
@@ -103,57 +116,75 @@ fn offer_alone(
     scope: &Scope,
     claims: &Claims,
     seat: ClaimSeat,
-    items: &[Item],
+    rooms: &mut Vec<Vec<(u64, u64)>>,
+    sought: Sought,
 ) -> Result<(ClaimSeat, Vec<(u64, u64)>), AllocError>
     requires places { HasPlaces scope.now claims.now }
     requires seat { IsSeatOf claims.now seat × (seat.hand.shares ≡ all_shares) }
-    requires items { All (IsItem scope.now.heap.now) items.now }
-    requires ranks { AreRanks (all_pairs_in scope.now items.now) }
-    requires rise { Rises (all_pairs_in scope.now items.now) }
-    requires above { AreAbove seat.hand.offers (all_pairs_in scope.now items.now) }
-    ensures offered { IfOk result (λ r. HasOffered claims.now (place_in scope.now) (all_pairs_in scope.now items.now) seat r.0 (r.1.items ∷ [])) }
-    ensures won { IfOk result (λ r. r.1.items ≡ winners (place_in scope.now) r.0.hand.offers (all_pairs_in scope.now items.now)) }
+    requires items { All (IsItem scope.now.heap.now) (items_of sought) }
+    requires paired { ArePaired sought }
+    requires ranks { AreRanks (all_pairs_in scope.now (items_of sought)) }
+    requires rise { Rises (all_pairs_in scope.now (items_of sought)) }
+    requires above { AreAbove seat.hand.offers (all_pairs_in scope.now (items_of sought)) }
+    ensures offered { IfOk result (λ r. HasOffered claims.now (place_in scope.now) (all_pairs_in scope.now (items_of sought.entry)) seat r.0 (r.1.items ∷ [])) }
+    ensures won { IfOk result (λ r. r.1.items ≡ winners (place_in scope.now) r.0.hand.offers (all_pairs_in scope.now (items_of sought.entry))) }
 {
     let mut holder = Holder {
+        number: 0,
         seat,
-        kept: Vec::new(alloc),
+        kept: empty_room(alloc, rooms),
     };
-    Offers { scope, claims }.offer_items(alloc, &mut holder, items)?;
-    let Holder { seat, kept } = holder;
+    Offers { scope, claims }.offer_sought(alloc, &mut holder, sought)?;
+    let Holder {
+        number: _,
+        seat,
+        kept,
+    } = holder;
     g1_claim::laws::settled(&seat);
     Ok((seat, kept))
 }
 
-// Offers what all items reference in the window: the whole seat after, and what each worker kept.
+// What the workers kept in a round, and where what was kept of each chunk stands in it.
+#[derive(Drop)]
+struct Kept {
+    lists: Vec<Vec<(u64, u64)>>,
+    spans: Vec<Span>,
+}
+
+// Offers what all items reference in the window: the whole seat after, and what the workers kept.
 fn offer_all<R: Threads + Sync, G: Gate + Sync>(
     crew: &Crew<'_, R, G>,
     scope: &Scope,
     claims: &Claims,
     seat: ClaimSeat,
-    items: &[Item],
-) -> Result<(ClaimSeat, Vec<Vec<(u64, u64)>>), Fault>
+    rooms: &mut Vec<Vec<(u64, u64)>>,
+    sought: Sought,
+) -> Result<(ClaimSeat, Kept), Fault>
     requires places { HasPlaces scope.now claims.now }
     requires seat { IsSeatOf claims.now seat × (seat.hand.shares ≡ all_shares) }
-    requires items { All (IsItem scope.now.heap.now) items.now }
-    requires ranks { AreRanks (all_pairs_in scope.now items.now) }
-    requires rise { Rises (all_pairs_in scope.now items.now) }
-    requires few { length items.now < 2 ^ 32 }
-    ensures ok { IfOk result (λ r. HasOffered claims.now (place_in scope.now) (all_pairs_in scope.now items.now) seat r.0 (map (λ l. l.items) r.1.items)) }
+    requires items { All (IsItem scope.now.heap.now) (items_of sought) }
+    requires paired { ArePaired sought }
+    requires ranks { AreRanks (all_pairs_in scope.now (items_of sought)) }
+    requires rise { Rises (all_pairs_in scope.now (items_of sought)) }
+    requires few { length (items_of sought) < 2 ^ 32 }
+    ensures ok { IfOk result (λ r. HasOffered claims.now (place_in scope.now) (all_pairs_in scope.now (items_of sought.entry)) seat r.0 (map (λ l. l.items) r.1.lists.items)) }
+    ensures spans { IfOk result (λ r. AreSpans (map (λ l. l.items) r.1.lists.items) r.1.spans.items) }
     ensures memory { IfErr result (λ e. e ≡ Memory) }
 {
     let alloc = crew.alloc;
     let chunk = crew.team.chunk() as usize;
-    let count = (items.len() + chunk - 1) / chunk;
+    let count = (sought.len() + chunk - 1) / chunk;
     let team = crew.team.for_chunks(count as u64);
-    let holders = give_out(alloc, claims, seat, team)?;
+    let holders = give_out(alloc, claims, seat, rooms, team)?;
     let round = Round {
         offers: Offers { scope, claims },
-        items,
+        sought,
         chunk,
         alloc,
     };
-    let (holders, _) = each_chunk(crew.rt, alloc, holders, count as u64, &round, crew.gate)?;
-    Ok(take_in(alloc, claims, holders)?)
+    let (holders, spans) = each_chunk(crew.rt, alloc, holders, count as u64, &round, crew.gate)?;
+    let (seat, lists) = take_in(alloc, claims, holders)?;
+    Ok((seat, Kept { lists, spans }))
 }
 
 // Merges lists that rise by rank.
@@ -167,55 +198,97 @@ fn merge(alloc: Global, lists: Vec<Vec<(u64, u64)>>) -> Result<Vec<(u64, u64)>, 
     Ok(merged)
 }
 
+// What the workers kept, in the order of the chunks, which is that of the ranks.
+fn by_chunks(
+    alloc: Global,
+    rooms: &mut Vec<Vec<(u64, u64)>>,
+    mut kept: Kept,
+) -> Result<Vec<(u64, u64)>, AllocError>
+    requires rise { All (λ l. Rises l.items) kept.lists.items }
+    requires spans { AreSpans (map (λ l. l.items) kept.lists.items) kept.spans.items }
+    ensures same { IfOk result (λ v. IsPermutation (flat_map (λ l. l.items) kept.lists.items) v.items) }
+    ensures in_order { IfOk result (λ v. IsByRank v.items) }
+{
+    let mut all = empty_room(alloc, rooms);
+    push_spans(&mut all, kept.lists.as_slice(), kept.spans.as_slice())?;
+    // The next round uses the rooms again.
+    rooms.append(&mut kept.lists)?;
+    Ok(all)
+}
+
+// What the workers kept, by rank.
+fn by_rank(
+    alloc: Global,
+    merging: Merging,
+    rooms: &mut Vec<Vec<(u64, u64)>>,
+    kept: Kept,
+) -> Result<Vec<(u64, u64)>, AllocError>
+    requires rise { All (λ l. Rises l.items) kept.lists.items }
+    requires spans { AreSpans (map (λ l. l.items) kept.lists.items) kept.spans.items }
+    ensures same { IfOk result (λ v. IsPermutation (flat_map (λ l. l.items) kept.lists.items) v.items) }
+    ensures in_order { IfOk result (λ v. IsByRank v.items) }
+{
+    match merging {
+        Merging::Ranks => merge(alloc, kept.lists),
+        Merging::Chunks => by_chunks(alloc, rooms, kept),
+    }
+}
+
 // Offers what all items reference in the window, by the whole crew: the whole seat after, and what won.
 fn offer_by_crew<R: Threads + Sync, G: Gate + Sync>(
     crew: &Crew<'_, R, G>,
     scope: &Scope,
     claims: &Claims,
     seat: ClaimSeat,
-    items: &[Item],
+    rooms: &mut Vec<Vec<(u64, u64)>>,
+    sought: Sought,
 ) -> Result<(ClaimSeat, Vec<(u64, u64)>), Fault>
     requires places { HasPlaces scope.now claims.now }
     requires seat { IsSeatOf claims.now seat × (seat.hand.shares ≡ all_shares) }
-    requires items { All (IsItem scope.now.heap.now) items.now }
-    requires ranks { AreRanks (all_pairs_in scope.now items.now) }
-    requires rise { Rises (all_pairs_in scope.now items.now) }
-    requires above { AreAbove seat.hand.offers (all_pairs_in scope.now items.now) }
-    requires few { length items.now < 2 ^ 32 }
-    ensures ok { IfOk result (λ r. IsRound claims.now (place_in scope.now) (all_pairs_in scope.now items.now) seat r.0 r.1.items) }
+    requires items { All (IsItem scope.now.heap.now) (items_of sought) }
+    requires paired { ArePaired sought }
+    requires ranks { AreRanks (all_pairs_in scope.now (items_of sought)) }
+    requires rise { Rises (all_pairs_in scope.now (items_of sought)) }
+    requires above { AreAbove seat.hand.offers (all_pairs_in scope.now (items_of sought)) }
+    requires few { length (items_of sought) < 2 ^ 32 }
+    ensures ok { IfOk result (λ r. IsRound claims.now (place_in scope.now) (all_pairs_in scope.now (items_of sought.entry)) seat r.0 r.1.items) }
     ensures memory { IfErr result (λ e. e ≡ Memory) }
 {
-    let (seat, lists) = offer_all(crew, scope, claims, seat, items)?;
-    let kept = merge(crew.alloc, lists)?;
-    let (seat, won) = look_again(crew, scope, claims, seat, kept.as_slice())?;
+    let (seat, kept) = offer_all(crew, scope, claims, seat, rooms, sought)?;
+    let kept = by_rank(crew.alloc, crew.merging, rooms, kept)?;
+    let (seat, won) = look_again(crew, scope, claims, seat, rooms, kept.as_slice())?;
+    rooms.push(kept)?;
     Ok((seat, won))
 }
 
-// One round of claims, in a scope that was made before: the whole seat after, and what won.
+// One round of claims, in a scope that was made before: the whole seat after, and what won. It takes
+// its lists from the rooms that earlier rounds left, and leaves its own.
 pub(crate) fn round_in<R: Threads + Sync, G: Gate + Sync>(
     crew: &Crew<'_, R, G>,
     scope: &Scope,
     claims: &Claims,
     seat: ClaimSeat,
-    items: &[Item],
+    rooms: &mut Vec<Vec<(u64, u64)>>,
+    sought: Sought,
 ) -> Result<(ClaimSeat, Vec<(u64, u64)>), Fault>
     requires scope { IsScope scope.now }
-    requires items { All (IsItem scope.now.heap.now) items.now }
-    requires few { length items.now < 2 ^ 32 }
+    requires items { All (IsItem scope.now.heap.now) (items_of sought) }
+    requires few { length (items_of sought) < 2 ^ 32 }
     requires table { IsSeatOf claims.now seat }
     requires whole { seat.hand.shares ≡ all_shares }
     requires places { place_count scope.now ≤ claims.now.places }
-    requires rise { Rises (all_pairs_in scope.now items.now) }
-    requires ranks { AreRanks (all_pairs_in scope.now items.now) }
-    requires above { AreAbove seat.hand.offers (all_pairs_in scope.now items.now) }
-    ensures ok { IfOk result (λ r. IsRound claims.now (place_in scope.now) (all_pairs_in scope.now items.now) seat r.0 r.1.items) }
+    requires rise { Rises (all_pairs_in scope.now (items_of sought)) }
+    requires paired { ArePaired sought }
+    requires ranks { AreRanks (all_pairs_in scope.now (items_of sought)) }
+    requires above { AreAbove seat.hand.offers (all_pairs_in scope.now (items_of sought)) }
+    ensures ok { IfOk result (λ r. IsRound claims.now (place_in scope.now) (all_pairs_in scope.now (items_of sought.entry)) seat r.0 r.1.items) }
     ensures memory { IfErr result (λ e. e ≡ Memory) }
 {
-    if crew.team.workers() == 1 || items.len() as u64 <= crew.team.chunk() {
+    if crew.team.workers() == 1 || sought.len() as u64 <= crew.team.chunk() {
         // A worker alone offers by rising rank, so what it kept is least.
-        return Ok(offer_alone(crew.alloc, scope, claims, seat, items)?);
+        return Ok(offer_alone(crew.alloc, scope, claims, seat, rooms, sought)?);
     }
-    offer_by_crew(crew, scope, claims, seat, items)
+    offer_by_crew(crew, scope, claims, seat, rooms, sought)
 }
 
 /// One round of claims: offers what the items reference in the window, and answers what won.
@@ -276,8 +349,11 @@ pub fn claim_round<R: Threads + Sync, G: Gate + Sync>(
         rt,
         alloc,
         team: Team::new(workers, chunk),
+        merging: Merging::Ranks,
         gate,
     };
-    let (seat, won) = round_in(&crew, &scope, &claims, seat, items)?;
+    let mut rooms = Vec::new(alloc);
+    let sought = Sought::Items(items);
+    let (seat, won) = round_in(&crew, &scope, &claims, seat, &mut rooms, sought)?;
     Ok((claims, seat, won))
 }

@@ -5,17 +5,18 @@ ghost use Rattle.g1_words.specs.Survivors.{Survivors};
 ghost use Rattle.g1_work.specs.Team.{IsTeam};
 ghost use Rattle.g1_rem.specs.Starts.{IsStartsOf};
 ghost use Rattle.g1_frontier.specs.Window.{AreRegions, AreCards, AreOutside, LeadIn};
-ghost use Rattle.g1_frontier.specs.Items.{first_items, object_items, slot_count};
+ghost use Rattle.g1_frontier.specs.Items.{first_items, numbered_on};
 ghost use Rattle.g1_frontier.specs.Scope.{IsScope};
 ghost use Rattle.g1_frontier.specs.Search.{IsSearching};
 
-use crate::crew::Crew;
+use crate::crew::{Crew, Merging};
 use crate::headers::slot_counts_by;
 use crate::item::Item;
 use crate::numbers::Numbers;
 use crate::queue::search_alone;
 use crate::round::round_in;
 use crate::scope::{Numbering, Scope, positions};
+use crate::sought::Sought;
 use g1_claim::{ClaimSeat, Claims};
 use g1_rem::Starts;
 use g1_words::{Fault, Heap};
@@ -24,11 +25,12 @@ use std::alloc::{AllocError, Global};
 use std::thread::Threads;
 
 // What was found, and from where on it is still to be searched; the table, the seat of all its
-// shares, and the rank from which on none was offered.
+// shares, the lists that a round left to be used again, and the rank from which on none was offered.
 #[derive(Drop)]
 pub struct Search {
     pub claims: Claims,
     pub seat: ClaimSeat,
+    pub rooms: Vec<Vec<(u64, u64)>>,
     pub found: Vec<u64>,
     pub from: usize,
     pub next: u64,
@@ -51,30 +53,20 @@ fn first_items(alloc: Global, roots: u64, cards: &[u32]) -> Result<Vec<Item>, Al
     Ok(items)
 }
 
-// The objects at some addresses, which have these numbers of slots. The slots are numbered on from a
-// base. Also the number after them.
-fn object_items(
-    alloc: Global,
-    heap: &Heap,
-    addresses: &[u64],
-    counts: &[u64],
-    base: u64,
-) -> Result<(Vec<Item>, u64), AllocError>
-    requires counts { counts.now ≡ map (slot_count heap.now) addresses.now }
-    requires few { base + sum_by (slot_count heap.now) addresses.now < 2 ^ 32 }
-    ensures items { IfOk result (λ r. r.0.items ≡ object_items heap.now base addresses.now) }
-    ensures next { IfOk result (λ r. r.1 ≡ base + sum_by (slot_count heap.now) addresses.now) }
+// Puts in place of each count the number that it begins at, numbered on from a base. Also the number
+// after all.
+fn number_on(counts: &mut Vec<u64>, base: u64) -> u64
+    requires { base + sum_by (λ n. n) counts.old.items < 2 ^ 32 }
+    ensures numbers { counts.new.items ≡ numbered_on base counts.old.items }
+    ensures next { result ≡ base + sum_by (λ n. n) counts.old.items }
 {
     let mut next = base;
-    let mut items = Vec::with_capacity(alloc, addresses.len())?;
-    for (index, at) in addresses.iter().enumerate() {
-        items.push(Item::Object {
-            at: *at,
-            base: next,
-        })?;
-        next += counts[index];
+    for index in 0..counts.len() {
+        let count = counts[index];
+        counts[index] = next;
+        next += count;
     }
-    Ok((items, next))
+    next
 }
 
 // Puts the addresses behind those that were found.
@@ -106,12 +98,16 @@ pub(crate) fn first_round<R: Threads + Sync, G: Gate + Sync>(
     let first = first_items(alloc, roots, cards)?;
     let items = first.as_slice();
     let hired = crew.hire(items.len(), 0);
-    let (seat, won) = round_in(&hired, scope, &claims, seat, items)?;
+    let mut rooms = Vec::new(alloc);
+    let sought = Sought::Items(items);
+    let (seat, won) = round_in(&hired, scope, &claims, seat, &mut rooms, sought)?;
     let mut found = Vec::new(alloc);
     push_addresses(&mut found, won.as_slice())?;
+    rooms.push(won)?;
     Ok(Search {
         claims,
         seat,
+        rooms,
         found,
         from: 0,
         next: roots + scope.heap.words().len() as u64,
@@ -133,21 +129,24 @@ pub(crate) fn next_round<R: Threads + Sync, G: Gate + Sync>(
     let Search {
         claims,
         seat,
+        mut rooms,
         mut found,
         from,
         next,
     } = search;
     let addresses = &found[from..];
     let workers = crew.team.workers();
-    let counts = slot_counts_by(crew.rt, crew.alloc, scope.heap, addresses, workers)?;
-    let (items, next) = object_items(crew.alloc, scope.heap, addresses, counts.as_slice(), next)?;
-    let items = items.as_slice();
-    let (seat, won) = round_in(crew, scope, &claims, seat, items)?;
+    let mut bases = slot_counts_by(crew.rt, crew.alloc, scope.heap, addresses, workers)?;
+    let next = number_on(&mut bases, next);
+    let sought = Sought::Objects(addresses, bases.as_slice());
+    let (seat, won) = round_in(crew, scope, &claims, seat, &mut rooms, sought)?;
     let from = found.len();
     push_addresses(&mut found, won.as_slice())?;
+    rooms.push(won)?;
     Ok(Search {
         claims,
         seat,
+        rooms,
         found,
         from,
         next,
@@ -219,6 +218,7 @@ pub fn discover<R: Threads + Sync, G: Gate + Sync>(
         rt,
         alloc,
         team: Team::new(workers, chunk),
+        merging: Merging::Chunks,
         gate,
     };
     // One worker competes with nobody. It marks words, so it needs no claims, and no pass over the

@@ -1,6 +1,7 @@
 use Rattle.std.proofs.Common.{refl, ◌∷◌, []}
 use Rattle.g1_frontier.proofs.Claimed.{adds}
 use Rattle.g1_frontier.specs.Scope.{place_in, all_pairs_in}
+use Rattle.g1_frontier.specs.Items.{items_of}
 use Rattle.g1_frontier.proofs.round.round_in.Goals as goal
 
 pub returns-then-workers-eq1-clause-ok : goal.returns-then-workers-eq1-clause-ok
@@ -9,7 +10,7 @@ returns-then-workers-eq1-clause-ok g c =
     let offered = c.in_ok-offer_alone.ensures.offered in record {
       table = offered.seat;
       whole = offered.whole;
-      offers = adds c.args.claims.now (place_in s) (all_pairs_in s c.args.items.now) c.args.seat c.in_ok-offer_alone.field-0.0
+      offers = adds c.args.claims.now (place_in s) (all_pairs_in s (items_of c.args.sought)) c.args.seat c.in_ok-offer_alone.field-0.0
           (c.in_ok-offer_alone.field-0.1.items ∷ []) offered c.in_ok-offer_alone.field-0.0.hand.offers refl;
       won = c.in_ok-offer_alone.ensures.won;
       settled = offered.settled;
@@ -59,3 +60,9 @@ returns-clause-ok g c = c.offer_by_crew.ensures.ok
 
 pub returns-clause-memory : goal.returns-clause-memory
 returns-clause-memory g c = c.offer_by_crew.ensures.memory
+
+pub offer_alone-requires-clause-paired : goal.offer_alone-requires-clause-paired
+offer_alone-requires-clause-paired g c = c.requires.paired
+
+pub offer_by_crew-requires-clause-paired : goal.offer_by_crew-requires-clause-paired
+offer_by_crew-requires-clause-paired g c κs within = c.requires.paired

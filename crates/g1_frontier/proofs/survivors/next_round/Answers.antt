@@ -1,7 +1,9 @@
 use Rattle.std.proofs.Common.{arith, refl, ap, sym, subst, ◌≡◌, ◌+◌, ◌-◌, ◌<◌, ◌^◌, ◌∙◌, ◌++◌, ℕ, List, length, map, take, drop, sum_by, All, Contains}
 use Rattle.g1_words.specs.Heap.{objects, object_at}
 use Rattle.g1_frontier.specs.Scope.{place_in}
-use Rattle.g1_frontier.specs.Items.{IsItem, AreRanks, all_pairs, object_items, slot_count}
+use Rattle.std.proofs.lemmas.List.{length-map}
+use Rattle.g1_frontier.specs.Items.{IsItem, AreRanks, all_pairs, object_items, slot_count, items_at, numbered_on}
+use Rattle.g1_frontier.proofs.Soughts.{items_numbered, sum_counts, numbered_length}
 use Rattle.g1_frontier.specs.Round.{Rises, AreAbove, AddsOffers, winners}
 use Rattle.g1_frontier.proofs.Searching.{rest_objects, ranks_fit, rest_are_items, rest_few, rest_rises, rest_ranks, rest_above, next_search}
 use Rattle.g1_frontier.proofs.Turns.{rest_is}
@@ -15,13 +17,23 @@ slot_counts_by-requires-clause-objects g c κs within =
     ap (λ (l : List ℕ). take (length l - s.from) (drop s.from l)) c.deref.ensures.value ∙ rest_is s.found.items s.from in
     subst (All (λ a. Contains (objects h) (object_at h a))) (sym cut) (rest_objects h c.requires.scope.valid c.args.scope.now.window.now c.requires.scope.regions s c.requires.search)
 
-pub object_items-requires-clause-few : goal.object_items-requires-clause-few
-object_items-requires-clause-few g c =
+pub number_on-next-requires : goal.number_on-next-requires
+number_on-next-requires g c =
     let h = c.args.scope.now.heap.now in
     let s = c.args.search in
     let cut : take (length c.deref.result.now - s.from) (drop s.from c.deref.result.now) ≡ drop s.from s.found.items =
     ap (λ (l : List ℕ). take (length l - s.from) (drop s.from l)) c.deref.ensures.value ∙ rest_is s.found.items s.from in
-    subst (λ l. s.next + sum_by (slot_count h) l < 2 ^ 32) (sym cut) (ranks_fit h c.requires.scope.valid c.args.scope.now.window.now c.requires.scope.regions s c.requires.search)
+    let part : List ℕ = take (length c.deref.result.now - s.from) (drop s.from c.deref.result.now) in
+    let total : sum_by (λ (n : ℕ). n) c.in_ok-bases.bases.items ≡ sum_by (slot_count h) (drop s.from s.found.items) =
+    ap (sum_by (λ (n : ℕ). n)) c.in_ok-bases.ensures.ok ∙ sum_counts h part ∙ ap (sum_by (slot_count h)) cut in
+    subst (λ n. s.next + n < 2 ^ 32) (sym total) (ranks_fit h c.requires.scope.valid c.args.scope.now.window.now c.requires.scope.regions s c.requires.search)
+
+pub round_in-requires-clause-paired : goal.round_in-requires-clause-paired
+round_in-requires-clause-paired g c κs within =
+    let h = c.args.scope.now.heap.now in
+    let s = c.args.search in
+    let part : List ℕ = take (length c.deref.result.now - s.from) (drop s.from c.deref.result.now) in
+    ap length (c.as_slice.ensures.value ∙ c.number_on-next.ensures.numbers) ∙ numbered_length s.next c.in_ok-bases.bases.items ∙ ap length c.in_ok-bases.ensures.ok ∙ length-map part (slot_count h)
 
 pub round_in-requires-clause-items : goal.round_in-requires-clause-items
 round_in-requires-clause-items g c κs within =
@@ -29,7 +41,9 @@ round_in-requires-clause-items g c κs within =
     let s = c.args.search in
     let cut : take (length c.deref.result.now - s.from) (drop s.from c.deref.result.now) ≡ drop s.from s.found.items =
     ap (λ (l : List ℕ). take (length l - s.from) (drop s.from l)) c.deref.ensures.value ∙ rest_is s.found.items s.from in
-    let listed : c.as_slice-items.result.now ≡ object_items h s.next (drop s.from s.found.items) = c.as_slice-items.ensures.value ∙ c.in_ok-items.ensures.items ∙ ap (object_items h s.next) cut in
+    let part : List ℕ = take (length c.deref.result.now - s.from) (drop s.from c.deref.result.now) in
+    let listed : items_at part c.as_slice.result.now ≡ object_items h s.next (drop s.from s.found.items) =
+    ap (items_at part) (c.as_slice.ensures.value ∙ c.number_on-next.ensures.numbers ∙ ap (numbered_on s.next) c.in_ok-bases.ensures.ok) ∙ items_numbered h s.next part ∙ ap (object_items h s.next) cut in
     subst (All (IsItem h)) (sym listed) (rest_are_items h c.requires.scope.valid c.args.scope.now.window.now c.requires.scope.regions s c.requires.search)
 
 pub round_in-requires-clause-few : goal.round_in-requires-clause-few
@@ -38,7 +52,9 @@ round_in-requires-clause-few g c κs within =
     let s = c.args.search in
     let cut : take (length c.deref.result.now - s.from) (drop s.from c.deref.result.now) ≡ drop s.from s.found.items =
     ap (λ (l : List ℕ). take (length l - s.from) (drop s.from l)) c.deref.ensures.value ∙ rest_is s.found.items s.from in
-    let listed : c.as_slice-items.result.now ≡ object_items h s.next (drop s.from s.found.items) = c.as_slice-items.ensures.value ∙ c.in_ok-items.ensures.items ∙ ap (object_items h s.next) cut in
+    let part : List ℕ = take (length c.deref.result.now - s.from) (drop s.from c.deref.result.now) in
+    let listed : items_at part c.as_slice.result.now ≡ object_items h s.next (drop s.from s.found.items) =
+    ap (items_at part) (c.as_slice.ensures.value ∙ c.number_on-next.ensures.numbers ∙ ap (numbered_on s.next) c.in_ok-bases.ensures.ok) ∙ items_numbered h s.next part ∙ ap (object_items h s.next) cut in
     subst (λ l. length l < 2 ^ 32) (sym listed) (rest_few h c.requires.scope.valid c.args.scope.now.window.now c.requires.scope.regions s c.requires.search)
 
 pub round_in-requires-clause-rise : goal.round_in-requires-clause-rise
@@ -47,7 +63,9 @@ round_in-requires-clause-rise g c κs within =
     let s = c.args.search in
     let cut : take (length c.deref.result.now - s.from) (drop s.from c.deref.result.now) ≡ drop s.from s.found.items =
     ap (λ (l : List ℕ). take (length l - s.from) (drop s.from l)) c.deref.ensures.value ∙ rest_is s.found.items s.from in
-    let listed : c.as_slice-items.result.now ≡ object_items h s.next (drop s.from s.found.items) = c.as_slice-items.ensures.value ∙ c.in_ok-items.ensures.items ∙ ap (object_items h s.next) cut in
+    let part : List ℕ = take (length c.deref.result.now - s.from) (drop s.from c.deref.result.now) in
+    let listed : items_at part c.as_slice.result.now ≡ object_items h s.next (drop s.from s.found.items) =
+    ap (items_at part) (c.as_slice.ensures.value ∙ c.number_on-next.ensures.numbers ∙ ap (numbered_on s.next) c.in_ok-bases.ensures.ok) ∙ items_numbered h s.next part ∙ ap (object_items h s.next) cut in
     subst (λ l. Rises (all_pairs h c.args.scope.now.window.now l)) (sym listed) (rest_rises h c.requires.scope.valid c.args.scope.now.window.now c.requires.scope.regions s c.requires.search)
 
 pub round_in-requires-clause-ranks : goal.round_in-requires-clause-ranks
@@ -56,7 +74,9 @@ round_in-requires-clause-ranks g c κs within =
     let s = c.args.search in
     let cut : take (length c.deref.result.now - s.from) (drop s.from c.deref.result.now) ≡ drop s.from s.found.items =
     ap (λ (l : List ℕ). take (length l - s.from) (drop s.from l)) c.deref.ensures.value ∙ rest_is s.found.items s.from in
-    let listed : c.as_slice-items.result.now ≡ object_items h s.next (drop s.from s.found.items) = c.as_slice-items.ensures.value ∙ c.in_ok-items.ensures.items ∙ ap (object_items h s.next) cut in
+    let part : List ℕ = take (length c.deref.result.now - s.from) (drop s.from c.deref.result.now) in
+    let listed : items_at part c.as_slice.result.now ≡ object_items h s.next (drop s.from s.found.items) =
+    ap (items_at part) (c.as_slice.ensures.value ∙ c.number_on-next.ensures.numbers ∙ ap (numbered_on s.next) c.in_ok-bases.ensures.ok) ∙ items_numbered h s.next part ∙ ap (object_items h s.next) cut in
     subst (λ l. AreRanks (all_pairs h c.args.scope.now.window.now l)) (sym listed) (rest_ranks h c.requires.scope.valid c.args.scope.now.window.now c.requires.scope.regions s c.requires.search)
 
 pub round_in-requires-clause-above : goal.round_in-requires-clause-above
@@ -65,7 +85,9 @@ round_in-requires-clause-above g c κs within =
     let s = c.args.search in
     let cut : take (length c.deref.result.now - s.from) (drop s.from c.deref.result.now) ≡ drop s.from s.found.items =
     ap (λ (l : List ℕ). take (length l - s.from) (drop s.from l)) c.deref.ensures.value ∙ rest_is s.found.items s.from in
-    let listed : c.as_slice-items.result.now ≡ object_items h s.next (drop s.from s.found.items) = c.as_slice-items.ensures.value ∙ c.in_ok-items.ensures.items ∙ ap (object_items h s.next) cut in
+    let part : List ℕ = take (length c.deref.result.now - s.from) (drop s.from c.deref.result.now) in
+    let listed : items_at part c.as_slice.result.now ≡ object_items h s.next (drop s.from s.found.items) =
+    ap (items_at part) (c.as_slice.ensures.value ∙ c.number_on-next.ensures.numbers ∙ ap (numbered_on s.next) c.in_ok-bases.ensures.ok) ∙ items_numbered h s.next part ∙ ap (object_items h s.next) cut in
     subst (λ l. AreAbove s.seat.hand.offers (all_pairs h c.args.scope.now.window.now l)) (sym listed)
     (rest_above h c.requires.scope.valid c.args.scope.now.window.now c.requires.scope.regions s c.requires.search)
 
@@ -76,10 +98,12 @@ returns-clause-ok g c =
     let window : List ℕ = c.args.scope.now.window.now in
     let cut : take (length c.deref.result.now - s.from) (drop s.from c.deref.result.now) ≡ drop s.from s.found.items =
     ap (λ (l : List ℕ). take (length l - s.from) (drop s.from l)) c.deref.ensures.value ∙ rest_is s.found.items s.from in
-    let listed : c.as_slice-items.result.now ≡ object_items h s.next (drop s.from s.found.items) = c.as_slice-items.ensures.value ∙ c.in_ok-items.ensures.items ∙ ap (object_items h s.next) cut in
+    let part : List ℕ = take (length c.deref.result.now - s.from) (drop s.from c.deref.result.now) in
+    let listed : items_at part c.as_slice.result.now ≡ object_items h s.next (drop s.from s.found.items) =
+    ap (items_at part) (c.as_slice.ensures.value ∙ c.number_on-next.ensures.numbers ∙ ap (numbered_on s.next) c.in_ok-bases.ensures.ok) ∙ items_numbered h s.next part ∙ ap (object_items h s.next) cut in
     let r = c.in_ok-seat.ensures.ok in
     next_search h c.requires.scope.valid window c.requires.scope.regions s c.requires.search c.requires.scope.numbers
-    (record { claims = s.claims; seat = c.in_ok-seat.seat; found = c.push_addresses.new.found; from = c.len-from.result; next = c.in_ok-items.next })
+    (record { claims = s.claims; seat = c.in_ok-seat.seat; rooms = c.push.new.self; found = c.push_addresses.new.found; from = c.len-from.result; next = c.number_on-next.result })
     r.table
     r.whole
     refl
@@ -87,7 +111,7 @@ returns-clause-ok g c =
     (c.in_ok-push_addresses.ensures ∙ ap (λ (l : List (ℕ × ℕ)). s.found.items ++ map (λ (q : ℕ × ℕ). q.1) l) (c.as_slice-2.ensures.value ∙ r.won
     ∙ ap (λ l. winners (place_in c.args.scope.now) c.in_ok-seat.seat.hand.offers (all_pairs h window l)) listed))
     (omega (arith, c.len-from.ensures, s.found.ok))
-    (c.in_ok-items.ensures.next ∙ ap (λ l. s.next + sum_by (slot_count h) l) cut)
+    (c.number_on-next.ensures.next ∙ ap (λ n. s.next + n) (ap (sum_by (λ (n : ℕ). n)) c.in_ok-bases.ensures.ok ∙ sum_counts h part ∙ ap (sum_by (slot_count h)) cut))
 
 pub round_in-requires-clause-scope : goal.round_in-requires-clause-scope
 round_in-requires-clause-scope g c κs within = c.requires.scope
@@ -103,6 +127,3 @@ round_in-requires-clause-places g c κs within = omega (arith, c.requires.search
 
 pub returns-clause-from : goal.returns-clause-from
 returns-clause-from g c = c.len-from.ensures
-
-pub object_items-requires-clause-counts : goal.object_items-requires-clause-counts
-object_items-requires-clause-counts g c = c.as_slice.ensures.value ∙ c.in_ok-counts.ensures.ok

@@ -20,6 +20,7 @@ returns c =
     let looked = c.in_ok-won.ensures in record {
       ok = (
         refl,
+        refl,
         subst (λ l. HasLooked (place_in s) l c.args.state.now.seat c.still_there.new.seat c.in_ok-won.won.items)
             (piece_cut c.args.self.now.chunk c.args.chunk c.min.result c.args.self.now.pairs.now c.min.ensures) looked,
       );

@@ -1,4 +1,4 @@
-use Rattle.std.proofs.Common.{arith, ap, subst, sym, ◌+◌, ◌<◌, ◌++◌, ◌∙◌, ℕ, [], ◌∷◌, map}
+use Rattle.std.proofs.Common.{arith, refl, ap, subst, sym, ◌+◌, ◌<◌, ◌++◌, ◌∙◌, ℕ, [], ◌∷◌, map}
 use Rattle.g1_claim.specs.declared.rule.Hand.{Hand}
 use Rattle.g1_claim.specs.Claims.{offer, least_rank}
 use Rattle.g1_frontier.specs.declared.offering.Holder.{Holder}
@@ -34,11 +34,12 @@ returns-in_ok-keep_if-in-Some c =
     let a : ℕ = c.in-Some.target.address in
     let rank : ℕ = c.args.base + c.args.offset in
     let f = c.in-Some.ensures.found in
-    let t : Holder = record { seat = c.offer-answered_true.new.seat; kept = c.keep_if.new.kept } in
+    let t : Holder = record { number = c.args.holder.now.number; seat = c.offer-answered_true.new.seat; kept = c.keep_if.new.kept } in
     subst (λ ps. HasTried (place_in s) ps c.args.holder.now t) (sym (aims_inside s.heap.now s.window.now rank c.args.word a f.0 f.1))
     (tried_one (place_in s) rank a c.offer-answered_true.result c.args.holder.now t
     (ap (λ (h : Hand). h.offers) c.offer-answered_true.ensures.offered ∙ ap (λ p. c.args.holder.now.seat.hand.offers ++ offer p rank c.offer-answered_true.result ∷ []) f.2)
     c.in_ok-keep_if-in-Some.ensures
+    refl
     (c.offer-answered_true.ensures.table ∙ sym c.requires.seat)
     (ap (λ (h : Hand). h.shares) c.offer-answered_true.ensures.offered)
     (λ all yes. subst (λ p. rank < least_rank p c.args.holder.now.seat.hand.offers) f.2 ((c.offer-answered_true.ensures.least all).0 yes)))
