@@ -2,6 +2,7 @@
 use crate::answering::{answer_file, rewrite_file};
 use crate::explaining::{explain_object, explain_pause};
 use crate::files::{Found, read_bytes, read_found};
+use crate::hexadecimal::with_hexadecimal;
 use crate::line_writer::LineWriter;
 use crate::output::write_file;
 use crate::refusal::{no_object, no_region, of_bytes, refuse_lines};
@@ -15,7 +16,7 @@ use g1_tables::summary;
 use g1_text::{image_lines, is_graph, make, make_graph, object_line, region_lines};
 use g1_words::object_at;
 use g1heap_request::{NAME, Output, Part, Request, parse};
-use std::alloc::Global;
+use std::alloc::{AllocError, Global};
 use std::io::{Read, Write};
 use std::rt::Files;
 use std::thread::Threads;
@@ -75,9 +76,11 @@ fn answer<T: Threads + Sync + Files, R: Read, W: Write>(
         Request::Print {
             image,
             part,
+            hex,
             output,
         } => {
             let printed = print_part(rt, alloc, image.as_str(), *part, reader)?;
+            let printed = if *hex { in_hexadecimal(alloc, printed)? } else { printed };
             hand_over_print(rt, alloc, printed, output, writer)
         }
         Request::Make { lines, output } => {
@@ -142,6 +145,15 @@ fn print_part<T: Threads + Sync + Files, R: Read>(
             }
         }
     }
+}
+
+fn in_hexadecimal(alloc: Global, printed: Printed) -> Result<Printed, AllocError> {
+    let Printed { text, refusal } = printed;
+    let text = match text {
+        Some(text) => Some(with_hexadecimal(alloc, text.as_str())?),
+        None => None,
+    };
+    Ok(Printed { text, refusal })
 }
 
 // The status, when what is printed is where it is to go, or the refusal behind it.

@@ -19,6 +19,7 @@ mod answering;
 mod commands;
 mod explaining;
 mod files;
+mod hexadecimal;
 mod line_writer;
 mod output;
 mod refusal;

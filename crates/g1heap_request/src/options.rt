@@ -22,6 +22,8 @@ pub enum Request {
     Print {
         image: String,
         part: Part,
+        /// Whether data words are in hexadecimal.
+        hex: bool,
         output: Output,
     },
     /// The image that lines describe.
@@ -124,6 +126,8 @@ static COVERED: Argument = table::COVERED;
 static EXPLAINED: Argument = table::EXPLAINED;
 
 static FILL: Argument = table::FILL;
+
+static HEX: Argument = table::HEX;
 
 static IMAGE: Argument = table::IMAGE;
 
@@ -299,6 +303,7 @@ fn print_of(alloc: Global, values: &ArgMatches<'_>) -> Result<Request, Misuse> {
     Ok(Request::Print {
         image: name_of(alloc, values, &IMAGE)?,
         part: part_of(alloc, values)?,
+        hex: values.get_flag(HEX.id),
         output: output_of(alloc, values)?,
     })
 }
