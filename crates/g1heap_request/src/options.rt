@@ -1,6 +1,7 @@
 //! The command line.
 use crate::asking::{Ask, Rewrite, asked_of};
 use crate::output::{Output, STANDARD_STREAM};
+use crate::tips::with_tip;
 use crate::usage as table;
 use crate::usage::{commands, program};
 use clap::ArgMatches;
@@ -344,6 +345,9 @@ pub fn parse(alloc: Global, words: &[String]) -> Result<Request, Refusal> {
     let program = program(&commands);
     match &match_words(alloc, &program, words.as_slice()) {
         Ok(matches) => read_request(alloc, &program, matches, request_of),
-        Err(error) => Ok(Request::Help(help_or_refusal(alloc, error)?)),
+        Err(error) => match help_or_refusal(alloc, error) {
+            Ok(text) => Ok(Request::Help(text)),
+            Err(refusal) => Err(with_tip(alloc, refusal, error, words.as_slice(), &commands)),
+        },
     }
 }
