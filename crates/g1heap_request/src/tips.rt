@@ -55,7 +55,7 @@ fn tip_for(
         None => "",
     };
     match error.kind() {
-        ErrorKind::InvalidSubcommand => tip_of_command(alloc, first),
+        ErrorKind::InvalidSubcommand => tip_of_command(alloc, quoted(text)),
         ErrorKind::UnknownArgument => tip_of_argument(alloc, quoted(text), first, commands),
         ErrorKind::MissingRequiredArgument if has_empty_set(words) => {
             Ok(Some(String::from_str(alloc, EMPTY_SET)?))
@@ -97,6 +97,10 @@ fn tip_of_command(alloc: Global, word: &str) -> Result<Option<String>, AllocErro
             let tip = format!(in alloc; "the command for it is '{command}'")?;
             return Ok(Some(tip));
         }
+    }
+    if word.contains('.') || word.contains('/') {
+        let tip = format!(in alloc; "a command comes before a file, as in 'show {word}'")?;
+        return Ok(Some(tip));
     }
     Ok(None)
 }
