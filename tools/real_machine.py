@@ -10,6 +10,7 @@ to a device by its name, except that standard output is the full one. The last l
 """
 import argparse
 import ctypes
+import errno
 import os
 import pathlib
 import resource
@@ -313,9 +314,10 @@ class HeapFiles(Judge):
         done = subprocess.run([self.heap, *map(str, words)], input=data, stderr=subprocess.PIPE, timeout=120, preexec_fn=before, **streams)
         return done.stdout or b"", done.stderr, done.returncode
 
-    def device(self, file, which):
-        """The answer if a read or a write of this file failed."""
-        return b"", f"g1heap: {file}: fault 14: {which}\n".encode(), 6
+    def device(self, file, which, reason):
+        """The answer if a read or a write of this file failed, or of standard output, with the system's reason."""
+        name = f"{file}: " if file else ""
+        return b"", f"g1heap: {name}fault 14: {which}\ng1heap: {os.strerror(reason)} (os error {reason})\n".encode(), 6
 
     def judge_files(self, name, good, names):
         """Also these files are beside the image, and no others. They are taken away."""
@@ -330,10 +332,10 @@ class HeapFiles(Judge):
                           ["show"], ["show", "--repack"], ["check"], ["live"], ["choose", "--budget", "1"], ["pause", "--set", "1"]):
                 data = self.lines if words[0] == "make" else ONE_OBJECT
                 answer = self.run(words, data, stdout=full)
-                self.judge(f"g1heap {words[0]}, full standard output: {answer}", answer == (b"", b"g1heap: fault 14: output\n", 6))
+                self.judge(f"g1heap {words[0]}, full standard output: {answer}", answer == self.device(None, "output", errno.ENOSPC))
         for command in ("print", "make", "explain", "trace", "show", "check", "live", "pause"):
             answer = self.run([command, self.folder])
-            self.judge(f"g1heap {command} of a folder: {answer}", answer == self.device(self.folder, "input"))
+            self.judge(f"g1heap {command} of a folder: {answer}", answer == self.device(self.folder, "input", errno.EISDIR))
 
     def files(self):
         limit = 100
@@ -345,11 +347,11 @@ class HeapFiles(Judge):
         self.answer.write_bytes(b"as it was")
         answer = self.run(["print", "-o", self.answer], ONE_OBJECT, before=before)
         kept = self.answer.read_bytes() == b"as it was"
-        self.judge_files(f"a file-size limit, -o: {answer}", answer == self.device(self.answer, "output") and kept, ["answer"])
+        self.judge_files(f"a file-size limit, -o: {answer}", answer == self.device(self.answer, "output", errno.EFBIG) and kept, ["answer"])
         self.answer.write_bytes(b"as it was")
         answer = self.run(["pause", self.image, "-o", self.answer], before=before)
         kept = self.answer.read_bytes() == b"as it was"
-        self.judge_files(f"a file-size limit, pause -o: {answer}", answer == self.device(self.answer, "output") and kept, ["answer"])
+        self.judge_files(f"a file-size limit, pause -o: {answer}", answer == self.device(self.answer, "output", errno.EFBIG) and kept, ["answer"])
         self.answer.write_bytes(b"as it was")
         (self.folder / "answer.part1").write_bytes(b"somebody's")
         good = self.run(["print", "-o", self.answer], ONE_OBJECT) == (b"", b"", 0) and self.answer.read_bytes() == self.lines

@@ -146,7 +146,7 @@ def main():
             print(name, f"needs {runtime.package}" if runtime.missing() else "is installed")
         return 0
     if not shutil.which("g1heap"):
-        parser.error("no g1heap on the path")
+        parser.error("no g1heap on the path: tools/build.py --unproved builds out/g1heap")
     for name in options.runtimes:
         if RUNTIMES[name].missing():
             parser.error(f"{name} needs {', '.join(RUNTIMES[name].missing())}: Debian's {RUNTIMES[name].package}")

@@ -23,8 +23,8 @@ pub(crate) fn look_of(bytes: &[u8]) -> Look {
     if let Some(version) = other_version(bytes) {
         return Look::Version(version);
     }
-    if bytes.starts_with(b"heap ") {
-        return look_of_heading(bytes);
+    if let Some(numbers) = bytes.strip_prefix(b"heap ") {
+        return look_of_heading(numbers);
     }
     for (beginning, look) in BEGINNINGS {
         if bytes.starts_with(beginning) {
@@ -45,21 +45,18 @@ fn other_version(bytes: &[u8]) -> Option<char> {
 }
 
 // The heading of a trace has four numbers, and nothing behind them.
-fn look_of_heading(bytes: &[u8]) -> Look {
-    let mut words = 0u32;
-    let mut in_word = false;
-    for byte in bytes {
-        if *byte == b'\n' || *byte == b'\r' {
-            break;
+fn look_of_heading(numbers: &[u8]) -> Look {
+    let mut spaces = 0u32;
+    for byte in numbers {
+        match *byte {
+            b'\n' | b'\r' => break,
+            b' ' => spaces = spaces.saturating_add(1),
+            b'0'..=b'9' => {}
+            _ => return Look::Lines,
         }
-        let is_space = *byte == b' ';
-        if in_word && is_space {
-            words = words.saturating_add(1);
-        }
-        in_word = !is_space;
     }
-    // The last word is counted by no space.
-    if words == 4 { Look::Trace } else { Look::Lines }
+    // A space is between two numbers.
+    if spaces == 3 { Look::Trace } else { Look::Lines }
 }
 
 /// The number of a heading that is out of its range.

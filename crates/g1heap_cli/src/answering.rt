@@ -1,10 +1,12 @@
 //! The answers to `show`, `check`, `live`, `choose` and `pause`, of an image in a file.
-use crate::files::{open_file, refuse_again};
+use crate::heard::Heard;
 use crate::output::write_file;
+use crate::refusal::of_device;
+use crate::sources::{find_collected, find_source};
 use g1_answers::{answer, write_image};
 use g1_command::Refusal;
 use g1_words::{Device, Fault};
-use g1heap_request::{Ask, Output, Rewrite, STANDARD_STREAM};
+use g1heap_request::{Ask, Output, Rewrite};
 use std::alloc::Global;
 use std::io::{Read, Write};
 use std::rt::Files;
@@ -17,16 +19,16 @@ pub fn answer_file<T: Threads + Sync + Files, R: Read>(
     ask: &Ask,
     reader: &mut R,
 ) -> Result<Vec<u8>, Refusal> {
-    let name = ask.image.as_str();
-    let answered = if name == STANDARD_STREAM {
-        answer(rt, alloc, ask.question, reader)
-    } else {
-        let mut file = open_file(rt, alloc, name)?;
-        answer(rt, alloc, ask.question, &mut file)
-    };
-    match answered {
+    let source = find_source(rt, alloc, ask.image.as_str(), reader)?;
+    let mut opened = source.open(rt, alloc)?;
+    let mut heard = Heard::new(&mut opened);
+    match answer(rt, alloc, ask.question, &mut heard) {
         Ok(lines) => Ok(lines),
-        Err(fault) => Err(refuse_again(rt, alloc, name, fault)),
+        Err(Fault::Device(device)) => {
+            let fault = Fault::Device(device);
+            Err(of_device(alloc, source.name(), fault, heard.reason()))
+        }
+        Err(fault) => Err(source.refuse(rt, alloc, fault)),
     }
 }
 
@@ -58,17 +60,17 @@ fn send_new<T: Threads + Sync + Files, R: Read, W: Write>(
     reader: &mut R,
     writer: &mut W,
 ) -> Result<(), Refusal> {
-    let name = rewrite.image.as_str();
-    let sent = if name == STANDARD_STREAM {
-        write_image(rt, alloc, &rewrite.wanted, reader, writer)
-    } else {
-        let mut file = open_file(rt, alloc, name)?;
-        write_image(rt, alloc, &rewrite.wanted, &mut file, writer)
-    };
-    match sent {
+    let source = find_collected(rt, alloc, rewrite.image.as_str(), reader)?;
+    let mut opened = source.open(rt, alloc)?;
+    let mut heard = Heard::new(&mut opened);
+    match write_image(rt, alloc, &rewrite.wanted, &mut heard, writer) {
         Ok(()) => Ok(()),
         // It is no fault of the image's file.
         Err(Fault::Device(Device::Output)) => Err(Fault::Device(Device::Output).into()),
-        Err(fault) => Err(refuse_again(rt, alloc, name, fault)),
+        Err(Fault::Device(device)) => {
+            let fault = Fault::Device(device);
+            Err(of_device(alloc, source.name(), fault, heard.reason()))
+        }
+        Err(fault) => Err(source.refuse(rt, alloc, fault)),
     }
 }

@@ -1,21 +1,25 @@
 //! What the program does with a request.
 use crate::answering::{answer_file, rewrite_file};
 use crate::explaining::{explain_object, explain_pause};
-use crate::files::{Found, read_bytes, read_found};
+use crate::files::read_bytes;
+use crate::heard::Heard;
+use crate::hexadecimal::with_hexadecimal;
 use crate::line_writer::LineWriter;
 use crate::output::write_file;
-use crate::refusal::{no_object, no_region, of_bytes, refuse_lines};
+use crate::refusal::{no_object, no_region, of_bytes, of_output, refuse_lines};
 use crate::sameness::compare_files;
+use crate::sources::{Source, find_source};
 use crate::terminals::{Terminals, allow, announce};
 use crate::tracing::answer_trace;
 use g1_broken_text::broken_lines;
 use g1_command::{Refusal, deliver, deliver_text, refuse};
 use g1_image::Image;
+use g1_report::locate;
 use g1_tables::summary;
 use g1_text::{image_lines, is_graph, make, make_graph, object_line, region_lines};
-use g1_words::object_at;
+use g1_words::{Device, Fault, object_at};
 use g1heap_request::{NAME, Output, Part, Request, parse};
-use std::alloc::Global;
+use std::alloc::{AllocError, Global};
 use std::io::{Read, Write};
 use std::rt::Files;
 use std::thread::Threads;
@@ -39,15 +43,19 @@ pub fn program<T: Threads + Sync + Files, R: Read, W: Write, E: Write>(
     writer: &mut W,
     errors: &mut E,
 ) -> u8 {
+    let mut heard = Heard::new(writer);
     let outcome = match read_call(alloc, call) {
         Ok(request) => {
             announce(call.terminals, &request, errors);
-            answer(rt, alloc, &request, reader, writer)
+            answer(rt, alloc, &request, reader, &mut heard)
         }
         Err(refusal) => Err(refusal),
     };
     match outcome {
         Ok(status) => status,
+        Err(Refusal::Fault(Fault::Device(Device::Output))) => {
+            refuse(NAME, &of_output(alloc, heard.reason()), errors)
+        }
         Err(refusal) => refuse(NAME, &refusal, errors),
     }
 }
@@ -75,9 +83,15 @@ fn answer<T: Threads + Sync + Files, R: Read, W: Write>(
         Request::Print {
             image,
             part,
+            hex,
             output,
         } => {
             let printed = print_part(rt, alloc, image.as_str(), *part, reader)?;
+            let printed = if *hex {
+                in_hexadecimal(alloc, printed)?
+            } else {
+                printed
+            };
             hand_over_print(rt, alloc, printed, output, writer)
         }
         Request::Make { lines, output } => {
@@ -118,30 +132,45 @@ fn print_part<T: Threads + Sync + Files, R: Read>(
     part: Part,
     reader: &mut R,
 ) -> Result<Printed, Refusal> {
-    match read_found(rt, alloc, name, reader)? {
-        Found::Image(image) => {
-            Ok(Printed {
-                text: Some(lines(rt, alloc, &image, name, part)?),
-                refusal: None,
-            })
-        }
-        Found::Broken { bytes, fault } => {
-            let text = match part {
-                Part::Whole => broken_lines(alloc, bytes.as_slice(), fault)?,
-                _ => None,
-            };
-            match of_bytes(alloc, name, bytes.as_slice(), fault) {
-                // Memory ran out, so nothing is printed.
-                Refusal::Fault(fault) => Err(Refusal::Fault(fault)),
-                refusal => {
-                    Ok(Printed {
-                        text,
-                        refusal: Some(refusal),
-                    })
-                }
-            }
-        }
+    let source = find_source(rt, alloc, name, reader)?;
+    match source.found(rt, alloc)? {
+        Ok(image) => Ok(Printed {
+            text: Some(lines(rt, alloc, &image, name, part)?),
+            refusal: None,
+        }),
+        Err(fault) => print_broken(rt, alloc, &source, part, fault),
     }
+}
+
+fn print_broken<T: Files>(
+    rt: &T,
+    alloc: Global,
+    source: &Source<'_>,
+    part: Part,
+    fault: Fault,
+) -> Result<Printed, Refusal> {
+    let bytes = source.bytes(rt, alloc)?;
+    let text = match part {
+        Part::Whole => broken_lines(alloc, bytes.as_slice(), fault)?,
+        _ => None,
+    };
+    match of_bytes(alloc, source.name(), bytes.as_slice(), fault) {
+        // Memory ran out, so nothing is printed.
+        Refusal::Fault(fault) => Err(Refusal::Fault(fault)),
+        refusal => Ok(Printed {
+            text,
+            refusal: Some(refusal),
+        }),
+    }
+}
+
+fn in_hexadecimal(alloc: Global, printed: Printed) -> Result<Printed, AllocError> {
+    let Printed { text, refusal } = printed;
+    let text = match text {
+        Some(text) => Some(with_hexadecimal(alloc, text.as_str())?),
+        None => None,
+    };
+    Ok(Printed { text, refusal })
 }
 
 // The status, when what is printed is where it is to go, or the refusal behind it.
@@ -215,7 +244,10 @@ fn lines<T: Threads + Sync>(
         }
         Part::Object(address) => match object_at(heap, address) {
             Some(object) => object_line(alloc, heap, &object),
-            None => return Err(no_object(alloc, name, address)),
+            None => {
+                let location = locate(alloc, heap, address)?;
+                return Err(no_object(alloc, name, address, &location));
+            }
         },
     };
     Ok(text?)

@@ -1,7 +1,7 @@
 //! A pause as lines, and what keeps an object.
 use crate::alone::{CHUNK, WORKERS};
-use crate::files::{read_image, refuse_again};
-use crate::refusal::{contradiction, no_object_but, of_file};
+use crate::refusal::{contradiction, no_object, of_file};
+use crate::sources::{Source, find_collected, find_source};
 use g1_command::Refusal;
 use g1_explain::{Explanation, Failure, Form, explain, why};
 use g1_image::Image;
@@ -22,13 +22,13 @@ pub fn explain_pause<T: Threads + Sync + Files, R: Read>(
     reader: &mut R,
 ) -> Result<(u8, String), Refusal> {
     let settings = settings_of(alloc, request)?;
-    let name = request.image.as_str();
-    let image = read_image(rt, alloc, name, reader)?;
+    let source = find_collected(rt, alloc, request.image.as_str(), reader)?;
+    let image = source.image(rt, alloc)?;
     let form = if request.map { Form::Map } else { Form::Steps };
     match explain(rt, alloc, image, &settings, form) {
-        Ok(explanation) => answer(rt, alloc, name, explanation, form),
-        Err(Failure::Fault(fault)) => Err(refuse_again(rt, alloc, name, fault)),
-        Err(failure) => Err(of_failure(alloc, name, failure)),
+        Ok(explanation) => answer(rt, alloc, &source, explanation, form),
+        Err(Failure::Fault(fault)) => Err(source.refuse(rt, alloc, fault)),
+        Err(failure) => Err(of_failure(alloc, source.name(), failure)),
     }
 }
 
@@ -44,14 +44,14 @@ fn settings_of(alloc: Global, request: &Explain) -> Result<Settings, Fault> {
 fn answer<T: Files>(
     rt: &T,
     alloc: Global,
-    name: &str,
+    source: &Source<'_>,
     explanation: Explanation,
     form: Form,
 ) -> Result<(u8, String), Refusal> {
     let Explanation { text, refused } = explanation;
     match refused {
         None => Ok((0, text)),
-        Some(fault) if form == Form::Map => Err(refuse_again(rt, alloc, name, fault)),
+        Some(fault) if form == Form::Map => Err(source.refuse(rt, alloc, fault)),
         Some(fault) => Ok((fault.status(), text)),
     }
 }
@@ -72,11 +72,12 @@ pub fn explain_object<T: Threads + Sync + Files, R: Read>(
     address: u64,
     reader: &mut R,
 ) -> Result<String, Refusal> {
-    let image = read_image(rt, alloc, name, reader)?;
+    let source = find_source(rt, alloc, name, reader)?;
+    let image = source.image(rt, alloc)?;
     check_object(alloc, name, &image, address)?;
     match why(rt, alloc, image, address) {
         Ok(text) => Ok(text),
-        Err(Failure::Fault(fault)) => Err(refuse_again(rt, alloc, name, fault)),
+        Err(Failure::Fault(fault)) => Err(source.refuse(rt, alloc, fault)),
         Err(failure) => Err(of_failure(alloc, name, failure)),
     }
 }
@@ -88,5 +89,5 @@ fn check_object(alloc: Global, name: &str, image: &Image, address: u64) -> Resul
         return Ok(());
     }
     let location = locate(alloc, heap, address)?;
-    Err(no_object_but(alloc, name, address, &location))
+    Err(no_object(alloc, name, address, &location))
 }

@@ -1,5 +1,6 @@
 //! Files on the command line.
-use crate::refusal::{of_bytes, of_file, of_heap, unopenable};
+use crate::heard::Heard;
+use crate::refusal::{of_bytes, of_device, unopenable};
 use g1_command::{Refusal, read_all};
 use g1_image::{FromReader, Image, Stale, decode, read, read_stale};
 use g1_text::is_graph;
@@ -18,73 +19,18 @@ pub fn read_bytes<T: Files, R: Read>(
     reader: &mut R,
 ) -> Result<Vec<u8>, Refusal> {
     if name == STANDARD_STREAM {
-        return with_name(alloc, name, read_all(alloc, reader));
+        return read_whole(alloc, name, reader);
     }
     let mut file = open_file(rt, alloc, name)?;
-    with_name(alloc, name, read_all(alloc, &mut file))
+    read_whole(alloc, name, &mut file)
 }
 
-/// What a file has that is read as an image.
-#[derive(Drop)]
-pub enum Found {
-    Image(Image),
-    /// Bytes that are no image's because of this fault.
-    Broken { bytes: Vec<u8>, fault: Fault },
-}
-
-/// What is in a file, or what the reader gives if the name means standard input. A file that has a fault is read once
-/// more, so that all its bytes are there; what is no file is kept while it is read.
-pub fn read_found<T: Files, R: Read>(
-    rt: &T,
-    alloc: Global,
-    name: &str,
-    reader: &mut R,
-) -> Result<Found, Refusal> {
-    if name != STANDARD_STREAM && is_file(rt, name) {
-        let file = open_file(rt, alloc, name)?;
-        match read(alloc, &mut FromReader::new(file)) {
-            Ok(image) => return Ok(Found::Image(image)),
-            Err(Fault::Memory) => return Err(Fault::Memory.into()),
-            Err(Fault::Device(device)) => {
-                return Err(of_file(alloc, name, Fault::Device(device)));
-            }
-            Err(_) => {}
-        }
-    }
-    let bytes = read_bytes(rt, alloc, name, reader)?;
-    match decode(alloc, bytes.as_slice()) {
-        Ok(image) => Ok(Found::Image(image)),
-        Err(Fault::Memory) => Err(Fault::Memory.into()),
-        Err(fault) => Ok(Found::Broken { bytes, fault }),
-    }
-}
-
-/// The image in a file, or that of the reader if the name means standard input.
-pub fn read_image<T: Files, R: Read>(
-    rt: &T,
-    alloc: Global,
-    name: &str,
-    reader: &mut R,
-) -> Result<Image, Refusal> {
-    match read_found(rt, alloc, name, reader)? {
-        Found::Image(image) => Ok(image),
-        Found::Broken { bytes, fault } => Err(of_bytes(alloc, name, bytes.as_slice(), fault)),
-    }
-}
-
-/// The refusal of an image for a fault that was found after it was read as a stream, or by a pause. What is in a file is
-/// read once more, for the rule that is broken.
-pub fn refuse_again<T: Files>(rt: &T, alloc: Global, name: &str, fault: Fault) -> Refusal {
-    let is_told = matches!(
-        fault,
-        Fault::Memory | Fault::Device(_) | Fault::Room { .. } | Fault::Settings(_)
-    );
-    if is_told || name == STANDARD_STREAM || !is_file(rt, name) {
-        return of_file(alloc, name, fault);
-    }
-    match read_image(rt, alloc, name, &mut [].as_slice()) {
-        Ok(image) => of_heap(alloc, name, image.heap(), fault),
-        Err(refusal) => refusal,
+// All bytes of what has this name.
+fn read_whole<R: Read>(alloc: Global, name: &str, reader: &mut R) -> Result<Vec<u8>, Refusal> {
+    let mut heard = Heard::new(reader);
+    match read_all(alloc, &mut heard) {
+        Ok(bytes) => Ok(bytes),
+        Err(fault) => Err(of_device(alloc, name, fault, heard.reason())),
     }
 }
 
@@ -118,17 +64,28 @@ pub fn read_side<T: Files, R: Read>(
     }
     match read_once(rt, alloc, name)? {
         Ok(content) => Ok(content),
-        Err(Fault::Reference(place)) => {
-            let mut file = open_file(rt, alloc, name)?;
-            without_stale(alloc, name, &mut file, Fault::Reference(place))
-        }
-        Err(Fault::Memory) => Err(Fault::Memory.into()),
-        Err(Fault::Device(device)) => Err(of_file(alloc, name, Fault::Device(device))),
+        Err(Fault::Reference(place)) => read_stale_side(rt, alloc, name, Fault::Reference(place)),
         // Lines may begin behind the bytes that were looked at, and the rule that is broken is found in all bytes.
         Err(_) => {
-            let mut file = open_file(rt, alloc, name)?;
-            let bytes = with_name(alloc, name, read_all(alloc, &mut file))?;
+            let bytes = read_bytes(rt, alloc, name, reader)?;
             found_in(alloc, name, bytes)
+        }
+    }
+}
+
+// What is in a file whose fault is a reference. The rule that is broken is found in all bytes.
+fn read_stale_side<T: Files>(
+    rt: &T,
+    alloc: Global,
+    name: &str,
+    fault: Fault,
+) -> Result<SideContent, Refusal> {
+    let mut file = open_file(rt, alloc, name)?;
+    match without_stale(alloc, name, &mut file, fault)? {
+        Some(content) => Ok(content),
+        None => {
+            let bytes = read_bytes(rt, alloc, name, &mut [].as_slice())?;
+            Err(of_bytes(alloc, name, bytes.as_slice(), fault))
         }
     }
 }
@@ -136,26 +93,32 @@ pub fn read_side<T: Files, R: Read>(
 // How many bytes of a file are looked at for the first word of lines.
 const HEAD: u64 = 4096;
 
-// What is in a file, or the fault of its image.
+// What is in a file, or the fault of its image, which is one of its bytes.
 fn read_once<T: Files>(
     rt: &T,
     alloc: Global,
     name: &str,
 ) -> Result<Result<SideContent, Fault>, Refusal> {
     let mut file = open_file(rt, alloc, name)?;
-    let head = with_name(alloc, name, read_all(alloc, &mut file.by_ref().take(HEAD)))?;
-    let mut whole = head.as_slice().chain(file);
+    let head = read_whole(alloc, name, &mut file.by_ref().take(HEAD))?;
+    let mut heard = Heard::new(&mut file);
+    let mut whole = head.as_slice().chain(&mut heard);
     if is_graph(head.as_slice()) {
-        let bytes = with_name(alloc, name, read_all(alloc, &mut whole))?;
+        let bytes = read_whole(alloc, name, &mut whole)?;
         return Ok(Ok(found_in(alloc, name, bytes)?));
     }
     match read(alloc, &mut FromReader::new(whole)) {
         Ok(image) => Ok(Ok(SideContent::Image(image))),
+        Err(Fault::Memory) => Err(Fault::Memory.into()),
+        Err(Fault::Device(device)) => {
+            Err(of_device(alloc, name, Fault::Device(device), heard.reason()))
+        }
         Err(fault) => Ok(Err(fault)),
     }
 }
 
-fn is_file<T: Files>(rt: &T, name: &str) -> bool {
+/// Whether a name is that of a file, which can be read more than once.
+pub fn is_file<T: Files>(rt: &T, name: &str) -> bool {
     match fs::metadata(rt, name) {
         Ok(found) => found.is_file(),
         Err(_) => false,
@@ -170,36 +133,35 @@ fn found_in(alloc: Global, name: &str, bytes: Vec<u8>) -> Result<SideContent, Re
     match decode(alloc, bytes.as_slice()) {
         Ok(image) => Ok(SideContent::Image(image)),
         Err(Fault::Reference(place)) => {
-            without_stale(alloc, name, &mut bytes.as_slice(), Fault::Reference(place))
+            let fault = Fault::Reference(place);
+            match without_stale(alloc, name, &mut bytes.as_slice(), fault)? {
+                Some(content) => Ok(content),
+                None => Err(of_bytes(alloc, name, bytes.as_slice(), fault)),
+            }
         }
         Err(fault) => Err(of_bytes(alloc, name, bytes.as_slice(), fault)),
     }
 }
 
-// What has another fault, too, is refused for its first one.
+// What is an image with its stale words taken for null. None if it has another fault, too.
 fn without_stale<R: Read>(
     alloc: Global,
     name: &str,
     reader: &mut R,
     fault: Fault,
-) -> Result<SideContent, Refusal> {
-    match read_stale(alloc, &mut FromReader::new(reader)) {
-        Ok((image, stale)) => Ok(SideContent::Stale {
+) -> Result<Option<SideContent>, Refusal> {
+    let mut heard = Heard::new(reader);
+    match read_stale(alloc, &mut FromReader::new(&mut heard)) {
+        Ok((image, stale)) => Ok(Some(SideContent::Stale {
             image,
             stale,
             fault,
-        }),
+        })),
         Err(Fault::Memory) => Err(Fault::Memory.into()),
-        Err(Fault::Device(device)) => Err(of_file(alloc, name, Fault::Device(device))),
-        Err(_) => Err(of_file(alloc, name, fault)),
-    }
-}
-
-// What was read, or its fault with the name of its file.
-fn with_name<V: Drop>(alloc: Global, name: &str, read: Result<V, Fault>) -> Result<V, Refusal> {
-    match read {
-        Ok(value) => Ok(value),
-        Err(fault) => Err(of_file(alloc, name, fault)),
+        Err(Fault::Device(device)) => {
+            Err(of_device(alloc, name, Fault::Device(device), heard.reason()))
+        }
+        Err(_) => Ok(None),
     }
 }
 

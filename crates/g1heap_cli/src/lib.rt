@@ -2,14 +2,15 @@
 //!
 //! 1. `program` has the words after the program's name read into a request (g1heap_request), before any input.
 //!    A person at a terminal hears what is waited for (`terminals`).
-//! 2. The files of the request are read (`files`): an image, lines, or what `same` compares.
+//! 2. The files of the request are read (`files`): an image, lines, or what `same` compares. An image that may be refused
+//!    later can be read a second time (`sources`).
 //! 3. The answer is made in memory: of two heaps by g1_report (`sameness`, `young`), of a pause by g1_explain
 //!    (`explaining`), of a trace by g1_trace (`tracing`), of an image or lines by g1_text (`commands`), and what
 //!    g1pause answers, too, by g1_answers (`answering`).
 //! 4. It is written at once, to standard output or to a file, which is whole or not there (`output`). The image
 //!    after a pause goes to standard output in pieces, with all memory taken before the first. Only the lines
 //!    of `same --all` are written as they are made (`line_writer`), and so may those of `trace --live`.
-//! 5. A refusal is reported on standard error (`refusal`). Then nothing is on standard output, unless the
+//! 5. A refusal is reported on standard error (`refusal`), with the system's reason, if there is one (`heard`). Then nothing is on standard output, unless the
 //!    refusal is that writing there failed, or lines were written as they were made.
 
 #![tactic(auto)]
@@ -19,10 +20,13 @@ mod answering;
 mod commands;
 mod explaining;
 mod files;
+mod heard;
+mod hexadecimal;
 mod line_writer;
 mod output;
 mod refusal;
 mod sameness;
+mod sources;
 mod terminals;
 mod tracing;
 mod young;

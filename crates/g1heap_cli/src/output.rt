@@ -1,5 +1,5 @@
 //! An answer that goes into a file.
-use crate::refusal::{no_free_name, of_file, unwritable};
+use crate::refusal::{no_free_name, of_device, unwritable};
 use g1_command::Refusal;
 use g1_words::{Device, Fault};
 use std::alloc::Global;
@@ -36,7 +36,10 @@ fn write_whole<F: Write + Drop>(
     let mut file = check_done(alloc, name, opened)?;
     match file.write_all(answer) {
         Ok(()) => Ok(()),
-        Err(_) => Err(of_file(alloc, name, Fault::Device(Device::Output))),
+        Err(error) => {
+            let fault = Fault::Device(Device::Output);
+            Err(of_device(alloc, name, fault, Some(error)))
+        }
     }
 }
 

@@ -1,17 +1,43 @@
 //! The refusals that name a file.
-use g1_broken::{Broken, rule_of_bytes, rule_of_cover, rule_of_set, rule_of_stale};
+use g1_broken::{Broken, Look, rule_of_bytes, rule_of_cover, rule_of_set, rule_of_stale};
 use g1_command::Refusal;
 use g1_image::{MAGIC, Stale};
 use g1_report::{Location, WrongNames};
 use g1_text::Wrong;
-use g1_words::{Fault, Heap};
+use g1_words::{Device, Fault, Heap};
+use g1heap_request::{SET_TIP, names_regions};
 use std::alloc::{AllocError, Global};
+use std::fmt;
 use std::fmt::Display;
 use std::io::Error;
 
 /// A fault of the file of this name. Running out of memory is of no file.
 pub fn of_file(alloc: Global, name: &str, fault: Fault) -> Refusal {
     of_rule(alloc, name, fault, None)
+}
+
+/// A fault of the file of this name, and the system's reason, if a call on the file failed.
+pub fn of_device(alloc: Global, name: &str, fault: Fault, reason: Option<Error>) -> Refusal {
+    match (fault, reason) {
+        (Fault::Device(_), Some(reason)) => with_cause(alloc, name, fault, &reason),
+        _ => of_file(alloc, name, fault),
+    }
+}
+
+/// That standard output failed, and the system's reason. Where there is no memory for it, that it failed.
+pub fn of_output(alloc: Global, reason: Option<Error>) -> Refusal {
+    let fault = Fault::Device(Device::Output);
+    let Some(reason) = reason else {
+        return Refusal::Fault(fault);
+    };
+    let number = fault.number();
+    match format!(in alloc; "g1heap: fault {number}: {fault}\ng1heap: {reason}\n") {
+        Ok(text) => Refusal::Told {
+            status: fault.status(),
+            text,
+        },
+        Err(_) => Refusal::Fault(fault),
+    }
 }
 
 /// The fault of bytes that are no image's, and the rule that they break.
@@ -37,14 +63,22 @@ fn of_rule(alloc: Global, name: &str, fault: Fault, rule: Option<Broken>) -> Ref
     if fault == Fault::Memory {
         return Refusal::Fault(fault);
     }
-    let number = fault.number();
-    let text = match rule {
-        Some(rule) => {
-            format!(in alloc; "g1heap: {name}: fault {number}: {fault}\ng1heap: {rule}\n")
+    match rule {
+        Some(rule) => with_cause(alloc, name, fault, &rule),
+        None => {
+            let number = fault.number();
+            let text = format!(in alloc; "g1heap: {name}: fault {number}: {fault}\n");
+            refusal(fault.status(), text)
         }
-        None => format!(in alloc; "g1heap: {name}: fault {number}: {fault}\n"),
-    };
-    refusal(fault.status(), text)
+    }
+}
+
+fn with_cause<C: Display>(alloc: Global, name: &str, fault: Fault, cause: &C) -> Refusal {
+    let number = fault.number();
+    refusal(
+        fault.status(),
+        format!(in alloc; "g1heap: {name}: fault {number}: {fault}\ng1heap: {cause}\n"),
+    )
 }
 
 /// A file that can't be opened, and the system's reason.
@@ -83,27 +117,74 @@ fn told(alloc: Global, status: u8, name: &str, what: &str) -> Refusal {
     refusal(status, format!(in alloc; "g1heap: {name}: {what}\n"))
 }
 
+/// What to do about what is read as lines, and is something else.
+#[derive(Clone, Copy)]
+pub enum Hint {
+    /// It is an image, of any version.
+    Image,
+    /// It is of this other kind.
+    Look(Look),
+    /// The line of this number ends as lines of DOS do.
+    Dos(u64),
+}
+
+impl fmt::Display for Hint {
+    fn fmt<W: fmt::Write>(&self, f: &mut fmt::Formatter<W>) -> fmt::Result {
+        match self {
+            Hint::Image => f.write_str(
+                "it is an image; 'g1heap print' prints its lines, and 'g1heap explain' those of a pause",
+            ),
+            Hint::Look(look) => write!(f, "{look}"),
+            Hint::Dos(number) => write!(
+                f,
+                "line {number} ends with a carriage return: the file has DOS line ends"
+            ),
+        }
+    }
+}
+
+/// What bytes are that are no lines, if it can be seen.
+pub fn hint_on(alloc: Global, bytes: &[u8]) -> Result<Option<Hint>, AllocError> {
+    if is_image(bytes) {
+        return Ok(Some(Hint::Image));
+    }
+    match rule_of_bytes(alloc, bytes, Fault::Magic)? {
+        Some(Broken::Look(Look::Empty | Look::Unknown)) => Ok(None),
+        Some(Broken::Look(look)) => Ok(Some(Hint::Look(look))),
+        _ => Ok(None),
+    }
+}
+
 /// A line that is not what is expected there, and what to do about it.
 pub fn wrong_line<E: Display>(
     alloc: Global,
     name: &str,
     number: u64,
     expected: &E,
-    hint: &str,
+    hint: Option<Hint>,
 ) -> Refusal {
-    refusal(
-        3,
-        format!(in alloc; "g1heap: {name}: line {number}: expected {expected}\n{hint}"),
-    )
+    let text = match hint {
+        Some(hint) => {
+            format!(in alloc;
+                "g1heap: {name}: line {number}: expected {expected}\ng1heap: {hint}\n"
+            )
+        }
+        None => format!(in alloc; "g1heap: {name}: line {number}: expected {expected}\n"),
+    };
+    refusal(3, text)
 }
 
 /// The refusal of a file for its lines, which are in these bytes, or for its words that reference no object.
 pub fn refuse_lines(alloc: Global, name: &str, bytes: &[u8], wrong: Wrong) -> Refusal {
     match wrong {
-        Wrong::Line { number, expected } => {
-            let hint = if is_image(bytes) { IMAGE_HINT } else { "" };
-            wrong_line(alloc, name, number, &expected, hint)
-        }
+        Wrong::Line { number, expected } => match hint_on(alloc, bytes) {
+            // They are the lines that are wanted.
+            Ok(Some(Hint::Look(Look::Lines | Look::Graph))) => {
+                wrong_line(alloc, name, number, &expected, None)
+            }
+            Ok(hint) => wrong_line(alloc, name, number, &expected, hint),
+            Err(error) => error.into(),
+        },
         Wrong::Fault(fault) => of_file(alloc, name, fault),
     }
 }
@@ -111,19 +192,9 @@ pub fn refuse_lines(alloc: Global, name: &str, bytes: &[u8], wrong: Wrong) -> Re
 /// The refusal of a file of names.
 pub fn refuse_names(alloc: Global, name: &str, wrong: WrongNames) -> Refusal {
     match wrong {
-        WrongNames::Line { number, expected } => wrong_line(alloc, name, number, &expected, ""),
+        WrongNames::Line { number, expected } => wrong_line(alloc, name, number, &expected, None),
         WrongNames::Memory => Refusal::Fault(Fault::Memory),
     }
-}
-
-/// A line of a file with the line ends of DOS, where only a line feed may end it.
-pub fn wrong_dos_line<E: Display>(alloc: Global, name: &str, number: u64, expected: &E) -> Refusal {
-    refusal(
-        3,
-        format!(in alloc;
-            "g1heap: {name}: line {number}: expected {expected}\ng1heap: line {number} ends with a carriage return: the file has DOS line ends\n"
-        ),
-    )
 }
 
 /// Whether bytes begin as an image does, in any version.
@@ -131,9 +202,15 @@ pub fn is_image(bytes: &[u8]) -> bool {
     bytes.starts_with(&MAGIC)
 }
 
-/// What to do about an image where lines are read.
-pub const IMAGE_HINT: &str =
-    "g1heap: it is an image; 'g1heap print' prints its lines, and 'g1heap explain' those of a pause\n";
+/// The refusal of a file of which regions are collected. If its name is a set of regions, these may have been meant.
+pub fn with_set_tip(alloc: Global, name: &str, refused: Refusal) -> Refusal {
+    match refused {
+        Refusal::Told { status: 7, text } if names_regions(name) => {
+            refusal(7, format!(in alloc; "{text}g1heap: {SET_TIP}\n"))
+        }
+        _ => refused,
+    }
+}
 
 /// A command that a trace doesn't have.
 pub fn no_command(alloc: Global, name: &str, command: u64, commands: u64) -> Refusal {
@@ -161,16 +238,8 @@ pub fn no_region(alloc: Global, name: &str, region: u32, regions: u64) -> Refusa
     )
 }
 
-/// An address at which no object starts.
-pub fn no_object(alloc: Global, name: &str, address: u64) -> Refusal {
-    refusal(
-        2,
-        format!(in alloc; "g1heap: {name}: no object starts at {address}\n"),
-    )
-}
-
 /// An address at which no object starts, and what is there.
-pub fn no_object_but(alloc: Global, name: &str, address: u64, location: &Location) -> Refusal {
+pub fn no_object(alloc: Global, name: &str, address: u64, location: &Location) -> Refusal {
     refusal(
         2,
         format!(in alloc; "g1heap: {name}: no object starts at {address}: {location}\n"),

@@ -5,18 +5,20 @@ ghost use Rattle.g1_pause.specs.Steps.{AreStepsOf};
 use crate::alone::{CHUNK, WORKERS};
 use crate::explaining::of_failure;
 use crate::files::open_file;
+use crate::heard::Heard;
 use crate::output::write_file;
-use crate::refusal::{IMAGE_HINT, is_image, no_command, of_file, wrong_dos_line, wrong_line};
+use crate::refusal::{Hint, hint_on, is_image, no_command, of_device, of_file, wrong_line};
+use g1_broken::Look;
 use g1_command::{LineReader, Refusal, deliver, deliver_text};
 use g1_explain::explain_steps;
 use g1_image::encode;
 use g1_pause::{Before, Choice, Settings, Steps, take_steps};
 use g1_rem::Tracked;
 use g1_trace::{Expected, Reply, Session, Taken, Wrong, push_reply};
-use g1_words::Fault;
+use g1_words::{Device, Fault};
 use g1_work::Open;
 use g1heap_request::{Output, STANDARD_STREAM, Trace};
-use std::alloc::Global;
+use std::alloc::{AllocError, Global};
 use std::io::{Read, Write};
 use std::mem;
 use std::rt::Files;
@@ -65,10 +67,27 @@ pub fn answer_trace<T: Threads + Sync + Files, R: Read, W: Write>(
     };
     let name = trace.name.as_str();
     if name == STANDARD_STREAM {
-        return answer_lines(&job, reader, writer);
+        return answer_heard(&job, reader, writer);
     }
     let mut file = open_file(rt, alloc, name)?;
-    answer_lines(&job, &mut file, writer)
+    answer_heard(&job, &mut file, writer)
+}
+
+// A read that fails is reported with the system's reason.
+fn answer_heard<T: Threads + Sync + Files, R: Read, W: Write>(
+    job: &Job<'_, T>,
+    reader: &mut R,
+    writer: &mut W,
+) -> Result<u8, Refusal> {
+    let mut heard = Heard::new(reader);
+    let answered = answer_lines(job, &mut heard, writer);
+    match answered {
+        Err(Refusal::Fault(Fault::Device(Device::Input))) => {
+            let fault = Fault::Device(Device::Input);
+            Err(of_device(job.alloc, job.trace.name.as_str(), fault, heard.reason()))
+        }
+        _ => answered,
+    }
 }
 
 fn settings_with(trace: &Trace, budget: u64) -> Result<Settings, Fault> {
@@ -100,7 +119,7 @@ fn answer_all<T: Threads + Sync + Files, R: Read, W: Write>(
     writer: &mut W,
 ) -> Result<u8, Refusal> {
     for _ in 0..u64::MAX {
-        if !read_line(job.alloc, job.trace, input)? {
+        if !read_line(input)? {
             break;
         }
         let explained = job.trace.explain && explain_line(job, input.line.as_slice(), state)?;
@@ -139,19 +158,11 @@ fn write_all<T: Files, W: Write>(
 }
 
 // Reads the next line; there is none at the end of the input.
-fn read_line<R: Read>(
-    alloc: Global,
-    trace: &Trace,
-    input: &mut Input<'_, R>,
-) -> Result<bool, Refusal> {
+fn read_line<R: Read>(input: &mut Input<'_, R>) -> Result<bool, Fault> {
     input.line.clear();
-    match input.lines.read_into(&mut input.line) {
-        Ok(is_there) => {
-            input.number = input.number.saturating_add(u64::from(is_there));
-            Ok(is_there)
-        }
-        Err(fault) => Err(of_file(alloc, trace.name.as_str(), fault)),
-    }
+    let is_there = input.lines.read_into(&mut input.line)?;
+    input.number = input.number.saturating_add(u64::from(is_there));
+    Ok(is_there)
 }
 
 // Does a line, and adds what it is answered to what is not written yet.
@@ -165,12 +176,25 @@ fn take_line<T: Threads + Sync + Files>(
     match take(job, content, &mut state.session) {
         Ok(Taken::Nothing) => Ok(()),
         Ok(Taken::Reply(reply)) => add_reply(job.alloc, job.trace, reply, state),
-        Err(Wrong::Line(expected)) if content.ends_with(b"\r") => {
-            let name = job.trace.name.as_str();
-            Err(wrong_dos_line(job.alloc, name, number, &expected))
+        Err(Wrong::Line(expected)) => {
+            let hint = hint_on_line(job.alloc, content, number)?;
+            Err(wrong(job.alloc, job.trace, number, expected, hint))
         }
-        Err(Wrong::Line(expected)) => Err(wrong(job.alloc, job.trace, number, expected)),
         Err(Wrong::Fault(fault)) => Err(of_file(job.alloc, job.trace.name.as_str(), fault)),
+    }
+}
+
+// What a line is that is none of a trace, if it can be seen.
+fn hint_on_line(alloc: Global, content: &[u8], number: u64) -> Result<Option<Hint>, AllocError> {
+    if content.ends_with(b"\r") {
+        return Ok(Some(Hint::Dos(number)));
+    }
+    if number > 1 {
+        return Ok(None);
+    }
+    match hint_on(alloc, content)? {
+        Some(Hint::Look(Look::Trace)) => Ok(None),
+        hint => Ok(hint),
     }
 }
 
@@ -182,12 +206,14 @@ fn content_of<'l>(
     number: u64,
 ) -> Result<&'l [u8], Refusal> {
     if number == 1 && is_image(line) {
-        let name = trace.name.as_str();
-        return Err(wrong_line(alloc, name, 1, &Expected::Heap, IMAGE_HINT));
+        return Err(wrong(alloc, trace, 1, Expected::Heap, Some(Hint::Image)));
     }
     match line.split_last() {
         Some((b'\n', content)) => Ok(content),
-        _ => Err(wrong(alloc, trace, number, Expected::End)),
+        _ => {
+            let hint = hint_on_line(alloc, line, number)?;
+            Err(wrong(alloc, trace, number, Expected::End, hint))
+        }
     }
 }
 
@@ -207,8 +233,14 @@ fn add_reply(alloc: Global, trace: &Trace, reply: Reply, state: &mut State) -> R
     keep_image(alloc, trace, &state.session, &mut state.image)
 }
 
-fn wrong(alloc: Global, trace: &Trace, number: u64, expected: Expected) -> Refusal {
-    wrong_line(alloc, trace.name.as_str(), number, &expected, "")
+fn wrong(
+    alloc: Global,
+    trace: &Trace,
+    number: u64,
+    expected: Expected,
+    hint: Option<Hint>,
+) -> Refusal {
+    wrong_line(alloc, trace.name.as_str(), number, &expected, hint)
 }
 
 fn push_numbered(
@@ -325,7 +357,8 @@ fn keep_image(
 // A trace has a line with the sizes, and the command whose image is wanted.
 fn check_end(alloc: Global, trace: &Trace, session: &Session, lines: u64) -> Result<(), Refusal> {
     if session.image().is_none() {
-        return Err(wrong(alloc, trace, lines.saturating_add(1), Expected::Heap));
+        let number = lines.saturating_add(1);
+        return Err(wrong(alloc, trace, number, Expected::Heap, None));
     }
     match &trace.image {
         Some(wanted) if wanted.command > session.commands() => {

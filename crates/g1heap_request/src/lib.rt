@@ -3,7 +3,8 @@
 //! 1. `commands` is the table of the commands and of their arguments, with what help says of them (`usage`).
 //! 2. `parse` has clap match the words by it, and reads what the command asks for: a `Request` (`options`). The values of
 //!    the commands that g1pause has, too, are read by `asking`.
-//! 3. An `Output` says where an answer goes (`output`).
+//! 3. Where clap refuses words that show what was meant, the refusal has a tip (`tips`).
+//! 4. An `Output` says where an answer goes (`output`).
 //!
 //! Nothing is read or written here.
 #![tactic(auto)]
@@ -11,9 +12,11 @@
 mod asking;
 mod options;
 mod output;
+mod tips;
 mod usage;
 
 pub use asking::{Ask, Rewrite};
 pub use options::{Explain, ImageAfter, Part, Request, Same, Trace, parse};
 pub use output::{Output, STANDARD_STREAM};
+pub use tips::{SET_TIP, names_regions};
 pub use usage::NAME;

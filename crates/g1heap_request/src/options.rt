@@ -1,6 +1,7 @@
 //! The command line.
 use crate::asking::{Ask, Rewrite, asked_of};
 use crate::output::{Output, STANDARD_STREAM};
+use crate::tips::with_tip;
 use crate::usage as table;
 use crate::usage::{commands, program};
 use clap::ArgMatches;
@@ -22,6 +23,8 @@ pub enum Request {
     Print {
         image: String,
         part: Part,
+        /// Whether data words are in hexadecimal.
+        hex: bool,
         output: Output,
     },
     /// The image that lines describe.
@@ -124,6 +127,8 @@ static COVERED: Argument = table::COVERED;
 static EXPLAINED: Argument = table::EXPLAINED;
 
 static FILL: Argument = table::FILL;
+
+static HEX: Argument = table::HEX;
 
 static IMAGE: Argument = table::IMAGE;
 
@@ -299,6 +304,7 @@ fn print_of(alloc: Global, values: &ArgMatches<'_>) -> Result<Request, Misuse> {
     Ok(Request::Print {
         image: name_of(alloc, values, &IMAGE)?,
         part: part_of(alloc, values)?,
+        hex: values.get_flag(HEX.id),
         output: output_of(alloc, values)?,
     })
 }
@@ -339,6 +345,9 @@ pub fn parse(alloc: Global, words: &[String]) -> Result<Request, Refusal> {
     let program = program(&commands);
     match &match_words(alloc, &program, words.as_slice()) {
         Ok(matches) => read_request(alloc, &program, matches, request_of),
-        Err(error) => Ok(Request::Help(help_or_refusal(alloc, error)?)),
+        Err(error) => match help_or_refusal(alloc, error) {
+            Ok(text) => Ok(Request::Help(text)),
+            Err(refusal) => Err(with_tip(alloc, refusal, error, words.as_slice(), &commands)),
+        },
     }
 }

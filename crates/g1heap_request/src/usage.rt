@@ -244,7 +244,7 @@ static PRINT: Usage = Usage {
     name: "print",
     about: "Prints an image as lines",
     after_help: AFTER_PRINT,
-    arguments: &[IMAGE_OR_INPUT, REGION, OBJECT, SUMMARY, OUTPUT],
+    arguments: &[IMAGE_OR_INPUT, REGION, OBJECT, SUMMARY, HEX, OUTPUT],
 };
 
 static MAKE: Usage = Usage {
@@ -390,6 +390,13 @@ pub const SUMMARY: Argument = Argument {
     id: "summary",
     help: "Only how many regions, words, cards and roots there are",
     conflicts: &["region", "object"],
+    ..FLAG
+};
+
+pub const HEX: Argument = Argument {
+    id: "hex",
+    help: "Data words in hexadecimal, as 0x1f",
+    conflicts: &["summary"],
     ..FLAG
 };
 

@@ -1,0 +1,184 @@
+//! What is said beside a mistake, where the words show what was meant.
+use clap::Error;
+use clap::error::ErrorKind;
+use g1_command::{Argument, Form, Refusal, Usage};
+use std::alloc::{AllocError, Global};
+
+/// The refusal of words for this error, with the tip that fits them in place of clap's own.
+pub fn with_tip(
+    alloc: Global,
+    refusal: Refusal,
+    error: &Error,
+    words: &[String],
+    commands: &[Usage],
+) -> Refusal {
+    let Refusal::Told { status, text } = refusal else {
+        return refusal;
+    };
+    match told_with_tip(alloc, text.as_str(), error, words, commands) {
+        Ok(told) => Refusal::Told {
+            status,
+            text: told.unwrap_or(text),
+        },
+        Err(error) => error.into(),
+    }
+}
+
+// The text with a tip, if there is one.
+fn told_with_tip(
+    alloc: Global,
+    text: &str,
+    error: &Error,
+    words: &[String],
+    commands: &[Usage],
+) -> Result<Option<String>, AllocError> {
+    let Some(tip) = tip_for(alloc, text, error, words, commands)? else {
+        return Ok(None);
+    };
+    let Some((message, usage)) = text.split_once("\n\nUsage:") else {
+        return Ok(None);
+    };
+    let (message, _) = message.split_once("\n\n  tip:").unwrap_or((message, ""));
+    let text = format!(in alloc; "{message}\n\n  tip: {tip}\n\nUsage:{usage}")?;
+    Ok(Some(text))
+}
+
+fn tip_for(
+    alloc: Global,
+    text: &str,
+    error: &Error,
+    words: &[String],
+    commands: &[Usage],
+) -> Result<Option<String>, AllocError> {
+    let first = match words.first() {
+        Some(word) => word.as_str(),
+        None => "",
+    };
+    match error.kind() {
+        ErrorKind::InvalidSubcommand => tip_of_command(alloc, quoted(text)),
+        ErrorKind::UnknownArgument => tip_of_argument(alloc, quoted(text), first, commands),
+        ErrorKind::MissingRequiredArgument if has_empty_set(words) => {
+            Ok(Some(String::from_str(alloc, EMPTY_SET)?))
+        }
+        _ => Ok(None),
+    }
+}
+
+/// How regions are given.
+pub const SET_TIP: &str = "regions are given by '--set', as in '--set 1,2,5-9'";
+
+/// Whether a word is written as regions are.
+pub fn names_regions(word: &str) -> bool {
+    let rest = word.trim_start_matches(|c: char| matches!(c, '0'..='9' | ',' | '-'));
+    rest.is_empty() && word.starts_with(|c: char| c.is_ascii_digit())
+}
+
+const EMPTY_SET: &str = "behind '--set' come regions, as in '--set 1,2,5-9', and then the files";
+
+// What other programs call a command.
+const COMMANDS: [(&str, &str); 12] = [
+    ("diff", "same"),
+    ("cmp", "same"),
+    ("compare", "same"),
+    ("run", "trace"),
+    ("replay", "trace"),
+    ("collect", "pause"),
+    ("gc", "pause"),
+    ("dump", "print"),
+    ("cat", "print"),
+    ("verify", "check"),
+    ("path", "why"),
+    ("load", "make"),
+];
+
+fn tip_of_command(alloc: Global, word: &str) -> Result<Option<String>, AllocError> {
+    for (other, command) in COMMANDS {
+        if word == other {
+            let tip = format!(in alloc; "the command for it is '{command}'")?;
+            return Ok(Some(tip));
+        }
+    }
+    if word.contains('.') || word.contains('/') {
+        let tip = format!(in alloc; "a command comes before a file, as in 'show {word}'")?;
+        return Ok(Some(tip));
+    }
+    Ok(None)
+}
+
+// What stands between the first two quotes of a text.
+fn quoted(text: &str) -> &str {
+    let (_, behind) = text.split_once('\'').unwrap_or(("", ""));
+    let (word, _) = behind.split_once('\'').unwrap_or(("", ""));
+    word
+}
+
+// The tip for an argument that a command doesn't have: a region, or an option of other commands.
+fn tip_of_argument(
+    alloc: Global,
+    argument: &str,
+    command: &str,
+    commands: &[Usage],
+) -> Result<Option<String>, AllocError> {
+    let is_region = names_regions(argument) || REGION_OPTIONS.contains(&argument);
+    if is_region && takes(commands, command, "--set") {
+        return Ok(Some(String::from_str(alloc, SET_TIP)?));
+    }
+    owners(alloc, argument, commands)
+}
+
+// What the option of regions is called by mistake.
+const REGION_OPTIONS: [&str; 3] = ["--region", "--regions", "--collect"];
+
+fn takes(commands: &[Usage], name: &str, option: &str) -> bool {
+    for usage in commands {
+        if usage.name == name && has_option(usage, option) {
+            return true;
+        }
+    }
+    false
+}
+
+fn has_option(usage: &Usage, option: &str) -> bool {
+    for argument in usage.arguments {
+        if is_option(argument, option) {
+            return true;
+        }
+    }
+    false
+}
+
+fn is_option(argument: &Argument, option: &str) -> bool {
+    if matches!(argument.form, Form::Place | Form::ManyPlaces) {
+        return false;
+    }
+    if let Some(name) = option.strip_prefix("--") {
+        return argument.id == name;
+    }
+    match (argument.letter, option.strip_prefix('-')) {
+        (Some(letter), Some(rest)) => rest.chars().next() == Some(letter),
+        _ => false,
+    }
+}
+
+// Which commands have an option, if any has it.
+fn owners(alloc: Global, option: &str, commands: &[Usage]) -> Result<Option<String>, AllocError> {
+    let mut tip = format!(in alloc; "'{option}' is an option of ")?;
+    let mut gap = "";
+    for usage in commands {
+        if has_option(usage, option) {
+            write!(tip, "{gap}'{}'", usage.name)?;
+            gap = ", ";
+        }
+    }
+    Ok(if gap.is_empty() { None } else { Some(tip) })
+}
+
+// Whether '--set' stands before a word that is no region. The words that are its values are tied to it.
+fn has_empty_set(words: &[String]) -> bool {
+    for word in words {
+        if word.as_str() == "--set" {
+            return true;
+        }
+    }
+    false
+}
