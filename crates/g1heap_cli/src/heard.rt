@@ -24,32 +24,38 @@ impl<'s, S> Heard<'s, S> {
         self.reason
     }
 
-    // What a call returned, whose failure is kept in mind.
-    fn hear<V>(&mut self, returned: io::Result<V>) -> io::Result<V> {
-        if let Err(error) = &returned
-            && error.kind() != ErrorKind::Interrupted
-        {
-            self.reason = Some(*error);
+    // Keeps in mind why a call failed.
+    fn keep(&mut self, error: Error) {
+        if error.kind() != ErrorKind::Interrupted {
+            self.reason = Some(error);
         }
-        returned
     }
 }
 
 impl<'s, S: Read> Read for Heard<'s, S> {
     fn read(&mut self, buf: &mut [u8]) -> io::Result<usize> {
         let read = self.stream.read(buf);
-        self.hear(read)
+        if let Err(error) = &read {
+            self.keep(*error);
+        }
+        read
     }
 }
 
 impl<'s, S: Write> Write for Heard<'s, S> {
     fn write(&mut self, buf: &[u8]) -> io::Result<usize> {
         let written = self.stream.write(buf);
-        self.hear(written)
+        if let Err(error) = &written {
+            self.keep(*error);
+        }
+        written
     }
 
     fn flush(&mut self) -> io::Result<()> {
         let flushed = self.stream.flush();
-        self.hear(flushed)
+        if let Err(error) = &flushed {
+            self.keep(*error);
+        }
+        flushed
     }
 }

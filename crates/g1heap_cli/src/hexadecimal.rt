@@ -22,16 +22,15 @@ const OBJECT: &str = "object ";
 const WORDS_BEFORE_SLOTS: u64 = 3;
 
 fn push_object(text: &mut String, line: &str) -> Result<(), AllocError> {
-    let mut left = WORDS_BEFORE_SLOTS.saturating_add(slots_in(line));
-    let mut gap = "";
-    for word in line.split(' ') {
-        text.push_str(gap)?;
+    let before_data = WORDS_BEFORE_SLOTS.saturating_add(slots_in(line));
+    for (place, word) in line.split(' ').enumerate() {
+        if place > 0 {
+            text.push(' ')?;
+        }
         match word.parse::<u64>() {
-            Ok(number) if left == 0 => write!(text, "{number:#x}")?,
+            Ok(number) if place as u64 >= before_data => write!(text, "{number:#x}")?,
             _ => text.push_str(word)?,
         }
-        left = left.saturating_sub(1);
-        gap = " ";
     }
     Ok(())
 }
