@@ -4,7 +4,7 @@ ghost use Rattle.g1_same.specs.Same.{IsDifference};
 ghost use Rattle.g1_same.specs.Behind.{ShowsAt};
 
 use crate::names::Names;
-use crate::naming::{push_named_data, push_named_object, push_named_path};
+use crate::naming::{push_named_data, push_named_object, push_named_slots};
 use crate::objects::object_of;
 use crate::places::value_at;
 use g1_same::{Difference, Ends, Found, How, Path, Renaming, What, ends_at, ends_of};
@@ -18,6 +18,8 @@ pub struct Sides<'a> {
     pub after: &'a Heap,
     /// What the program calls the words of the first one.
     pub names: Option<&'a Names<'a>>,
+    /// The numbers of the first one's roots of which its lines say what holds them, rising, and what that is called.
+    pub holders: &'a [(u64, &'a str)],
     /// The names of the objects of each, if they have names in place of addresses.
     pub labels: [Labels<'a>; 2],
     /// The stale words of the second that stand for names, rising, and these names.
@@ -199,14 +201,26 @@ fn push_path(
     path: Steps<'_>,
 ) -> Result<(), AllocError> {
     let (root, slots) = path;
+    push_root(text, sides, root)?;
     if let Some(names) = sides.names {
-        return push_named_path(alloc, text, sides.before, names, root, slots);
+        return push_named_slots(alloc, text, sides.before, names, root, slots);
     }
-    write!(text, "root {root}")?;
     for slot in slots {
         write!(text, " slot {slot}")?;
     }
     Ok(())
+}
+
+// The name of a root: that of the program's names, or else that of its line.
+fn push_root(text: &mut String, sides: Sides<'_>, root: u64) -> Result<(), AllocError> {
+    let named = match sides.names {
+        Some(names) => names.root(root),
+        None => None,
+    };
+    match named.or(value_at(sides.holders, root)) {
+        Some(name) => text.push_str(name),
+        None => write!(text, "root {root}"),
+    }
 }
 
 fn push_before(text: &mut String, sides: Sides<'_>, word: u64) -> Result<(), AllocError> {
@@ -326,5 +340,26 @@ fn push_data(
     if let Some(object) = object_of(sides.before, ends.before) {
         push_named_data(text, names, &object, word)?;
     }
-    write!(text, " is {was} ({was:#x}) before, {is} ({is:#x}) after")
+    push_value(text, names, " is ", was)?;
+    push_value(text, names, " before, ", is)?;
+    text.push_str(" after")
+}
+
+// A data word: what it stands for and its number, or its number in both forms.
+fn push_value(
+    text: &mut String,
+    names: &Names<'_>,
+    lead: &str,
+    word: u64,
+) -> Result<(), AllocError> {
+    text.push_str(lead)?;
+    let Some(said) = names.text(word) else {
+        return write!(text, "{word} ({word:#x})");
+    };
+    let mut apart = "\"";
+    for part in said {
+        write!(text, "{apart}{part}")?;
+        apart = " ";
+    }
+    write!(text, "\" ({word})")
 }

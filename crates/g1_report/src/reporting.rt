@@ -80,7 +80,8 @@ fn sides_of<'a>(asked: &Asked<'a>) -> Sides<'a> {
         before: asked.before.image.heap(),
         after: asked.after.image.heap(),
         names: asked.names,
-        labels: [labels_of(asked.before), labels_of(asked.after)],
+        holders: asked.before.holders.as_slice(),
+        labels: [asked.before.labels(), asked.after.labels()],
         stale_names: stale_names_of(asked.after),
     }
 }
@@ -88,13 +89,6 @@ fn sides_of<'a>(asked: &Asked<'a>) -> Sides<'a> {
 fn stale_names_of<'a>(side: &'a Side<'_>) -> Labels<'a> {
     match &side.stale {
         Some(strays) => Some(strays.names.as_slice()),
-        None => None,
-    }
-}
-
-fn labels_of<'a>(side: &'a Side<'_>) -> Labels<'a> {
-    match &side.labels {
-        Some(labels) => Some(labels.as_slice()),
         None => None,
     }
 }

@@ -1,4 +1,5 @@
 //! The heaps that are compared: those of images, or of lines of objects by name.
+use crate::comparing::Labels;
 use g1_image::{Image, Stale, decode};
 use g1_text::{Graph, Wrong, read_graph};
 use g1_words::Fault;
@@ -10,7 +11,19 @@ pub struct Side<'a> {
     pub image: Image,
     /// The address and the name of each object, rising, if the objects have names.
     pub labels: Option<Vec<(u64, &'a str)>>,
+    /// The numbers of the roots of which lines say what holds them, rising, and what that is called.
+    pub holders: Vec<(u64, &'a str)>,
     pub stale: Option<Strays<'a>>,
+}
+
+impl<'a> Side<'a> {
+    /// The addresses and the names of the objects, if they have names.
+    pub fn labels(&self) -> Labels<'_> {
+        match &self.labels {
+            Some(labels) => Some(labels.as_slice()),
+            None => None,
+        }
+    }
 }
 
 /// The words that reference no object, and what is wrong with them where they are not reported.
@@ -23,10 +36,11 @@ pub struct Strays<'a> {
 }
 
 /// The side of an image.
-pub fn open_image<'a>(image: Image) -> Side<'a> {
+pub fn open_image<'a>(alloc: Global, image: Image) -> Side<'a> {
     Side {
         image,
         labels: None,
+        holders: Vec::new(alloc),
         stale: None,
     }
 }
@@ -36,6 +50,7 @@ pub fn open_stale<'a>(alloc: Global, image: Image, words: Stale, fault: Fault) -
     Side {
         image,
         labels: None,
+        holders: Vec::new(alloc),
         stale: Some(Strays {
             words,
             names: Vec::new(alloc),
@@ -56,10 +71,13 @@ pub fn open_lines<'a>(alloc: Global, lines: &'a [u8]) -> Result<Side<'a>, Wrong>
         Err(fault) => return Err(Wrong::Fault(fault)),
     };
     let stale = strays_in(alloc, &graph)?;
-    let Graph { names, .. } = graph;
+    let Graph {
+        names, root_names, ..
+    } = graph;
     Ok(Side {
         image,
         labels: Some(names),
+        holders: root_names,
         stale,
     })
 }

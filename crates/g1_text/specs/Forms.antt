@@ -152,9 +152,9 @@ ImageLine words = RootLine words ⊎ DirtyLine words ⊎ CoveredLine words ⊎ R
 abbrev pub GraphHeading : Form
 GraphHeading = Word (codes "graph") ▸ Maybe Sizes
 
--- root NAME
+-- root NAME [as HOLDER]
 abbrev pub NamedRootLine : Form
-NamedRootLine = Word (codes "root") ▸ Single IsTarget
+NamedRootLine = Word (codes "root") ▸ Single IsTarget ▸ Maybe (Word (codes "as") ▸ Single IsName)
 
 -- object NAME SIZE/SLOTS NAME .. WORD .. [..]
 abbrev pub NamedObjectLine : Form

@@ -46,6 +46,8 @@ pub enum Expected {
     Name,
     NewName,
     NamedRoot,
+    /// The name of what holds a root.
+    Holder,
     /// A slot, counted from 0, that is null or has an object's name.
     NamedSlot(u64),
     /// At least this many regions.
@@ -79,6 +81,7 @@ impl Expected {
             Expected::Name => "a name, which is neither '-' nor '..'",
             Expected::NewName => "a name that no object above has",
             Expected::NamedRoot => "'-' or the name of an object",
+            Expected::Holder => "one word behind 'as', which is neither '-' nor '..'",
             Expected::Smaller => "objects that fit into a heap of 16777216 words",
             _ => "",
         }

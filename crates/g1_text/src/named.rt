@@ -1,5 +1,5 @@
 //! Lines of objects by name, without regions and addresses.
-ghost use Rattle.std.specs.Prelude.{◌≡◌, ◌<◌, ◌↔◌, ◌-◌, ◌^◌, [], ◌∷◌, true, false, IsUtf8, map, codes, All, IsTrue, IfErr, IfOk, OnOk};
+ghost use Rattle.std.specs.Prelude.{◌≡◌, ◌<◌, ◌↔◌, ◌-◌, ◌^◌, [], ◌∷◌, true, false, IsUtf8, map, codes, All, IsTrue, IfErr, IfOk, OnOk, MatchOption};
 ghost use Rattle.g1_image.specs.Image.{IsImageText};
 ghost use Rattle.g1_text.specs.Reading.{words_in, says_something, parts_of, lines_in, AreGraphLines};
 ghost use Rattle.g1_text.specs.Forms.{GraphHeading, GraphLine, NamedRootLine, NamedObjectLine, HasMeaning, HasSize, IsTarget, IsName, IsBelow, Sizes, Maybe, Many, Holding, HasFront};
@@ -27,6 +27,8 @@ pub struct Graph<'a> {
     pub text: Vec<u8>,
     /// The address and the name of each object, rising.
     pub names: Vec<(u64, &'a str)>,
+    /// The number of each root whose line says what holds it, rising, and what that is called.
+    pub root_names: Vec<(u64, &'a str)>,
     /// The number of each root with a name that no object has, rising, and the name.
     pub stale_roots: Vec<(u64, &'a str)>,
     /// The address of each slot with a name that no object has, rising, and the name.
@@ -64,7 +66,10 @@ pub fn read_graph<'a>(alloc: Global, text: &'a [u8]) -> Result<Graph<'a>, Wrong>
     ensures known { OnOk result (HasMeaning GraphHeading GraphLine text.now) }
 {
     let mut lines = read_lines(alloc, text)?;
-    place_and_fill(alloc, &mut lines)
+    let mut graph = place_and_fill(alloc, &mut lines)?;
+    let Lines { holders, .. } = lines;
+    graph.root_names = holders;
+    Ok(graph)
 }
 
 fn place_and_fill<'a>(alloc: Global, lines: &mut Lines<'a>) -> Result<Graph<'a>, Wrong>
@@ -84,6 +89,7 @@ fn fill<'a>(alloc: Global, draft: &mut Draft, lines: &Lines<'a>) -> Result<Graph
     let mut graph = Graph {
         text: Vec::new(alloc),
         names: Vec::new(alloc),
+        root_names: Vec::new(alloc),
         stale_roots: Vec::new(alloc),
         stale_slots: Vec::new(alloc),
         first_stale: None,
@@ -128,6 +134,8 @@ struct Lines<'a> {
     heading: u64,
     sizes: Option<HeapSizes>,
     roots: Vec<(u64, &'a str)>,
+    // The numbers of the roots whose lines say what holds them, and what that is called.
+    holders: Vec<(u64, &'a str)>,
     entries: Vec<Entry<'a>>,
     // The place of each name's entry.
     places: HashMap<&'a str, u64>,
@@ -143,6 +151,7 @@ fn read_lines<'a>(alloc: Global, text: &'a [u8]) -> Result<Lines<'a>, Wrong>
         heading: 0,
         sizes: None,
         roots: Vec::new(alloc),
+        holders: Vec::new(alloc),
         entries: Vec::new(alloc),
         places: HashMap::new(alloc),
         order: Vec::new(alloc),
@@ -208,7 +217,7 @@ impl<'a> Lines<'a> {
         Ok(())
     }
 
-    // root NAME
+    // root NAME [as HOLDER]
     fn add_root(&mut self, number: u64, words: &[&'a str]) -> Result<(), Refusal>
         ensures form { OnOk result (NamedRootLine (codes "root" ∷ map (λ t. t.now) words.now)) }
         ensures heading { OnOk result (self.new.heading ≡ self.old.heading) }
@@ -217,7 +226,10 @@ impl<'a> Lines<'a> {
         if self.roots.len() as u64 >= most {
             return Err(Refusal::Expected(Expected::Roots(most)));
         }
-        let name = root_name(words)?;
+        let (name, holder) = root_words(words)?;
+        if let Some(holder) = holder {
+            self.holders.push((self.roots.len() as u64, holder))?;
+        }
         self.roots.push((number, name))?;
         Ok(())
     }
@@ -281,12 +293,24 @@ fn all_sizes(told: &[&str]) -> Result<Option<HeapSizes>, Expected>
     }
 }
 
-// NAME
-fn root_name<'a>(words: &[&'a str]) -> Result<&'a str, Expected>
-    ensures { IfOk result (λ name. (map (λ t. t.now) words.now ≡ name.now ∷ []) × IsTarget name.now) }
+// NAME [as HOLDER]
+fn root_words<'a>(words: &[&'a str]) -> Result<(&'a str, Option<&'a str>), Expected>
+    ensures { IfOk result (λ r. IsTarget r.0.now × MatchOption r.1 (map (λ t. t.now) words.now ≡ r.0.now ∷ []) (λ h. (map (λ t. t.now) words.now ≡ r.0.now ∷ codes "as" ∷ h.now ∷ []) × IsName h.now)) }
 {
     match words.split_first() {
-        Some((name, [])) if *name != ".." => Ok(*name),
+        Some((name, rest)) if *name != ".." => Ok((*name, holder(rest)?)),
+        _ => Err(Expected::NamedRoot),
+    }
+}
+
+// [as HOLDER]
+fn holder<'a>(words: &[&'a str]) -> Result<Option<&'a str>, Expected>
+    ensures { IfOk result (λ r. MatchOption r (map (λ t. t.now) words.now ≡ []) (λ h. (map (λ t. t.now) words.now ≡ codes "as" ∷ h.now ∷ []) × IsName h.now)) }
+{
+    match words {
+        [] => Ok(None),
+        [first, holder] if *first == "as" && *holder != "-" && *holder != ".." => Ok(Some(*holder)),
+        [first, ..] if *first == "as" => Err(Expected::Holder),
         _ => Err(Expected::NamedRoot),
     }
 }

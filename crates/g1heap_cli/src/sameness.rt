@@ -72,7 +72,7 @@ fn read_and_open<'a, T: Files, R: Read>(
                 Err(wrong) => Err(refuse_lines(alloc, name, lines.as_slice(), wrong)),
             }
         }
-        SideContent::Image(image) => Ok(open_image(image)),
+        SideContent::Image(image) => Ok(open_image(alloc, image)),
         SideContent::Stale {
             image,
             stale,
@@ -94,7 +94,7 @@ fn compare_asked<T: Files, R: Read, W: Write>(
         return report_on(job, None, before, after, answer);
     };
     let text = read_bytes(job.rt, job.alloc, file.as_str(), reader)?;
-    match Names::read(job.alloc, text.as_slice()) {
+    match Names::read(job.alloc, text.as_slice(), before.labels()) {
         Ok(names) => report_on(job, Some(&names), before, after, answer),
         Err(wrong) => Err(refuse_names(job.alloc, file.as_str(), wrong)),
     }
@@ -107,9 +107,6 @@ fn check_asked(
     before: &Side<'_>,
     after: &Side<'_>,
 ) -> Result<(), Refusal> {
-    if before.labels.is_some() && same.names.is_some() {
-        return Err(not_for_lines(alloc, same.before.as_str(), "--names"));
-    }
     if before.labels.is_some() && !same.set.is_empty() {
         return Err(not_for_lines(alloc, same.before.as_str(), "--set"));
     }
