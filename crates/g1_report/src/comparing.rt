@@ -3,8 +3,8 @@ ghost use Rattle.std.specs.Prelude.{◌∷◌};
 ghost use Rattle.g1_same.specs.Same.{IsDifference};
 ghost use Rattle.g1_same.specs.Behind.{ShowsAt};
 
-use crate::names::Names;
-use crate::naming::{push_named_data, push_named_object, push_named_slots};
+use crate::names::{Kind, Names};
+use crate::naming::{push_kind, push_named_data, push_named_object, push_named_slots};
 use crate::objects::object_of;
 use crate::places::value_at;
 use g1_same::{Difference, Ends, Found, How, Path, Renaming, What, ends_at, ends_of};
@@ -18,6 +18,8 @@ pub struct Sides<'a> {
     pub after: &'a Heap,
     /// What the program calls the words of the first one.
     pub names: Option<&'a Names<'a>>,
+    /// What it calls the objects of the second one.
+    pub names_after: Option<&'a Names<'a>>,
     /// The numbers of the first one's roots of which its lines say what holds them, rising, and what that is called.
     pub holders: &'a [(u64, &'a str)],
     /// The names of the objects of each, if they have names in place of addresses.
@@ -233,16 +235,22 @@ fn push_before(text: &mut String, sides: Sides<'_>, word: u64) -> Result<(), All
 
 fn push_after(text: &mut String, sides: Sides<'_>, word: u64) -> Result<(), AllocError> {
     push_word(text, ", ", sides.labels[1], word)?;
-    if let Some(name) = type_after(sides, word) {
-        write!(text, " ({name})")?;
+    if let Some(kind) = kind_after(sides, word) {
+        push_kind(text, kind)?;
     }
     text.push_str(" after")
 }
 
-// The type of the object after that a word references, by its first data word.
-fn type_after<'a>(sides: Sides<'a>, word: u64) -> Option<&'a str> {
-    let names = sides.names?;
-    names.label(*object_of(sides.after, word)?.data.first()?)
+// The kind of the object after that a word references, by its own names, or else by its first data word.
+fn kind_after<'a>(sides: Sides<'a>, word: u64) -> Option<Kind<'a>> {
+    let object = object_of(sides.after, word)?;
+    if let Some(names) = sides.names_after
+        && let Some(kind) = names.object(&object)
+    {
+        return Some(kind);
+    }
+    let name = sides.names?.label(*object.data.first()?)?;
+    Some(Kind { name, note: "" })
 }
 
 fn push_word(

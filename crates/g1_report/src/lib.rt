@@ -21,6 +21,7 @@ mod comparing;
 mod lines;
 mod listing;
 mod location;
+mod moving;
 mod names;
 mod naming;
 mod objects;

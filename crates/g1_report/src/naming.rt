@@ -1,5 +1,5 @@
 //! A difference in the names that a program has for it.
-use crate::names::{Names, Word};
+use crate::names::{Kind, Names, Word};
 use crate::objects::{ObjectWords, Place};
 use g1_words::Heap;
 use std::alloc::{AllocError, Global};
@@ -148,9 +148,14 @@ pub fn push_named_object(
     names: &Names<'_>,
     object: &ObjectWords<'_>,
 ) -> Result<(), AllocError> {
-    let Some(kind) = names.object(object) else {
-        return Ok(());
-    };
+    match names.object(object) {
+        Some(kind) => push_kind(text, kind),
+        None => Ok(()),
+    }
+}
+
+/// A type, and what else is said of its object, in parentheses.
+pub fn push_kind(text: &mut String, kind: Kind<'_>) -> Result<(), AllocError> {
     let (name, note) = (kind.name, kind.note);
     if note.is_empty() {
         write!(text, " ({name})")

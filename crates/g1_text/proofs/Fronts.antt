@@ -176,6 +176,16 @@ dash_is_target e = let l : 1 ≡ 2 = ap length e in absurd (omega (arith, l))
 pub other_word : (word other : List ℕ) → false ≡ bytes_eq word other → word ≢ other
 other_word word other e same = false≢true (e ∙ (bytes_eq-Decides word other).1 same)
 
+pub not_word : (word other : List ℕ) → true ≡ not (bytes_eq word other) → word ≢ other
+not_word word other e = other_word word other (by (bytes_eq word other) e)
+  where
+    by : (b : Bool) → true ≡ not b → false ≡ b
+    by true e = sym e
+    by false e = refl
+
+pub no_words : {A : Type 0} (xs : List A) → length xs < 1 → xs ≡ []
+no_words xs lt = no_more xs (omega (arith, lt))
+
 pub if_none : (a : Form) (words : List (List ℕ)) → length words ≡ 0 → Maybe a words
 if_none a [] e = tt
 if_none a (word ∷ words) e = absurd (omega (arith, e))

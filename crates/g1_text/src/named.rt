@@ -2,7 +2,7 @@
 ghost use Rattle.std.specs.Prelude.{◌≡◌, ◌<◌, ◌↔◌, ◌-◌, ◌^◌, [], ◌∷◌, true, false, IsUtf8, map, codes, All, IsTrue, IfErr, IfOk, OnOk, MatchOption};
 ghost use Rattle.g1_image.specs.Image.{IsImageText};
 ghost use Rattle.g1_text.specs.Reading.{words_in, says_something, parts_of, lines_in, AreGraphLines};
-ghost use Rattle.g1_text.specs.Forms.{GraphHeading, GraphLine, NamedRootLine, NamedObjectLine, HasMeaning, HasSize, IsTarget, IsName, IsBelow, Sizes, Maybe, Many, Holding, HasFront};
+ghost use Rattle.g1_text.specs.Forms.{GraphHeading, GraphLine, NamedRootLine, NamedObjectLine, HasMeaning, HasSize, IsTarget, IsName, IsBelow, Sizes, Maybe, Single, Word, ◌▸◌, Many, Holding, HasFront};
 ghost use Rattle.g1_text.specs.Drafts.{is_begun, IsTaken, AreTaken};
 ghost use Rattle.g1_text.specs.Refused.{IsLineOrMemory};
 
@@ -295,7 +295,8 @@ fn all_sizes(told: &[&str]) -> Result<Option<HeapSizes>, Expected>
 
 // NAME [as HOLDER]
 fn root_words<'a>(words: &[&'a str]) -> Result<(&'a str, Option<&'a str>), Expected>
-    ensures { IfOk result (λ r. IsTarget r.0.now × MatchOption r.1 (map (λ t. t.now) words.now ≡ r.0.now ∷ []) (λ h. (map (λ t. t.now) words.now ≡ r.0.now ∷ codes "as" ∷ h.now ∷ []) × IsName h.now)) }
+    ensures words { IfOk result (λ r. MatchOption r.1 (map (λ t. t.now) words.now ≡ r.0.now ∷ []) (λ h. map (λ t. t.now) words.now ≡ r.0.now ∷ codes "as" ∷ h.now ∷ [])) }
+    ensures form { OnOk result ((Single IsTarget ▸ Maybe (Word (codes "as") ▸ Single IsName)) (map (λ t. t.now) words.now)) }
 {
     match words.split_first() {
         Some((name, rest)) if *name != ".." => Ok((*name, holder(rest)?)),
@@ -305,13 +306,18 @@ fn root_words<'a>(words: &[&'a str]) -> Result<(&'a str, Option<&'a str>), Expec
 
 // [as HOLDER]
 fn holder<'a>(words: &[&'a str]) -> Result<Option<&'a str>, Expected>
-    ensures { IfOk result (λ r. MatchOption r (map (λ t. t.now) words.now ≡ []) (λ h. (map (λ t. t.now) words.now ≡ codes "as" ∷ h.now ∷ []) × IsName h.now)) }
+    ensures words { IfOk result (λ r. MatchOption r (map (λ t. t.now) words.now ≡ []) (λ h. map (λ t. t.now) words.now ≡ codes "as" ∷ h.now ∷ [])) }
+    ensures form { OnOk result (Maybe (Word (codes "as") ▸ Single IsName) (map (λ t. t.now) words.now)) }
 {
-    match words {
-        [] => Ok(None),
-        [first, holder] if *first == "as" && *holder != "-" && *holder != ".." => Ok(Some(*holder)),
-        [first, ..] if *first == "as" => Err(Expected::Holder),
-        _ => Err(Expected::NamedRoot),
+    let Some((first, rest)) = words.split_first() else {
+        return Ok(None);
+    };
+    if *first != "as" {
+        return Err(Expected::NamedRoot);
+    }
+    match rest.split_first() {
+        Some((holder, [])) if *holder != "-" && *holder != ".." => Ok(Some(*holder)),
+        _ => Err(Expected::Holder),
     }
 }
 

@@ -1,7 +1,9 @@
 //! Whether two files have one heap, and what else is asked of them.
 use crate::files::{SideContent, read_bytes, read_side};
 use crate::line_writer::LineWriter;
-use crate::refusal::{not_for_lines, of_heap, of_stale, refuse_lines, refuse_names};
+use crate::refusal::{
+    not_for_both, not_for_lines, of_heap, of_stale, refuse_lines, refuse_names,
+};
 use crate::young::with_young;
 use g1_command::Refusal;
 use g1_image::Image;
@@ -90,12 +92,26 @@ fn compare_asked<T: Files, R: Read, W: Write>(
     answer: &mut LineWriter<'_, W>,
 ) -> Result<u8, Refusal> {
     check_asked(job.alloc, job.same, before, after)?;
-    let Some(file) = &job.same.names else {
-        return report_on(job, None, before, after, answer);
+    let (mut text, mut other) = (Vec::new(job.alloc), Vec::new(job.alloc));
+    let names = read_names(job, &job.same.names, before, reader, &mut text)?;
+    let names_after = read_names(job, &job.same.names_after, after, reader, &mut other)?;
+    report_on(job, (&names, &names_after), before, after, answer)
+}
+
+// Reads a file of names, if one is given. Its text is kept where the names borrow it.
+fn read_names<'a, T: Files, R: Read>(
+    job: &Job<'_, T>,
+    file: &Option<String>,
+    side: &'a Side<'_>,
+    reader: &mut R,
+    text: &'a mut Vec<u8>,
+) -> Result<Option<Names<'a>>, Refusal> {
+    let Some(file) = file else {
+        return Ok(None);
     };
-    let text = read_bytes(job.rt, job.alloc, file.as_str(), reader)?;
-    match Names::read(job.alloc, text.as_slice(), before.labels()) {
-        Ok(names) => report_on(job, Some(&names), before, after, answer),
+    *text = read_bytes(job.rt, job.alloc, file.as_str(), reader)?;
+    match Names::read(job.alloc, text.as_slice(), side.labels()) {
+        Ok(names) => Ok(Some(names)),
         Err(wrong) => Err(refuse_names(job.alloc, file.as_str(), wrong)),
     }
 }
@@ -114,12 +130,16 @@ fn check_asked(
         let option = if same.covered { "--covered" } else { "--set" };
         return Err(not_for_lines(alloc, same.after.as_str(), option));
     }
+    let named = same.names_after.is_some();
+    if same.moved && !named && before.labels.is_some() != after.labels.is_some() {
+        return Err(not_for_both(alloc, same.after.as_str()));
+    }
     Ok(())
 }
 
 fn report_on<T, W: Write>(
     job: &Job<'_, T>,
-    names: Option<&Names<'_>>,
+    names: (&Option<Names<'_>>, &Option<Names<'_>>),
     before: &Side<'_>,
     after: &Side<'_>,
     answer: &mut LineWriter<'_, W>,
@@ -128,7 +148,9 @@ fn report_on<T, W: Write>(
     let asked = Asked {
         before,
         after,
-        names,
+        names: names.0.as_ref(),
+        names_after: names.1.as_ref(),
+        moved: same.moved,
         set: same.set.as_slice(),
         fill: same.fill,
         all: same.all,

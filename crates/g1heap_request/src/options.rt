@@ -93,6 +93,10 @@ pub struct Same {
     pub fill: bool,
     /// The file of the names that the program has for what is in the first one.
     pub names: Option<String>,
+    /// The file of the names that the program has for the objects of the second one.
+    pub names_after: Option<String>,
+    /// Whether the objects that moved are counted.
+    pub moved: bool,
     /// How many differences are listed and then all counted, if that is asked.
     pub all: Option<u64>,
 }
@@ -136,6 +140,10 @@ static LIVE: Argument = table::LIVE;
 static MAP: Argument = table::MAP;
 
 static NAMES: Argument = table::NAMES;
+
+static NAMES_AFTER: Argument = table::NAMES_AFTER;
+
+static MOVED: Argument = table::MOVED;
 
 static NUMBERED: Argument = table::NUMBERED;
 
@@ -196,9 +204,10 @@ pub(crate) fn output_of(alloc: Global, values: &ArgMatches<'_>) -> Result<Output
 // Refuses to read standard input for two of the files.
 fn check_streams(alloc: Global, values: &ArgMatches<'_>) -> Result<(), Misuse> {
     let (before, after) = (is_standard(values, &BEFORE), is_standard(values, &AFTER));
+    let (names, others) = (is_standard(values, &NAMES), is_standard(values, &NAMES_AFTER));
     let message = if before && after {
         "only one of the images can be standard input"
-    } else if is_standard(values, &NAMES) && (before || after) {
+    } else if names && others || (names || others) && (before || after) {
         "only one of the files can be standard input"
     } else {
         return Ok(());
@@ -241,6 +250,15 @@ fn fill_of(alloc: Global, values: &ArgMatches<'_>) -> Result<bool, Misuse> {
     Ok(fill)
 }
 
+// The names after are said beside those before.
+fn names_after_of(alloc: Global, values: &ArgMatches<'_>) -> Result<Option<String>, Misuse> {
+    let names = name_if_given(alloc, values, &NAMES_AFTER)?;
+    if names.is_some() && values.get_str(NAMES.id).is_none() {
+        return Err(NAMES_AFTER.needs(alloc, &NAMES)?);
+    }
+    Ok(names)
+}
+
 fn same_of(alloc: Global, values: &ArgMatches<'_>) -> Result<Request, Misuse> {
     check_streams(alloc, values)?;
     Ok(Request::Same(Same {
@@ -251,6 +269,8 @@ fn same_of(alloc: Global, values: &ArgMatches<'_>) -> Result<Request, Misuse> {
         set: set_of(alloc, values)?,
         fill: fill_of(alloc, values)?,
         names: name_if_given(alloc, values, &NAMES)?,
+        names_after: names_after_of(alloc, values)?,
+        moved: values.get_flag(MOVED.id),
         all: all_of(alloc, values)?,
     }))
 }

@@ -237,7 +237,18 @@ static SAME: Usage = Usage {
     name: "same",
     about: "Reports whether two images show the same graph from their roots, or where they differ",
     after_help: AFTER_SAME,
-    arguments: &[BEFORE, AFTER, COVERED, KEPT_SET, FILL, YOUNG, NAMES, ALL],
+    arguments: &[
+        BEFORE,
+        AFTER,
+        COVERED,
+        KEPT_SET,
+        FILL,
+        YOUNG,
+        NAMES,
+        NAMES_AFTER,
+        MOVED,
+        ALL,
+    ],
 };
 
 static PRINT: Usage = Usage {
@@ -346,6 +357,19 @@ pub const NAMES: Argument = Argument {
     values: &["MAP"],
     help: "Reports a difference in the names of this file, which has lines of BEFORE's objects",
     ..VALUE
+};
+
+pub const NAMES_AFTER: Argument = Argument {
+    id: "names-after",
+    values: &["MAP"],
+    help: "With --names: AFTER's objects have the types and identifiers of this file",
+    ..VALUE
+};
+
+pub const MOVED: Argument = Argument {
+    id: "moved",
+    help: "Also says how many objects have another name, address or identifier",
+    ..FLAG
 };
 
 pub const ALL: Argument = Argument {
