@@ -10,6 +10,7 @@ use crate::places::value_at;
 use g1_same::{Difference, Ends, Found, How, Path, Renaming, What, ends_at, ends_of};
 use g1_words::{Heap, Region, object_at, region_of};
 use std::alloc::{AllocError, Global};
+use std::collections::HashMap;
 
 /// Two heaps that are compared, and what is known of them.
 #[derive(Clone, Copy)]
@@ -24,6 +25,9 @@ pub struct Sides<'a> {
     pub holders: &'a [(u64, &'a str)],
     /// The names of the objects of each, if they have names in place of addresses.
     pub labels: [Labels<'a>; 2],
+    /// The texts that data words of the first one stand for, and those of the second one.
+    pub texts_before: &'a HashMap<u64, &'a str>,
+    pub texts_after: &'a HashMap<u64, &'a str>,
     /// The stale words of the second that stand for names, rising, and these names.
     pub stale_names: Labels<'a>,
 }
@@ -342,28 +346,37 @@ fn push_data(
 ) -> Result<(), AllocError> {
     let (was, is) = (ends.word_before, ends.word_after);
     write!(text, "; data word {word}")?;
-    let Some(names) = sides.names else {
-        return write!(text, " is {was} before, {is} after");
-    };
-    if let Some(object) = object_of(sides.before, ends.before) {
+    if let (Some(names), Some(object)) = (sides.names, object_of(sides.before, ends.before)) {
         push_named_data(text, names, &object, word)?;
     }
-    push_value(text, names, " is ", was)?;
-    push_value(text, names, " before, ", is)?;
+    push_value(text, sides.names, sides.texts_before, " is ", was)?;
+    push_value(text, sides.names, sides.texts_after, " before, ", is)?;
     text.push_str(" after")
 }
 
-// A data word: what it stands for and its number, or its number in both forms.
+// A data word: what it stands for and its number, or its number alone, in both forms if there are names.
 fn push_value(
     text: &mut String,
-    names: &Names<'_>,
+    names: Option<&Names<'_>>,
+    texts: &HashMap<u64, &str>,
     lead: &str,
     word: u64,
 ) -> Result<(), AllocError> {
     text.push_str(lead)?;
-    let Some(said) = names.text(word) else {
-        return write!(text, "{word} ({word:#x})");
+    let named = match names {
+        Some(names) => names.text(word),
+        None => None,
     };
+    match (named, texts.get(&word)) {
+        (Some(said), _) => push_text(text, said, word),
+        (None, Some(said)) => write!(text, "{said} ({word})"),
+        (None, None) if names.is_some() => write!(text, "{word} ({word:#x})"),
+        (None, None) => write!(text, "{word}"),
+    }
+}
+
+// The words of a text, and the number that stands for it.
+fn push_text(text: &mut String, said: &[&str], word: u64) -> Result<(), AllocError> {
     let mut apart = "\"";
     for part in said {
         write!(text, "{apart}{part}")?;

@@ -34,4 +34,4 @@ pub use lines::Lines;
 pub use location::{Location, locate};
 pub use names::{Names, WrongNames};
 pub use reporting::{Asked, Refused, report};
-pub use sides::{Side, Strays, open_image, open_lines, open_stale};
+pub use sides::{Side, Strays, open_image, open_lines, open_stale, shared_text};

@@ -4,6 +4,7 @@ ghost use Rattle.std.specs.Prelude.{◌≤◌, length};
 use crate::comparing::Labels;
 use crate::objects::ObjectWords;
 use crate::places::value_at;
+use g1_text::data_word;
 use std::alloc::{AllocError, AllocFailed, Global};
 use std::str;
 
@@ -12,10 +13,11 @@ use std::str;
 ///     root NUMBER NAME
 ///     type TYPE slots NAME .. data NAME ..
 ///     label WORD TYPE
-///     text WORD TEXT
+///     text WORD TEXT ..
 ///     object ADDRESS TYPE [NOTE]
 ///
-/// An object of lines by name has its name in place of an address, and TEXT is all words up to the end of its line.
+/// An object of lines by name has its name in place of an address. A WORD is a data word as lines have it, and TEXT is
+/// all words up to the end of its line.
 /// A last name that ends with `[]` is that of its word and of all behind it. Of several lines of one number, or of one
 /// type, the first counts.
 #[derive(Drop)]
@@ -49,11 +51,6 @@ pub struct Word<'a> {
     pub name: &'a str,
     pub number: Option<u64>,
 }
-
-// The forms of the lines that have a number.
-const ROOT: &str = "'root NUMBER NAME'";
-
-const LABEL: &str = "'label WORD TYPE'";
 
 /// Why a text has no names.
 #[derive(Debug, Clone, Copy, PartialEq, Eq)]
@@ -152,20 +149,35 @@ impl<'a> Names<'a> {
         rest: &[&'a str],
     ) -> Result<Option<&'static str>, AllocError> {
         match first {
-            "root" => add_numbered(&mut self.roots, rest, ROOT, "a whole number behind 'root'"),
-            "label" => {
-                add_numbered(
-                    &mut self.labels,
-                    rest,
-                    LABEL,
-                    "a whole number behind 'label'",
-                )
-            }
+            "root" => self.add_root(rest),
+            "label" => self.add_label(rest),
             "type" => self.add_type(alloc, rest),
             "text" => self.add_text(alloc, rest),
             "object" => self.add_object(rest),
             _ => Ok(Some("'root', 'type', 'label', 'text' or 'object'")),
         }
+    }
+
+    fn add_root(&mut self, words: &[&'a str]) -> Result<Option<&'static str>, AllocError> {
+        let [number, name] = words else {
+            return Ok(Some("'root NUMBER NAME'"));
+        };
+        let Some(number) = whole(number) else {
+            return Ok(Some("a whole number behind 'root'"));
+        };
+        self.roots.push((number, *name))?;
+        Ok(None)
+    }
+
+    fn add_label(&mut self, words: &[&'a str]) -> Result<Option<&'static str>, AllocError> {
+        let [word, name] = words else {
+            return Ok(Some("'label WORD TYPE'"));
+        };
+        let Some(word) = data_word(word) else {
+            return Ok(Some("a data word behind 'label'"));
+        };
+        self.labels.push((word, *name))?;
+        Ok(None)
     }
 
     fn add_text(
@@ -175,8 +187,8 @@ impl<'a> Names<'a> {
     ) -> Result<Option<&'static str>, AllocError> {
         match words {
             [word, text @ ..] if !text.is_empty() => {
-                let Some(number) = whole(word) else {
-                    return Ok(Some("a whole number behind 'text'"));
+                let Some(number) = data_word(word) else {
+                    return Ok(Some("a data word behind 'text'"));
                 };
                 self.texts.push((number, Vec::from_slice(alloc, text)?))?;
                 Ok(None)
@@ -300,25 +312,6 @@ impl<'a> Names<'a> {
             Some((name, words)) if *name == kind.name => Some(words.as_slice()),
             _ => None,
         }
-    }
-}
-
-// Adds a number and its name, or returns what is expected: a line of this form, or its number.
-fn add_numbered<'a>(
-    list: &mut Vec<(u64, &'a str)>,
-    words: &[&'a str],
-    form: &'static str,
-    expected: &'static str,
-) -> Result<Option<&'static str>, AllocError> {
-    let [number, name] = words else {
-        return Ok(Some(form));
-    };
-    match whole(number) {
-        Some(number) => {
-            list.push((number, *name))?;
-            Ok(None)
-        }
-        None => Ok(Some(expected)),
     }
 }
 

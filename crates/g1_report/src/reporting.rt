@@ -87,6 +87,8 @@ fn sides_of<'a>(asked: &Asked<'a>) -> Sides<'a> {
         names_after: asked.names_after,
         holders: asked.before.holders.as_slice(),
         labels: [asked.before.labels(), asked.after.labels()],
+        texts_before: &asked.before.texts,
+        texts_after: &asked.after.texts,
         stale_names: stale_names_of(asked.after),
     }
 }

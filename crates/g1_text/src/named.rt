@@ -2,7 +2,7 @@
 ghost use Rattle.std.specs.Prelude.{◌≡◌, ◌<◌, ◌↔◌, ◌-◌, ◌^◌, [], ◌∷◌, true, false, IsUtf8, map, codes, All, IsTrue, IfErr, IfOk, OnOk, MatchOption};
 ghost use Rattle.g1_image.specs.Image.{IsImageText};
 ghost use Rattle.g1_text.specs.Reading.{words_in, says_something, parts_of, lines_in, AreGraphLines};
-ghost use Rattle.g1_text.specs.Forms.{GraphHeading, GraphLine, NamedRootLine, NamedObjectLine, HasMeaning, HasSize, IsTarget, IsName, IsBelow, Sizes, Maybe, Single, Word, ◌▸◌, Many, Holding, HasFront};
+ghost use Rattle.g1_text.specs.Forms.{GraphHeading, GraphLine, NamedRootLine, NamedObjectLine, HasMeaning, HasSize, IsTarget, IsName, IsDataWord, Sizes, Maybe, Single, Word, ◌▸◌, Many, Holding, HasFront};
 ghost use Rattle.g1_text.specs.Drafts.{is_begun, IsTaken, AreTaken};
 ghost use Rattle.g1_text.specs.Refused.{IsLineOrMemory};
 
@@ -14,6 +14,7 @@ use crate::placing::{Entry, choose_sizes, place, regions_needed};
 use crate::reading::{
     HeapSizes, add_data, add_zeros, first_line, given_words, sizes, within_limits,
 };
+use crate::values::data_word;
 use crate::words::{Words, cut_words, size_and_slots};
 use g1_words::{Fault, Geometry, MOST_ROOTS, header_word};
 use std::alloc::{AllocError, Global};
@@ -29,6 +30,8 @@ pub struct Graph<'a> {
     pub names: Vec<(u64, &'a str)>,
     /// The number of each root whose line says what holds it, rising, and what that is called.
     pub root_names: Vec<(u64, &'a str)>,
+    /// The texts among the data words, with their quotes, by the words that stand for them.
+    pub texts: HashMap<u64, &'a str>,
     /// The number of each root with a name that no object has, rising, and the name.
     pub stale_roots: Vec<(u64, &'a str)>,
     /// The address of each slot with a name that no object has, rising, and the name.
@@ -67,8 +70,9 @@ pub fn read_graph<'a>(alloc: Global, text: &'a [u8]) -> Result<Graph<'a>, Wrong>
 {
     let mut lines = read_lines(alloc, text)?;
     let mut graph = place_and_fill(alloc, &mut lines)?;
-    let Lines { holders, .. } = lines;
+    let Lines { holders, texts, .. } = lines;
     graph.root_names = holders;
+    graph.texts = texts;
     Ok(graph)
 }
 
@@ -90,6 +94,7 @@ fn fill<'a>(alloc: Global, draft: &mut Draft, lines: &Lines<'a>) -> Result<Graph
         text: Vec::new(alloc),
         names: Vec::new(alloc),
         root_names: Vec::new(alloc),
+        texts: HashMap::new(alloc),
         stale_roots: Vec::new(alloc),
         stale_slots: Vec::new(alloc),
         first_stale: None,
@@ -139,6 +144,8 @@ struct Lines<'a> {
     entries: Vec<Entry<'a>>,
     // The place of each name's entry.
     places: HashMap<&'a str, u64>,
+    // The texts among the data words, by the words that stand for them.
+    texts: HashMap<u64, &'a str>,
     // The places of the entries in the order of their addresses.
     order: Vec<u64>,
 }
@@ -154,6 +161,7 @@ fn read_lines<'a>(alloc: Global, text: &'a [u8]) -> Result<Lines<'a>, Wrong>
         holders: Vec::new(alloc),
         entries: Vec::new(alloc),
         places: HashMap::new(alloc),
+        texts: HashMap::new(alloc),
         order: Vec::new(alloc),
     };
     let mut words = Vec::new(alloc);
@@ -252,6 +260,7 @@ impl<'a> Lines<'a> {
             return Err(Refusal::Expected(Expected::NewName));
         }
         check_content(content, size, slots)?;
+        keep_texts(&mut self.texts, content, slots)?;
         self.entries.push(Entry {
             name: *name,
             size,
@@ -376,10 +385,34 @@ fn check_names(words: &mut Words<'_>, count: u64) -> Result<(), Expected>
 }
 
 fn check_data(words: &mut Words<'_>, count: u64) -> Result<(), Expected>
-    ensures { OnOk result (HasFront (Many (IsBelow (2 ^ 64)) count) words.old words.new) }
+    ensures { OnOk result (HasFront (Many IsDataWord count) words.old words.new) }
 {
     for _ in 0..count {
-        words.number("data word")?;
+        words.value()?;
+    }
+    Ok(())
+}
+
+// Keeps the texts among the words behind the slots. Two texts of one hash can't be told apart.
+fn keep_texts<'a>(
+    texts: &mut HashMap<u64, &'a str>,
+    content: &[&'a str],
+    slots: u32,
+) -> Result<(), Refusal> {
+    for word in content.iter().skip(slots as usize) {
+        if !word.starts_with('"') {
+            continue;
+        }
+        let Some(hash) = data_word(word) else {
+            continue;
+        };
+        match texts.get(&hash) {
+            Some(other) if *other != *word => return Err(Refusal::Expected(Expected::OtherText)),
+            Some(_) => (),
+            None => {
+                texts.insert(hash, *word)?;
+            }
+        }
     }
     Ok(())
 }

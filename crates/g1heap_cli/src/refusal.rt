@@ -164,6 +164,16 @@ pub fn not_for_both(alloc: Global, name: &str) -> Refusal {
     )
 }
 
+/// A file with a text that can't be told from one of the file before.
+pub fn one_hash(alloc: Global, name: &str, text: &str, other: &str) -> Refusal {
+    refusal(
+        3,
+        format!(in alloc;
+            "g1heap: {name}: {text} has the hash of {other}, which is in the other file: write it in another way\n"
+        ),
+    )
+}
+
 /// A region that the image, which has this many, doesn't have.
 pub fn no_region(alloc: Global, name: &str, region: u32, regions: u64) -> Refusal {
     refusal(

@@ -1,14 +1,14 @@
 //! Whether two files have one heap, and what else is asked of them.
 use crate::files::{SideContent, read_bytes, read_side};
 use crate::line_writer::LineWriter;
-use crate::refusal::{
-    not_for_both, not_for_lines, of_heap, of_stale, refuse_lines, refuse_names,
-};
+use crate::refusal::{not_for_both, not_for_lines, of_heap, of_stale, one_hash, refuse_lines};
 use crate::young::with_young;
 use g1_command::Refusal;
 use g1_image::Image;
 use g1_rem::verify;
-use g1_report::{Asked, Lines, Names, Refused, Side, open_image, open_lines, open_stale, report};
+use g1_report::{
+    Asked, Lines, Names, Refused, Side, open_image, open_lines, open_stale, report, shared_text,
+};
 use g1_text::Wrong;
 use g1heap_request::Same;
 use std::alloc::Global;
@@ -134,7 +134,10 @@ fn check_asked(
     if same.moved && !named && before.labels.is_some() != after.labels.is_some() {
         return Err(not_for_both(alloc, same.after.as_str()));
     }
-    Ok(())
+    match shared_text(before, after) {
+        Some((text, other)) => Err(one_hash(alloc, same.after.as_str(), other, text)),
+        None => Ok(()),
+    }
 }
 
 fn report_on<T, W: Write>(
