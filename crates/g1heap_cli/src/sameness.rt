@@ -1,6 +1,7 @@
 //! Whether two files have one heap, and what else is asked of them.
-use crate::files::{SideContent, read_bytes, read_side};
+use crate::files::{SideContent, read_side};
 use crate::line_writer::LineWriter;
+use crate::mapping::read_names;
 use crate::refusal::{not_for_both, not_for_lines, of_heap, of_stale, one_hash, refuse_lines};
 use crate::young::with_young;
 use g1_command::Refusal;
@@ -93,27 +94,17 @@ fn compare_asked<T: Files, R: Read, W: Write>(
 ) -> Result<u8, Refusal> {
     check_asked(job.alloc, job.same, before, after)?;
     let (mut text, mut other) = (Vec::new(job.alloc), Vec::new(job.alloc));
-    let names = read_names(job, &job.same.names, before, reader, &mut text)?;
-    let names_after = read_names(job, &job.same.names_after, after, reader, &mut other)?;
+    let (rt, alloc, same) = (job.rt, job.alloc, job.same);
+    let names = read_names(rt, alloc, &same.names, before.labels(), reader, &mut text)?;
+    let names_after = read_names(
+        rt,
+        alloc,
+        &same.names_after,
+        after.labels(),
+        reader,
+        &mut other,
+    )?;
     report_on(job, (&names, &names_after), before, after, answer)
-}
-
-// Reads a file of names, if one is given. Its text is kept where the names borrow it.
-fn read_names<'a, T: Files, R: Read>(
-    job: &Job<'_, T>,
-    file: &Option<String>,
-    side: &'a Side<'_>,
-    reader: &mut R,
-    text: &'a mut Vec<u8>,
-) -> Result<Option<Names<'a>>, Refusal> {
-    let Some(file) = file else {
-        return Ok(None);
-    };
-    *text = read_bytes(job.rt, job.alloc, file.as_str(), reader)?;
-    match Names::read(job.alloc, text.as_slice(), side.labels()) {
-        Ok(names) => Ok(Some(names)),
-        Err(wrong) => Err(refuse_names(job.alloc, file.as_str(), wrong)),
-    }
 }
 
 // Lines of objects by name have no regions of the program's own, and no addresses.

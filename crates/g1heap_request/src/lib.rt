@@ -14,6 +14,6 @@ mod output;
 mod usage;
 
 pub use asking::{Ask, Rewrite};
-pub use options::{Explain, ImageAfter, Part, Request, Same, Trace, parse};
+pub use options::{Explain, ImageAfter, Part, Request, Same, Trace, Why, parse};
 pub use output::{Output, STANDARD_STREAM};
 pub use usage::NAME;

@@ -32,16 +32,22 @@ pub enum Request {
     /// The lines of a pause.
     Explain(Explain),
     /// What keeps the object at an address.
-    Why {
-        image: String,
-        address: u64,
-    },
+    Why(Why),
     /// The replies to a trace.
     Trace(Trace),
     /// The lines that answer a question of an image.
     Ask(Ask),
     /// An image that is made of another one.
     Rewrite(Rewrite),
+}
+
+/// An object that is asked about, by its address.
+#[derive(Drop)]
+pub struct Why {
+    pub image: String,
+    pub address: u64,
+    /// The file of the names that the program has for what is in the image.
+    pub names: Option<String>,
 }
 
 /// A trace to answer.
@@ -74,6 +80,8 @@ pub struct Explain {
     pub set: Vec<u32>,
     /// Whether only the new addresses are wanted.
     pub map: bool,
+    /// The file of the names that the program has for what is in the image.
+    pub names: Option<String>,
     pub output: Output,
 }
 
@@ -204,7 +212,10 @@ pub(crate) fn output_of(alloc: Global, values: &ArgMatches<'_>) -> Result<Output
 // Refuses to read standard input for two of the files.
 fn check_streams(alloc: Global, values: &ArgMatches<'_>) -> Result<(), Misuse> {
     let (before, after) = (is_standard(values, &BEFORE), is_standard(values, &AFTER));
-    let (names, others) = (is_standard(values, &NAMES), is_standard(values, &NAMES_AFTER));
+    let (names, others) = (
+        is_standard(values, &NAMES),
+        is_standard(values, &NAMES_AFTER),
+    );
     let message = if before && after {
         "only one of the images can be standard input"
     } else if names && others || (names || others) && (before || after) {
@@ -250,6 +261,15 @@ fn fill_of(alloc: Global, values: &ArgMatches<'_>) -> Result<bool, Misuse> {
     Ok(fill)
 }
 
+// The names for an image, which are not on standard input if that is.
+fn names_beside(alloc: Global, values: &ArgMatches<'_>) -> Result<Option<String>, Misuse> {
+    if is_standard(values, &NAMES) && is_standard(values, &IMAGE) {
+        let message = "only one of the files can be standard input";
+        return Err(Misuse::Value(String::from_str(alloc, message)?));
+    }
+    Ok(name_if_given(alloc, values, &NAMES)?)
+}
+
 // The names after are said beside those before.
 fn names_after_of(alloc: Global, values: &ArgMatches<'_>) -> Result<Option<String>, Misuse> {
     let names = name_if_given(alloc, values, &NAMES_AFTER)?;
@@ -282,6 +302,7 @@ fn explain_of(alloc: Global, values: &ArgMatches<'_>) -> Result<Request, Misuse>
         budget: number(alloc, values, &BUDGET)?,
         set: set_of(alloc, values)?,
         map: values.get_flag(MAP.id),
+        names: names_beside(alloc, values)?,
         output: output_of(alloc, values)?,
     }))
 }
@@ -324,10 +345,11 @@ fn print_of(alloc: Global, values: &ArgMatches<'_>) -> Result<Request, Misuse> {
 }
 
 fn why_of(alloc: Global, values: &ArgMatches<'_>) -> Result<Request, Misuse> {
-    Ok(Request::Why {
+    Ok(Request::Why(Why {
         image: name_of(alloc, values, &IMAGE)?,
         address: required_number(alloc, values, &ADDRESS)?,
-    })
+        names: names_beside(alloc, values)?,
+    }))
 }
 
 fn make_of(alloc: Global, values: &ArgMatches<'_>) -> Result<Request, Misuse> {

@@ -278,6 +278,7 @@ static EXPLAIN: Usage = Usage {
         CARD,
         BYTE,
         MAP,
+        NAMES_BEHIND,
         OUTPUT,
     ],
 };
@@ -286,7 +287,7 @@ static WHY: Usage = Usage {
     name: "why",
     about: "Reports what keeps an object: the shortest path from a root, or a card",
     after_help: AFTER_WHY,
-    arguments: &[IMAGE, ADDRESS],
+    arguments: &[IMAGE, ADDRESS, NAMES_OF_PATH],
 };
 
 static TRACE: Usage = Usage {
@@ -357,6 +358,17 @@ pub const NAMES: Argument = Argument {
     values: &["MAP"],
     help: "Reports a difference in the names of this file, which has lines of BEFORE's objects",
     ..VALUE
+};
+
+const NAMES_OF_PATH: Argument = Argument {
+    help: "Puts the names of this file behind the lines: of the path, and of the objects' types",
+    ..NAMES
+};
+
+const NAMES_BEHIND: Argument = Argument {
+    help: "Puts the types of this file behind the lines of objects",
+    conflicts: &["map"],
+    ..NAMES
 };
 
 pub const NAMES_AFTER: Argument = Argument {
