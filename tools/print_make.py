@@ -7,8 +7,9 @@ ones (1000). Of each it is asked that
 - `print` gives the lines that this script writes of the image, by docs/HEAP_TEXT.md;
 - `print` and then `make` gives the image's bytes, of version 2;
 - lines in which all is left out that may be (addresses, tops, counts, numbers of roots, free regions that others
-  follow, continuations, the last words of objects, and remembered sets where they are what the references say) make
-  the same bytes, and `print` then gives the lines in their full form. In every second image a CR ends each line;
+  follow, continuations, the last words of objects, and remembered sets where they are what the references say), and
+  data words have other forms, make the same bytes, and `print` then gives the lines in their full form. In every second
+  image a CR ends each line;
 - with --g1pause, the heading and the lines of regions are what `g1pause show` prints;
 - each region and each object printed alone is its lines of the whole.
 
@@ -17,6 +18,7 @@ The last line is 'N passed, M failed'.
 import argparse
 import pathlib
 import random
+import struct
 import subprocess
 import sys
 import tempfile
@@ -59,13 +61,26 @@ def lines_of(image):
     return lines
 
 
+def written(word):
+    """A data word in one of the forms that it has: hexadecimal, with a minus, as a number with a point, or as it is."""
+    number = int(word)
+    if number % 4 == 1:
+        return hex(number)
+    if number % 4 == 2 and number >> 63:
+        return str(number - (1 << 64))
+    double = repr(struct.unpack("<d", number.to_bytes(8, "little"))[0])
+    return double if number % 4 == 3 and "." in double else word
+
+
 def cut(words):
-    """The words of an object's line without its address, and with two dots for the nulls and zeros at its end."""
+    """The words of an object's line without its address, with two dots for the nulls and zeros at its end, and with data
+    words in all their forms."""
     size, *content = words[2:]
     slots, left = int(size.split("/")[1]), len(content)
     while left and content[left - 1] == ("-" if left <= slots else "0"):
         left -= 1
-    return " ".join(["object", size, *content[:left], *([] if left == len(content) else [".."])])
+    values = [written(word) for word in content[slots:left]]
+    return " ".join(["object", size, *content[:min(slots, left)], *values, *([] if left == len(content) else [".."])])
 
 
 def shortened(lines, exact):

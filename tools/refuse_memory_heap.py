@@ -130,15 +130,19 @@ type Table slots first rest[] data count
 label 8 Name
 object 16 Table
 object 21 Name here
+text "keep" what is kept
 """
 GRAPH = b"graph\nroot a\nroot b\nobject a 2/0 8\nobject b 5/3 a a a 1\n"
+TEXTS = b'graph\nroot a as main.first\nobject a 4/0 "keep" -1 1.5\n'
 
 
 def differing(sweep, room, binary, path):
-    """Heaps that differ, words that reference no object, young regions, and lines of objects by name."""
+    """Heaps that differ, words that reference no object, young regions, lines of objects by name, and a program's names."""
     data, names, graph = path.read_bytes(), room / "names", room / "graph.txt"
     names.write_text(NAMES)
     graph.write_bytes(GRAPH)
+    texts = room / "texts.txt"
+    texts.write_bytes(TEXTS)
     torn, stale = data[:-1] + b"\1", data[:80] + b"\x63" + data[81:]  # the last data word, and the first root
     for words, source in (
         (["same", path, "-", "--names", names, "--all", "2"], torn),
@@ -147,6 +151,11 @@ def differing(sweep, room, binary, path):
         (["same", graph, "-"], data),
         (["same", graph, "-"], GRAPH.replace(b"a a a", b"a c a")),
         (["make"], GRAPH),
+        (["same", texts, "-", "--names", names, "--all", "2"], TEXTS.replace(b"keep", b"kept")),
+        (["same", texts, "-", "--moved"], TEXTS),
+        (["same", path, "-", "--moved", "--names", names, "--names-after", names], data),
+        (["why", path, "16", "--names", names], b""),
+        (["explain", path, "--set", "1", "--names", names], b""),
     ):
         words = [str(word) for word in words]
         sweep.sweep(f"{path.name}: {' '.join(words)}", [binary, *words], source)

@@ -5,9 +5,10 @@ A RUNTIME is one of those that `judge.py --list` prints; without one, each that 
 runtime beside this script is a program in its language. It builds a heap with a tree of N levels, writes it as lines of
 objects by name before and after each kind of collection, and then with errors planted into its memory.
 
-`g1heap same` compares each heap with the one before it. A collection passes if nothing differs. The objects that moved
-are those with another name, which is their address, or those that the runtime reports. An error passes if it is found
-at the object that has it. A runtime fails, too, if none of its collections moved an object: then nothing was judged.
+`g1heap same --moved` compares each heap with the one before it. A collection passes if nothing differs. The objects that
+moved are those with another name, which is their address, or those that the runtime reports. An error passes if it is
+found at the object that has it. A runtime fails, too, if none of its collections moved an object: then nothing was
+judged.
 A line for each; the last line is 'N passed, M failed'.
 Statuses: 0 all passed; 1 one failed; 2 usage, or a program is not there.
 """
@@ -23,6 +24,7 @@ import tempfile
 
 HERE = pathlib.Path(__file__).resolve().parent
 SAME = re.compile(r"same objects (\d+) words (\d+)")
+MOVED = re.compile(r"^moved (\d+) of \d+ by name$", re.MULTILINE)
 
 
 class Problem(Exception):
@@ -80,20 +82,12 @@ def steps(runtime, room, depth):
     return found
 
 
-def names(file):
-    with open(file) as lines:
-        return [line.split(" ", 2)[1] for line in lines if line.startswith("object ")]
-
-
-def moved_between(room, before, after):
-    """How many objects have another name. The objects of two heaps are written in one order."""
-    return sum(one != other for one, other in zip(names(room / f"{before}.txt"), names(room / f"{after}.txt")))
-
-
 def compared(room, before, after):
-    """What g1heap reports of two heaps."""
-    ran = subprocess.run(["g1heap", "same", f"{before}.txt", f"{after}.txt"], cwd=room, capture_output=True, text=True)
-    return (ran.stdout or ran.stderr).splitlines()[0]
+    """What g1heap reports of two heaps, and how many objects have another name."""
+    ran = subprocess.run(["g1heap", "same", "--moved", f"{before}.txt", f"{after}.txt"], cwd=room, capture_output=True, text=True)
+    said = ran.stdout or ran.stderr
+    moved = MOVED.search(said)
+    return said.splitlines()[0], int(moved[1]) if moved else 0
 
 
 def judged(room, found):
@@ -101,12 +95,12 @@ def judged(room, found):
     last, collections, moves = "before", 0, 0
     for kind, *words in found[1:]:
         name = words[0] if words else "again"
-        line = compared(room, last, name)
+        line, moved = compared(room, last, name)
         if kind == "planted":
             good = line.startswith(f"differ {words[1]} ") and f"object {words[2]} before" in line
             yield f"planted {name}: {line}", good
             continue
-        moved = int(words[1]) if len(words) > 1 else moved_between(room, last, name)
+        moved = int(words[1]) if len(words) > 1 else moved
         if kind == "collection":
             collections, moves = collections + 1, moves + moved
         yield f"{name}: {line}, {moved} moved", bool(SAME.fullmatch(line))

@@ -3,13 +3,14 @@ ghost use Rattle.std.specs.Prelude.{◌∷◌};
 ghost use Rattle.g1_same.specs.Same.{IsDifference};
 ghost use Rattle.g1_same.specs.Behind.{ShowsAt};
 
-use crate::names::Names;
-use crate::naming::{push_named_data, push_named_object, push_named_path};
+use crate::names::{Kind, Names};
+use crate::naming::{push_kind, push_named_data, push_named_object, push_named_slots};
 use crate::objects::object_of;
 use crate::places::value_at;
 use g1_same::{Difference, Ends, Found, How, Path, Renaming, What, ends_at, ends_of};
 use g1_words::{Heap, Region, object_at, region_of};
 use std::alloc::{AllocError, Global};
+use std::collections::HashMap;
 
 /// Two heaps that are compared, and what is known of them.
 #[derive(Clone, Copy)]
@@ -18,8 +19,15 @@ pub struct Sides<'a> {
     pub after: &'a Heap,
     /// What the program calls the words of the first one.
     pub names: Option<&'a Names<'a>>,
+    /// What it calls the objects of the second one.
+    pub names_after: Option<&'a Names<'a>>,
+    /// The numbers of the first one's roots of which its lines say what holds them, rising, and what that is called.
+    pub holders: &'a [(u64, &'a str)],
     /// The names of the objects of each, if they have names in place of addresses.
     pub labels: [Labels<'a>; 2],
+    /// The texts that data words of the first one stand for, and those of the second one.
+    pub texts_before: &'a HashMap<u64, &'a str>,
+    pub texts_after: &'a HashMap<u64, &'a str>,
     /// The stale words of the second that stand for names, rising, and these names.
     pub stale_names: Labels<'a>,
 }
@@ -199,14 +207,26 @@ fn push_path(
     path: Steps<'_>,
 ) -> Result<(), AllocError> {
     let (root, slots) = path;
+    push_root(text, sides, root)?;
     if let Some(names) = sides.names {
-        return push_named_path(alloc, text, sides.before, names, root, slots);
+        return push_named_slots(alloc, text, sides.before, names, root, slots);
     }
-    write!(text, "root {root}")?;
     for slot in slots {
         write!(text, " slot {slot}")?;
     }
     Ok(())
+}
+
+// The name of a root: that of the program's names, or else that of its line.
+fn push_root(text: &mut String, sides: Sides<'_>, root: u64) -> Result<(), AllocError> {
+    let named = match sides.names {
+        Some(names) => names.root(root),
+        None => None,
+    };
+    match named.or(value_at(sides.holders, root)) {
+        Some(name) => text.push_str(name),
+        None => write!(text, "root {root}"),
+    }
 }
 
 fn push_before(text: &mut String, sides: Sides<'_>, word: u64) -> Result<(), AllocError> {
@@ -219,16 +239,22 @@ fn push_before(text: &mut String, sides: Sides<'_>, word: u64) -> Result<(), All
 
 fn push_after(text: &mut String, sides: Sides<'_>, word: u64) -> Result<(), AllocError> {
     push_word(text, ", ", sides.labels[1], word)?;
-    if let Some(name) = type_after(sides, word) {
-        write!(text, " ({name})")?;
+    if let Some(kind) = kind_after(sides, word) {
+        push_kind(text, kind)?;
     }
     text.push_str(" after")
 }
 
-// The type of the object after that a word references, by its first data word.
-fn type_after<'a>(sides: Sides<'a>, word: u64) -> Option<&'a str> {
-    let names = sides.names?;
-    names.label(*object_of(sides.after, word)?.data.first()?)
+// The kind of the object after that a word references, by its own names, or else by its first data word.
+fn kind_after<'a>(sides: Sides<'a>, word: u64) -> Option<Kind<'a>> {
+    let object = object_of(sides.after, word)?;
+    if let Some(names) = sides.names_after
+        && let Some(kind) = names.object(&object)
+    {
+        return Some(kind);
+    }
+    let name = sides.names?.label(*object.data.first()?)?;
+    Some(Kind { name, note: "" })
 }
 
 fn push_word(
@@ -320,11 +346,41 @@ fn push_data(
 ) -> Result<(), AllocError> {
     let (was, is) = (ends.word_before, ends.word_after);
     write!(text, "; data word {word}")?;
-    let Some(names) = sides.names else {
-        return write!(text, " is {was} before, {is} after");
-    };
-    if let Some(object) = object_of(sides.before, ends.before) {
+    if let (Some(names), Some(object)) = (sides.names, object_of(sides.before, ends.before)) {
         push_named_data(text, names, &object, word)?;
     }
-    write!(text, " is {was} ({was:#x}) before, {is} ({is:#x}) after")
+    push_value(text, sides.names, sides.texts_before, " is ", was)?;
+    push_value(text, sides.names, sides.texts_after, " before, ", is)?;
+    text.push_str(" after")
+}
+
+// A data word: what it stands for and its number, or its number alone, in both forms if there are names.
+fn push_value(
+    text: &mut String,
+    names: Option<&Names<'_>>,
+    texts: &HashMap<u64, &str>,
+    lead: &str,
+    word: u64,
+) -> Result<(), AllocError> {
+    text.push_str(lead)?;
+    let named = match names {
+        Some(names) => names.text(word),
+        None => None,
+    };
+    match (named, texts.get(&word)) {
+        (Some(said), _) => push_text(text, said, word),
+        (None, Some(said)) => write!(text, "{said} ({word})"),
+        (None, None) if names.is_some() => write!(text, "{word} ({word:#x})"),
+        (None, None) => write!(text, "{word}"),
+    }
+}
+
+// The words of a text, and the number that stands for it.
+fn push_text(text: &mut String, said: &[&str], word: u64) -> Result<(), AllocError> {
+    let mut apart = "\"";
+    for part in said {
+        write!(text, "{apart}{part}")?;
+        apart = " ";
+    }
+    write!(text, "\" ({word})")
 }

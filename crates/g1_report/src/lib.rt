@@ -12,7 +12,8 @@
 //! 5. If all differences are asked for, `Differences` goes on behind the first one. Each line goes to
 //!    the `Lines` that the caller lends as soon as it is made, since it has its whole path.
 //!
-//! `locate` says what is at an address where no object starts.
+//! `locate` says what is at an address where no object starts. `noted` puts a program's names behind the lines of a pause,
+//! or of what keeps an object.
 //!
 //! The crate knows no option, no file and no stream: g1heap_cli has these.
 #![tactic(auto)]
@@ -21,16 +22,20 @@ mod comparing;
 mod lines;
 mod listing;
 mod location;
+mod moving;
 mod names;
 mod naming;
+mod noting;
 mod objects;
 mod places;
 mod reporting;
 mod sides;
 mod verdict;
 
+pub use comparing::Labels;
 pub use lines::Lines;
 pub use location::{Location, locate};
 pub use names::{Names, WrongNames};
+pub use noting::noted;
 pub use reporting::{Asked, Refused, report};
-pub use sides::{Side, Strays, open_image, open_lines, open_stale};
+pub use sides::{Side, Strays, open_image, open_lines, open_stale, shared_text};

@@ -1,8 +1,10 @@
 //! What a program calls its roots, its objects and the words in them.
 ghost use Rattle.std.specs.Prelude.{◌≤◌, length};
 
+use crate::comparing::Labels;
 use crate::objects::ObjectWords;
 use crate::places::value_at;
+use g1_text::data_word;
 use std::alloc::{AllocError, AllocFailed, Global};
 use std::str;
 
@@ -11,8 +13,11 @@ use std::str;
 ///     root NUMBER NAME
 ///     type TYPE slots NAME .. data NAME ..
 ///     label WORD TYPE
+///     text WORD TEXT ..
 ///     object ADDRESS TYPE [NOTE]
 ///
+/// An object of lines by name has its name in place of an address. A WORD is a data word as lines have it, and TEXT is
+/// all words up to the end of its line.
 /// A last name that ends with `[]` is that of its word and of all behind it. Of several lines of one number, or of one
 /// type, the first counts.
 #[derive(Drop)]
@@ -23,8 +28,14 @@ pub struct Names<'a> {
     types: Vec<(&'a str, Vec<&'a str>)>,
     // First data words, rising, each with the type of the objects that have it.
     labels: Vec<(u64, &'a str)>,
+    // Data words, rising, each with what it stands for.
+    texts: Vec<(u64, Vec<&'a str>)>,
     // Addresses, rising.
     objects: Vec<(u64, Kind<'a>)>,
+    // Names of objects, rising.
+    named: Vec<(&'a str, Kind<'a>)>,
+    // The addresses of the objects that have names, rising, and these names.
+    labels_before: Labels<'a>,
 }
 
 /// The type of an object, and what else its line says of it.
@@ -40,11 +51,6 @@ pub struct Word<'a> {
     pub name: &'a str,
     pub number: Option<u64>,
 }
-
-// The forms of the lines that have a number.
-const ROOT: &str = "'root NUMBER NAME'";
-
-const LABEL: &str = "'label WORD TYPE'";
 
 /// Why a text has no names.
 #[derive(Debug, Clone, Copy, PartialEq, Eq)]
@@ -68,12 +74,16 @@ impl<T: Drop> From<AllocFailed<T>> for WrongNames {
 }
 
 impl<'a> Names<'a> {
-    /// The names in these bytes.
+    /// The names in these bytes, of a heap whose objects have these names, if they have names.
     ///
     /// # Errors
     ///
     /// The first line that has no name, or the first line that is no UTF-8; `WrongNames::Memory` else.
-    pub fn read(alloc: Global, bytes: &'a [u8]) -> Result<Names<'a>, WrongNames> {
+    pub fn read(
+        alloc: Global,
+        bytes: &'a [u8],
+        labels_before: Labels<'a>,
+    ) -> Result<Names<'a>, WrongNames> {
         let Ok(text) = str::from_utf8(bytes) else {
             let number = first_no_text(bytes);
             return Err(WrongNames::Line {
@@ -85,7 +95,10 @@ impl<'a> Names<'a> {
             roots: Vec::new(alloc),
             types: Vec::new(alloc),
             labels: Vec::new(alloc),
+            texts: Vec::new(alloc),
             objects: Vec::new(alloc),
+            named: Vec::new(alloc),
+            labels_before,
         };
         names.add_lines(alloc, text)?;
         names.sort()?;
@@ -97,7 +110,9 @@ impl<'a> Names<'a> {
         self.roots.sort_by_key(|line| line.0)?;
         self.types.sort_by_key(|line| line.0)?;
         self.labels.sort_by_key(|line| line.0)?;
-        self.objects.sort_by_key(|line| line.0)
+        self.texts.sort_by_key(|line| line.0)?;
+        self.objects.sort_by_key(|line| line.0)?;
+        self.named.sort_by_key(|line| line.0)
     }
 
     fn add_lines(&mut self, alloc: Global, text: &'a str) -> Result<(), WrongNames> {
@@ -134,18 +149,51 @@ impl<'a> Names<'a> {
         rest: &[&'a str],
     ) -> Result<Option<&'static str>, AllocError> {
         match first {
-            "root" => add_numbered(&mut self.roots, rest, ROOT, "a whole number behind 'root'"),
-            "label" => {
-                add_numbered(
-                    &mut self.labels,
-                    rest,
-                    LABEL,
-                    "a whole number behind 'label'",
-                )
-            }
+            "root" => self.add_root(rest),
+            "label" => self.add_label(rest),
             "type" => self.add_type(alloc, rest),
+            "text" => self.add_text(alloc, rest),
             "object" => self.add_object(rest),
-            _ => Ok(Some("'root', 'type', 'label' or 'object'")),
+            _ => Ok(Some("'root', 'type', 'label', 'text' or 'object'")),
+        }
+    }
+
+    fn add_root(&mut self, words: &[&'a str]) -> Result<Option<&'static str>, AllocError> {
+        let [number, name] = words else {
+            return Ok(Some("'root NUMBER NAME'"));
+        };
+        let Some(number) = whole(number) else {
+            return Ok(Some("a whole number behind 'root'"));
+        };
+        self.roots.push((number, *name))?;
+        Ok(None)
+    }
+
+    fn add_label(&mut self, words: &[&'a str]) -> Result<Option<&'static str>, AllocError> {
+        let [word, name] = words else {
+            return Ok(Some("'label WORD TYPE'"));
+        };
+        let Some(word) = data_word(word) else {
+            return Ok(Some("a data word behind 'label'"));
+        };
+        self.labels.push((word, *name))?;
+        Ok(None)
+    }
+
+    fn add_text(
+        &mut self,
+        alloc: Global,
+        words: &[&'a str],
+    ) -> Result<Option<&'static str>, AllocError> {
+        match words {
+            [word, text @ ..] if !text.is_empty() => {
+                let Some(number) = data_word(word) else {
+                    return Ok(Some("a data word behind 'text'"));
+                };
+                self.texts.push((number, Vec::from_slice(alloc, text)?))?;
+                Ok(None)
+            }
+            _ => Ok(Some("'text WORD TEXT'")),
         }
     }
 
@@ -173,14 +221,30 @@ impl<'a> Names<'a> {
 
     fn add_kind(
         &mut self,
-        address: &str,
+        address: &'a str,
         name: &'a str,
         note: &'a str,
     ) -> Result<Option<&'static str>, AllocError> {
+        if self.labels_before.is_some() {
+            return self.add_named(address, Kind { name, note });
+        }
         let Some(address) = whole(address) else {
             return Ok(Some("an address behind 'object'"));
         };
         self.objects.push((address, Kind { name, note }))?;
+        Ok(None)
+    }
+
+    // The kind of the object of this name.
+    fn add_named(
+        &mut self,
+        name: &'a str,
+        kind: Kind<'a>,
+    ) -> Result<Option<&'static str>, AllocError> {
+        if name == "-" || name == ".." {
+            return Ok(Some("the name of an object behind 'object'"));
+        }
+        self.named.push((name, kind))?;
         Ok(None)
     }
 
@@ -194,9 +258,31 @@ impl<'a> Names<'a> {
         value_at(self.labels.as_slice(), word)
     }
 
-    /// The kind of an object of the heap before: that of its address, or else the type of its first data word.
+    /// The words of what a data word stands for.
+    pub fn text(&self, word: u64) -> Option<&[&'a str]> {
+        let below = self.texts.partition_point(|(other, _)| *other < word);
+        match self.texts.get(below) {
+            Some((other, text)) if *other == word => Some(text.as_slice()),
+            _ => None,
+        }
+    }
+
+    // The kind that a line says of the object at an address, by its name if it has one.
+    fn kind_at(&self, address: u64) -> Option<Kind<'a>> {
+        let Some(labels) = self.labels_before else {
+            return value_at(self.objects.as_slice(), address);
+        };
+        let name = value_at(labels, address)?;
+        let below = self.named.partition_point(|(other, _)| *other < name);
+        match self.named.get(below) {
+            Some((other, kind)) if *other == name => Some(*kind),
+            _ => None,
+        }
+    }
+
+    /// The kind of an object of the heap before: that of its line, or else the type of its first data word.
     pub fn object(&self, object: &ObjectWords<'_>) -> Option<Kind<'a>> {
-        if let Some(kind) = value_at(self.objects.as_slice(), object.at) {
+        if let Some(kind) = self.kind_at(object.at) {
             return Some(kind);
         }
         let name = self.label(*object.data.first()?)?;
@@ -226,25 +312,6 @@ impl<'a> Names<'a> {
             Some((name, words)) if *name == kind.name => Some(words.as_slice()),
             _ => None,
         }
-    }
-}
-
-// Adds a number and its name, or returns what is expected: a line of this form, or its number.
-fn add_numbered<'a>(
-    list: &mut Vec<(u64, &'a str)>,
-    words: &[&'a str],
-    form: &'static str,
-    expected: &'static str,
-) -> Result<Option<&'static str>, AllocError> {
-    let [number, name] = words else {
-        return Ok(Some(form));
-    };
-    match whole(number) {
-        Some(number) => {
-            list.push((number, *name))?;
-            Ok(None)
-        }
-        None => Ok(Some(expected)),
     }
 }
 

@@ -1,5 +1,5 @@
 //! A difference in the names that a program has for it.
-use crate::names::{Names, Word};
+use crate::names::{Kind, Names, Word};
 use crate::objects::{ObjectWords, Place};
 use g1_words::Heap;
 use std::alloc::{AllocError, Global};
@@ -10,9 +10,9 @@ const RUN: u64 = 3;
 // How many steps a path has at each end, if it is cut.
 const END: usize = 20;
 
-/// A path by the names of its root and of its slots: `root.first[3].next x 59999 slot 2`. Steps that repeat are
+/// The steps of a path from a root by the names of the slots: `.first[3].next x 59999 slot 2`. Steps that repeat are
 /// there once, and of many only the first and the last ones.
-pub fn push_named_path(
+pub fn push_named_slots(
     alloc: Global,
     text: &mut String,
     heap: &Heap,
@@ -20,10 +20,6 @@ pub fn push_named_path(
     root: u64,
     slots: &[u64],
 ) -> Result<(), AllocError> {
-    match names.root(root) {
-        Some(name) => text.push_str(name)?,
-        None => write!(text, "root {root}")?,
-    }
     let mut runs = Vec::new(alloc);
     add_runs(alloc, &mut runs, heap, names, root, slots)?;
     push_ends(text, runs.as_slice())
@@ -152,9 +148,14 @@ pub fn push_named_object(
     names: &Names<'_>,
     object: &ObjectWords<'_>,
 ) -> Result<(), AllocError> {
-    let Some(kind) = names.object(object) else {
-        return Ok(());
-    };
+    match names.object(object) {
+        Some(kind) => push_kind(text, kind),
+        None => Ok(()),
+    }
+}
+
+/// A type, and what else is said of its object, in parentheses.
+pub fn push_kind(text: &mut String, kind: Kind<'_>) -> Result<(), AllocError> {
     let (name, note) = (kind.name, kind.note);
     if note.is_empty() {
         write!(text, " ({name})")

@@ -16,6 +16,10 @@ pub struct Asked<'a> {
     pub after: &'a Side<'a>,
     /// What the program calls the words of the first one.
     pub names: Option<&'a Names<'a>>,
+    /// What it calls the objects of the second one.
+    pub names_after: Option<&'a Names<'a>>,
+    /// Whether the objects that moved are counted, if nothing differs.
+    pub moved: bool,
     /// The regions of a pause that is to have kept all others; empty if nothing is asked of it. Those that
     /// are free before are left out.
     pub set: &'a [u32],
@@ -80,7 +84,11 @@ fn sides_of<'a>(asked: &Asked<'a>) -> Sides<'a> {
         before: asked.before.image.heap(),
         after: asked.after.image.heap(),
         names: asked.names,
-        labels: [labels_of(asked.before), labels_of(asked.after)],
+        names_after: asked.names_after,
+        holders: asked.before.holders.as_slice(),
+        labels: [asked.before.labels(), asked.after.labels()],
+        texts_before: &asked.before.texts,
+        texts_after: &asked.after.texts,
         stale_names: stale_names_of(asked.after),
     }
 }
@@ -88,13 +96,6 @@ fn sides_of<'a>(asked: &Asked<'a>) -> Sides<'a> {
 fn stale_names_of<'a>(side: &'a Side<'_>) -> Labels<'a> {
     match &side.stale {
         Some(strays) => Some(strays.names.as_slice()),
-        None => None,
-    }
-}
-
-fn labels_of<'a>(side: &'a Side<'_>) -> Labels<'a> {
-    match &side.labels {
-        Some(labels) => Some(labels.as_slice()),
         None => None,
     }
 }

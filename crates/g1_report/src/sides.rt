@@ -1,8 +1,10 @@
 //! The heaps that are compared: those of images, or of lines of objects by name.
+use crate::comparing::Labels;
 use g1_image::{Image, Stale, decode};
 use g1_text::{Graph, Wrong, read_graph};
 use g1_words::Fault;
 use std::alloc::{AllocError, Global};
+use std::collections::HashMap;
 
 /// A heap that is compared, and what its objects are called.
 #[derive(Drop)]
@@ -10,7 +12,37 @@ pub struct Side<'a> {
     pub image: Image,
     /// The address and the name of each object, rising, if the objects have names.
     pub labels: Option<Vec<(u64, &'a str)>>,
+    /// The numbers of the roots of which lines say what holds them, rising, and what that is called.
+    pub holders: Vec<(u64, &'a str)>,
+    /// The texts that data words stand for, with their quotes.
+    pub texts: HashMap<u64, &'a str>,
     pub stale: Option<Strays<'a>>,
+}
+
+impl<'a> Side<'a> {
+    /// The addresses and the names of the objects, if they have names.
+    pub fn labels(&self) -> Labels<'_> {
+        match &self.labels {
+            Some(labels) => Some(labels.as_slice()),
+            None => None,
+        }
+    }
+}
+
+/// Two texts of two heaps that can't be told apart, since one word stands for both: those of the least word.
+pub fn shared_text<'a>(before: &'a Side<'_>, after: &'a Side<'_>) -> Option<(&'a str, &'a str)> {
+    let mut found = None;
+    let mut least = u64::MAX;
+    for (word, text) in after.texts.iter() {
+        match before.texts.get(word) {
+            Some(other) if *other != *text && *word <= least => {
+                least = *word;
+                found = Some((*other, *text));
+            }
+            _ => (),
+        }
+    }
+    found
 }
 
 /// The words that reference no object, and what is wrong with them where they are not reported.
@@ -23,10 +55,12 @@ pub struct Strays<'a> {
 }
 
 /// The side of an image.
-pub fn open_image<'a>(image: Image) -> Side<'a> {
+pub fn open_image<'a>(alloc: Global, image: Image) -> Side<'a> {
     Side {
         image,
         labels: None,
+        holders: Vec::new(alloc),
+        texts: HashMap::new(alloc),
         stale: None,
     }
 }
@@ -36,6 +70,8 @@ pub fn open_stale<'a>(alloc: Global, image: Image, words: Stale, fault: Fault) -
     Side {
         image,
         labels: None,
+        holders: Vec::new(alloc),
+        texts: HashMap::new(alloc),
         stale: Some(Strays {
             words,
             names: Vec::new(alloc),
@@ -56,10 +92,17 @@ pub fn open_lines<'a>(alloc: Global, lines: &'a [u8]) -> Result<Side<'a>, Wrong>
         Err(fault) => return Err(Wrong::Fault(fault)),
     };
     let stale = strays_in(alloc, &graph)?;
-    let Graph { names, .. } = graph;
+    let Graph {
+        names,
+        root_names,
+        texts,
+        ..
+    } = graph;
     Ok(Side {
         image,
         labels: Some(names),
+        holders: root_names,
+        texts,
         stale,
     })
 }

@@ -4,6 +4,7 @@ ghost use Rattle.g1_report.specs.Finding.{IsFinding};
 
 use crate::comparing::{Sides, push_difference_line, push_found_line, push_same_line};
 use crate::listing::stale_words;
+use crate::moving::push_moved_line;
 use crate::reporting::{Asked, Refused};
 use crate::sides::Strays;
 use g1_choose::given;
@@ -85,6 +86,9 @@ pub fn verdict_on(
         (_, Some(lost)) => write!(text, "differ {lost}\n")?,
         (Finding::Same(renaming), None) => {
             push_same_line(&mut text, sides.before, renaming)?;
+            if asked.moved {
+                push_moved_line(&mut text, sides, renaming)?;
+            }
             if !asked.set.is_empty() {
                 text.push_str("kept\n")?;
             }

@@ -9,7 +9,7 @@ use Rattle.std.specs.Str.{bytes_eq}
 use Rattle.std.proofs.lemmas.Bool.{false≢true}
 use Rattle.std.proofs.lemmas.Slice.Eq.{bytes_eq-Decides}
 use Rattle.g1_words.specs.Geometry.{IsWithinLimits}
-use Rattle.g1_text.specs.Forms.{Form, Spells, IsBelow, IsCurrentWord, Word, Single, Maybe, ◌▸◌, Number, Labelled, Current, Many, Abridges, Holding, Sizes, IsTarget, HasFront, HasFirst}
+use Rattle.g1_text.specs.Forms.{Form, Spells, IsBelow, IsDataWord, IsCurrentWord, Word, Single, Maybe, ◌▸◌, Number, Labelled, Current, Many, Abridges, Holding, Sizes, IsTarget, HasFront, HasFirst}
 
 pub read_one : (Sort : List ℕ → Type 0) {before left : List (List ℕ)} → HasFirst Sort before left → HasFront (Single Sort) before left
 read_one Sort r = (r.0 ∷ [], r.1, (r.0, refl, r.2))
@@ -117,13 +117,13 @@ no_more : {A : Type 0} (xs : List A) → length xs ≡ 0 → xs ≡ []
 no_more [] e = refl
 no_more (x ∷ xs) e = absurd (omega (arith, e))
 
-naught_is : IsBelow (2 ^ 64) (codes "0")
-naught_is = (0, ((omega arith, (omega arith, tt)), refl, omega arith))
+naught_is : IsDataWord (codes "0")
+naught_is = (0, inl ((omega arith, (omega arith, tt)), refl, omega arith))
 
 module _ (Sort : List ℕ → Type 0) (null : Sort (codes "-")) (slots count given missing many : ℕ) (words new middle left : List (List ℕ))
     (all : given ≡ length new) (sum : given + missing ≡ slots + count) (fewer : many ≡ min slots given)
     (refs values : List (List ℕ)) (first : new ≡ refs ++ middle) (second : middle ≡ values ++ left) (some : length refs ≡ many) (more : length values ≡ given - many)
-    (are_refs : All Sort refs) (are_values : All (IsBelow (2 ^ 64)) values) where
+    (are_refs : All Sort refs) (are_values : All IsDataWord values) where
   whole : new ≡ refs ++ values
   whole =
       let a = ap length (first ∙ ap (λ ws. refs ++ ws) second) in
@@ -145,13 +145,13 @@ module _ (Sort : List ℕ → Type 0) (null : Sort (codes "-")) (slots count giv
     refs ++ replicate (slots - length refs) (codes "-"),
     values ++ replicate (count - length values) (codes "0"),
     filled Sort (codes "-") refs slots are_refs null (omega (arith, some, fewer)),
-    filled (IsBelow (2 ^ 64)) (codes "0") values count are_values naught_is (omega (arith, some, more, fewer, sum)),
+    filled IsDataWord (codes "0") values count are_values naught_is (omega (arith, some, more, fewer, sum)),
     abridged how,
   )
 
 pub holding : (Sort : List ℕ → Type 0) → Sort (codes "-") → (slots count given missing many : ℕ) {words new middle left : List (List ℕ)}
     → (given ≡ length new) × (given + missing ≡ slots + count) × (((missing ≡ 0) × (words ≡ new)) ⊎ (words ≡ new ++ codes ".." ∷ []))
-    → many ≡ min slots given → HasFront (Many Sort many) new middle → HasFront (Many (IsBelow (2 ^ 64)) (given - many)) middle left → Holding Sort slots count words
+    → many ≡ min slots given → HasFront (Many Sort many) new middle → HasFront (Many IsDataWord (given - many)) middle left → Holding Sort slots count words
 holding Sort null slots count given missing many {words = words} {new = new} {middle = middle} {left = left} told fewer r s =
     held Sort null slots count given missing many words new middle left told.0 told.1 fewer r.0 s.0 r.1 s.1 r.2.0 s.2.0 r.2.1 s.2.1 told.2
 
@@ -175,6 +175,16 @@ dash_is_target e = let l : 1 ≡ 2 = ap length e in absurd (omega (arith, l))
 
 pub other_word : (word other : List ℕ) → false ≡ bytes_eq word other → word ≢ other
 other_word word other e same = false≢true (e ∙ (bytes_eq-Decides word other).1 same)
+
+pub not_word : (word other : List ℕ) → true ≡ not (bytes_eq word other) → word ≢ other
+not_word word other e = other_word word other (by (bytes_eq word other) e)
+  where
+    by : (b : Bool) → true ≡ not b → false ≡ b
+    by true e = sym e
+    by false e = refl
+
+pub no_words : {A : Type 0} (xs : List A) → length xs < 1 → xs ≡ []
+no_words xs lt = no_more xs (omega (arith, lt))
 
 pub if_none : (a : Form) (words : List (List ℕ)) → length words ≡ 0 → Maybe a words
 if_none a [] e = tt

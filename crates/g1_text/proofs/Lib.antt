@@ -26,3 +26,4 @@ pub mod Formed
 pub mod Comments
 pub mod GraphLines
 pub mod Fronts
+pub mod Written

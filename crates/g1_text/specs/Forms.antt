@@ -1,6 +1,8 @@
 -- The forms of lines: which words may stand in a line, one after the other, in the full form and in the short ones.
-use Rattle.std.specs.Prelude.{◌≡◌, ◌≢◌, ◌⊎◌, ◌<◌, ◌-◌, ◌^◌, ℕ, zero, suc, List, [], ◌∷◌, ◌++◌, length, take, codes, All, IsUtf8}
+use Rattle.std.specs.Prelude.{◌≡◌, ◌≢◌, ◌⊎◌, ◌<◌, ◌+◌, ◌-◌, ◌*◌, ◌%◌, ◌^◌, ℕ, zero, suc, Option, Some, false, List, [], ◌∷◌, ◌++◌, length, take, codes, bit_xor, is_nan, to_bits, All, IsUtf8}
+use lib.Ieee.{Float, binary64}
 use Rattle.std.specs.Str.Parse.{IsNumeral, digits_value}
+use Rattle.std.specs.Float.Parse.{parse_float}
 use Rattle.g1_words.specs.Geometry.{IsWithinLimits}
 use Rattle.g1_words.specs.Kind.{kind_word}
 use Rattle.g1_words.specs.declared.region.Kind.{Kind}
@@ -41,6 +43,40 @@ IsTarget word = word ≢ codes ".."
 -- a word may be the name of an object
 abbrev pub IsName : List ℕ → Type 0
 IsName word = (word ≢ codes "-") × (word ≢ codes "..")
+
+-- DATA WORDS, as people write them: each has this word of 64 bits
+
+-- a minus and digits, from -2^63 on: the number that makes 2^64 with it, or 0
+abbrev pub Negates : ℕ → List ℕ → Type 0
+Negates n word = (digits : List ℕ) × (m : ℕ) × (word ≡ 45 ∷ digits) × Spells (2 ^ 63 + 1) m digits × (n ≡ (2 ^ 64 - m) % 2 ^ 64)
+
+-- `0x` and hexadecimal digits
+abbrev pub HasHexDigits : ℕ → List ℕ → Type 0
+HasHexDigits n word = (digits : List ℕ) × (word ≡ 48 ∷ 120 ∷ digits) × IsNumeral 16 digits × (digits_value 16 digits ≡ n) × (n < 2 ^ 64)
+
+-- a number with a point: the bits of the nearest double
+abbrev pub HasPoint : ℕ → List ℕ → Type 0
+HasPoint n word = (front back : List ℕ) × (x : Float) × (word ≡ front ++ 46 ∷ back) × (parse_float binary64 word ≡ Some x) × (is_nan x ≡ false) × (n ≡ to_bits binary64 x)
+
+-- the hash of bytes behind others, whose hash is h: FNV-1a of 64 bits
+abbrev pub hash_behind : ℕ → List ℕ → ℕ
+hash_behind h [] = h
+hash_behind h (byte ∷ bytes) = hash_behind ((bit_xor h byte * 1099511628211) % 2 ^ 64) bytes
+
+abbrev pub hash_of : List ℕ → ℕ
+hash_of bytes = hash_behind 14695981039346656037 bytes
+
+-- a text in quotes: the hash of its bytes
+abbrev pub Quotes : ℕ → List ℕ → Type 0
+Quotes n word = (inner : List ℕ) × (word ≡ 34 ∷ (inner ++ 34 ∷ [])) × (n ≡ hash_of inner)
+
+-- a word stands for this word of 64 bits
+abbrev pub StandsFor : ℕ → List ℕ → Type 0
+StandsFor n word = Spells (2 ^ 64) n word ⊎ Negates n word ⊎ HasHexDigits n word ⊎ Quotes n word ⊎ HasPoint n word
+
+-- a word is a data word
+abbrev pub IsDataWord : List ℕ → Type 0
+IsDataWord word = (n : ℕ) × StandsFor n word
 
 -- FORMS
 
@@ -93,7 +129,7 @@ Abridges whole words = (words ≡ whole) ⊎ ((n : ℕ) × (words ≡ take n who
 -- SLOT .. WORD .. [..]: so many slots of a sort, and so many data words
 abbrev pub Holding : (List ℕ → Type 0) → ℕ → ℕ → Form
 Holding Slot slots data_words words =
-    (references values : List (List ℕ)) × Many Slot slots references × Many (IsBelow (2 ^ 64)) data_words values × Abridges (references ++ values) words
+    (references values : List (List ℕ)) × Many Slot slots references × Many IsDataWord data_words values × Abridges (references ++ values) words
 
 -- SIZE/SLOTS SLOT .. WORD .. [..]: one word is the header, and a heap has fewer than 2^32 words
 abbrev pub SizeAndWords : (List ℕ → Type 0) → Form
@@ -152,9 +188,9 @@ ImageLine words = RootLine words ⊎ DirtyLine words ⊎ CoveredLine words ⊎ R
 abbrev pub GraphHeading : Form
 GraphHeading = Word (codes "graph") ▸ Maybe Sizes
 
--- root NAME
+-- root NAME [as HOLDER]
 abbrev pub NamedRootLine : Form
-NamedRootLine = Word (codes "root") ▸ Single IsTarget
+NamedRootLine = Word (codes "root") ▸ Single IsTarget ▸ Maybe (Word (codes "as") ▸ Single IsName)
 
 -- object NAME SIZE/SLOTS NAME .. WORD .. [..]
 abbrev pub NamedObjectLine : Form

@@ -20,6 +20,9 @@ pub enum Expected {
     Follows(&'static str, u64),
     End,
     Reference,
+    Value,
+    /// A text whose hash no other one has.
+    OtherText,
     Root,
     Roots(u64),
     /// A slot, counted from 0, that is null or references an object.
@@ -46,6 +49,8 @@ pub enum Expected {
     Name,
     NewName,
     NamedRoot,
+    /// The name of what holds a root.
+    Holder,
     /// A slot, counted from 0, that is null or has an object's name.
     NamedSlot(u64),
     /// At least this many regions.
@@ -63,6 +68,9 @@ impl Expected {
             Expected::Line => "'root', 'dirty', 'covered', 'region', 'remembered' or 'object'",
             Expected::End => "the end of the line",
             Expected::Reference => "'-' or an address",
+            Expected::OtherText =>
+                "texts of which each has another hash: write this one in another way",
+            Expected::Value => "a data word, such as 7, -1, 0x1f, 1.5 or \"text\"",
             Expected::Root => "'-' or the address of an object",
             Expected::NoRegion => "no region behind the last one",
             Expected::Kind => "'free', 'ordinary', 'humongous' or 'continuation'",
@@ -79,6 +87,7 @@ impl Expected {
             Expected::Name => "a name, which is neither '-' nor '..'",
             Expected::NewName => "a name that no object above has",
             Expected::NamedRoot => "'-' or the name of an object",
+            Expected::Holder => "one word behind 'as', which is neither '-' nor '..'",
             Expected::Smaller => "objects that fit into a heap of 16777216 words",
             _ => "",
         }

@@ -22,6 +22,7 @@ mod placing;
 mod printing;
 mod reading;
 mod settling;
+mod values;
 mod words;
 
 pub use expected::{Expected, Wrong};
@@ -31,3 +32,4 @@ pub use printing::{
     image_lines, object_line, push_heading, push_log, push_object, push_region_line,
     push_remembered, push_root, region_lines,
 };
+pub use values::data_word;

@@ -1,8 +1,8 @@
 //! Lines of objects by name, without regions and addresses.
-ghost use Rattle.std.specs.Prelude.{◌≡◌, ◌<◌, ◌↔◌, ◌-◌, ◌^◌, [], ◌∷◌, true, false, IsUtf8, map, codes, All, IsTrue, IfErr, IfOk, OnOk};
+ghost use Rattle.std.specs.Prelude.{◌≡◌, ◌<◌, ◌↔◌, ◌-◌, ◌^◌, [], ◌∷◌, true, false, IsUtf8, map, codes, All, IsTrue, IfErr, IfOk, OnOk, MatchOption};
 ghost use Rattle.g1_image.specs.Image.{IsImageText};
 ghost use Rattle.g1_text.specs.Reading.{words_in, says_something, parts_of, lines_in, AreGraphLines};
-ghost use Rattle.g1_text.specs.Forms.{GraphHeading, GraphLine, NamedRootLine, NamedObjectLine, HasMeaning, HasSize, IsTarget, IsName, IsBelow, Sizes, Maybe, Many, Holding, HasFront};
+ghost use Rattle.g1_text.specs.Forms.{GraphHeading, GraphLine, NamedRootLine, NamedObjectLine, HasMeaning, HasSize, IsTarget, IsName, IsDataWord, Sizes, Maybe, Single, Word, ◌▸◌, Many, Holding, HasFront};
 ghost use Rattle.g1_text.specs.Drafts.{is_begun, IsTaken, AreTaken};
 ghost use Rattle.g1_text.specs.Refused.{IsLineOrMemory};
 
@@ -14,6 +14,7 @@ use crate::placing::{Entry, choose_sizes, place, regions_needed};
 use crate::reading::{
     HeapSizes, add_data, add_zeros, first_line, given_words, sizes, within_limits,
 };
+use crate::values::data_word;
 use crate::words::{Words, cut_words, size_and_slots};
 use g1_words::{Fault, Geometry, MOST_ROOTS, header_word};
 use std::alloc::{AllocError, Global};
@@ -27,6 +28,10 @@ pub struct Graph<'a> {
     pub text: Vec<u8>,
     /// The address and the name of each object, rising.
     pub names: Vec<(u64, &'a str)>,
+    /// The number of each root whose line says what holds it, rising, and what that is called.
+    pub root_names: Vec<(u64, &'a str)>,
+    /// The texts among the data words, with their quotes, by the words that stand for them.
+    pub texts: HashMap<u64, &'a str>,
     /// The number of each root with a name that no object has, rising, and the name.
     pub stale_roots: Vec<(u64, &'a str)>,
     /// The address of each slot with a name that no object has, rising, and the name.
@@ -64,7 +69,11 @@ pub fn read_graph<'a>(alloc: Global, text: &'a [u8]) -> Result<Graph<'a>, Wrong>
     ensures known { OnOk result (HasMeaning GraphHeading GraphLine text.now) }
 {
     let mut lines = read_lines(alloc, text)?;
-    place_and_fill(alloc, &mut lines)
+    let mut graph = place_and_fill(alloc, &mut lines)?;
+    let Lines { holders, texts, .. } = lines;
+    graph.root_names = holders;
+    graph.texts = texts;
+    Ok(graph)
 }
 
 fn place_and_fill<'a>(alloc: Global, lines: &mut Lines<'a>) -> Result<Graph<'a>, Wrong>
@@ -84,6 +93,8 @@ fn fill<'a>(alloc: Global, draft: &mut Draft, lines: &Lines<'a>) -> Result<Graph
     let mut graph = Graph {
         text: Vec::new(alloc),
         names: Vec::new(alloc),
+        root_names: Vec::new(alloc),
+        texts: HashMap::new(alloc),
         stale_roots: Vec::new(alloc),
         stale_slots: Vec::new(alloc),
         first_stale: None,
@@ -128,9 +139,13 @@ struct Lines<'a> {
     heading: u64,
     sizes: Option<HeapSizes>,
     roots: Vec<(u64, &'a str)>,
+    // The numbers of the roots whose lines say what holds them, and what that is called.
+    holders: Vec<(u64, &'a str)>,
     entries: Vec<Entry<'a>>,
     // The place of each name's entry.
     places: HashMap<&'a str, u64>,
+    // The texts among the data words, by the words that stand for them.
+    texts: HashMap<u64, &'a str>,
     // The places of the entries in the order of their addresses.
     order: Vec<u64>,
 }
@@ -143,8 +158,10 @@ fn read_lines<'a>(alloc: Global, text: &'a [u8]) -> Result<Lines<'a>, Wrong>
         heading: 0,
         sizes: None,
         roots: Vec::new(alloc),
+        holders: Vec::new(alloc),
         entries: Vec::new(alloc),
         places: HashMap::new(alloc),
+        texts: HashMap::new(alloc),
         order: Vec::new(alloc),
     };
     let mut words = Vec::new(alloc);
@@ -208,7 +225,7 @@ impl<'a> Lines<'a> {
         Ok(())
     }
 
-    // root NAME
+    // root NAME [as HOLDER]
     fn add_root(&mut self, number: u64, words: &[&'a str]) -> Result<(), Refusal>
         ensures form { OnOk result (NamedRootLine (codes "root" ∷ map (λ t. t.now) words.now)) }
         ensures heading { OnOk result (self.new.heading ≡ self.old.heading) }
@@ -217,7 +234,10 @@ impl<'a> Lines<'a> {
         if self.roots.len() as u64 >= most {
             return Err(Refusal::Expected(Expected::Roots(most)));
         }
-        let name = root_name(words)?;
+        let (name, holder) = root_words(words)?;
+        if let Some(holder) = holder {
+            self.holders.push((self.roots.len() as u64, holder))?;
+        }
         self.roots.push((number, name))?;
         Ok(())
     }
@@ -240,6 +260,7 @@ impl<'a> Lines<'a> {
             return Err(Refusal::Expected(Expected::NewName));
         }
         check_content(content, size, slots)?;
+        keep_texts(&mut self.texts, content, slots)?;
         self.entries.push(Entry {
             name: *name,
             size,
@@ -281,13 +302,31 @@ fn all_sizes(told: &[&str]) -> Result<Option<HeapSizes>, Expected>
     }
 }
 
-// NAME
-fn root_name<'a>(words: &[&'a str]) -> Result<&'a str, Expected>
-    ensures { IfOk result (λ name. (map (λ t. t.now) words.now ≡ name.now ∷ []) × IsTarget name.now) }
+// NAME [as HOLDER]
+fn root_words<'a>(words: &[&'a str]) -> Result<(&'a str, Option<&'a str>), Expected>
+    ensures words { IfOk result (λ r. MatchOption r.1 (map (λ t. t.now) words.now ≡ r.0.now ∷ []) (λ h. map (λ t. t.now) words.now ≡ r.0.now ∷ codes "as" ∷ h.now ∷ [])) }
+    ensures form { OnOk result ((Single IsTarget ▸ Maybe (Word (codes "as") ▸ Single IsName)) (map (λ t. t.now) words.now)) }
 {
     match words.split_first() {
-        Some((name, [])) if *name != ".." => Ok(*name),
+        Some((name, rest)) if *name != ".." => Ok((*name, holder(rest)?)),
         _ => Err(Expected::NamedRoot),
+    }
+}
+
+// [as HOLDER]
+fn holder<'a>(words: &[&'a str]) -> Result<Option<&'a str>, Expected>
+    ensures words { IfOk result (λ r. MatchOption r (map (λ t. t.now) words.now ≡ []) (λ h. map (λ t. t.now) words.now ≡ codes "as" ∷ h.now ∷ [])) }
+    ensures form { OnOk result (Maybe (Word (codes "as") ▸ Single IsName) (map (λ t. t.now) words.now)) }
+{
+    let Some((first, rest)) = words.split_first() else {
+        return Ok(None);
+    };
+    if *first != "as" {
+        return Err(Expected::NamedRoot);
+    }
+    match rest.split_first() {
+        Some((holder, [])) if *holder != "-" && *holder != ".." => Ok(Some(*holder)),
+        _ => Err(Expected::Holder),
     }
 }
 
@@ -346,10 +385,34 @@ fn check_names(words: &mut Words<'_>, count: u64) -> Result<(), Expected>
 }
 
 fn check_data(words: &mut Words<'_>, count: u64) -> Result<(), Expected>
-    ensures { OnOk result (HasFront (Many (IsBelow (2 ^ 64)) count) words.old words.new) }
+    ensures { OnOk result (HasFront (Many IsDataWord count) words.old words.new) }
 {
     for _ in 0..count {
-        words.number("data word")?;
+        words.value()?;
+    }
+    Ok(())
+}
+
+// Keeps the texts among the words behind the slots. Two texts of one hash can't be told apart.
+fn keep_texts<'a>(
+    texts: &mut HashMap<u64, &'a str>,
+    content: &[&'a str],
+    slots: u32,
+) -> Result<(), Refusal> {
+    for word in content.iter().skip(slots as usize) {
+        if !word.starts_with('"') {
+            continue;
+        }
+        let Some(hash) = data_word(word) else {
+            continue;
+        };
+        match texts.get(&hash) {
+            Some(other) if *other != *word => return Err(Refusal::Expected(Expected::OtherText)),
+            Some(_) => (),
+            None => {
+                texts.insert(hash, *word)?;
+            }
+        }
     }
     Ok(())
 }

@@ -6,7 +6,7 @@ ghost use Rattle.g1_words.specs.Kind.{kind_word};
 ghost use Rattle.g1_text.specs.Lines.{reference_word, current_word, cards_words, pinned_words};
 ghost use Rattle.std.specs.Option.{is_some};
 ghost use Rattle.g1_text.specs.Reading.{words_in, says_something, parts_of, lines_in, HasLines};
-ghost use Rattle.g1_text.specs.Forms.{ImageHeading, ImageLine, RootLine, DirtyLine, CoveredLine, RegionLine, RememberedLine, ObjectLine, HasMeaning, Form, Spells, IsBelow, HasSize, IsReferenceWord, Number, Single, Many, Maybe, Labelled, Current, Cards, Holding, Pinned, ◌▸◌, HasFront, HasFirst};
+ghost use Rattle.g1_text.specs.Forms.{ImageHeading, ImageLine, RootLine, DirtyLine, CoveredLine, RegionLine, RememberedLine, ObjectLine, HasMeaning, Form, Spells, IsBelow, IsDataWord, HasSize, IsReferenceWord, Number, Single, Many, Maybe, Labelled, Current, Cards, Holding, Pinned, ◌▸◌, HasFront, HasFirst};
 ghost use Rattle.g1_text.specs.Content.{Content, Counts, Line, Root, Dirty, Numbers, Remembered, Holds, words_of, Takes, MayFollow, with_region, one_found, Begins, Says, SaysAll, IsClosed};
 ghost use Rattle.g1_text.specs.Drafts.{content, counts_of, Becomes, said, IsTaken, AreTaken};
 ghost use Rattle.g1_text.specs.Refused.{IsLineOrMemory};
@@ -427,11 +427,11 @@ pub(crate) fn add_data(
     content: &mut Vec<u64>,
     count: u64,
 ) -> Result<(), Refusal>
-    ensures form { OnOk result (HasFront (Many (IsBelow (2 ^ 64)) count) words.old words.new) }
+    ensures form { OnOk result (HasFront (Many IsDataWord count) words.old words.new) }
     ensures full { (xs : List ℕ) (rest : List (List ℕ)) → count ≡ length xs → All (λ x. x < 2 ^ 64) xs → words.old ≡ map decimal xs ++ rest → MatchResult result (λ _. (words.new ≡ rest) × (content.new.items ≡ content.old.items ++ xs)) (λ e. e ≡ Refusal.Memory) }
 {
     for _ in 0..count {
-        let word = words.number("data word")?;
+        let word = words.value()?;
         content.push(word)?;
     }
     Ok(())

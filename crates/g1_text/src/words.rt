@@ -3,6 +3,7 @@ ghost use Rattle.g1_text.specs.Reading.{words_in};
 ghost use Rattle.g1_text.specs.Forms.{Spells, IsBelow, HasSize};
 
 use crate::expected::Expected;
+use crate::values::data_word;
 use std::alloc::AllocError;
 use std::marker::Model;
 
@@ -35,7 +36,7 @@ impl<'a> Model for Words<'a> {
 impl<'a> Words<'a> {
     ghost use Rattle.std.specs.Prelude.{◌≡◌, ◌≢◌, ◌<◌, ◌^◌, ℕ, List, [], ◌∷◌, ◌++◌, Some, Ok, length, map, decimal, OnOk, IfOk, MatchOption, MatchBool, MatchResult};
     ghost use Rattle.g1_text.specs.Lines.{reference_word};
-    ghost use Rattle.g1_text.specs.Forms.{Spells, IsBelow, IsReferenceWord, Denotes, Word, Single, Labelled, ◌▸◌, HasFront, HasFirst, HasNoFirst};
+    ghost use Rattle.g1_text.specs.Forms.{Spells, IsBelow, StandsFor, IsReferenceWord, Denotes, Word, Single, Labelled, ◌▸◌, HasFront, HasFirst, HasNoFirst};
 
     pub(crate) fn new(words: &'a [&'a str]) -> Words<'a>
         ensures { result ≡ map (λ t. t.now) words.now }
@@ -125,6 +126,17 @@ impl<'a> Words<'a> {
         self.take_number().ok_or(Expected::Number(what))
     }
 
+    /// Reads a data word, and gives the word that it stands for.
+    pub(crate) fn value(&mut self) -> Result<u64, Expected>
+        ensures form { IfOk result (λ n. HasFirst (StandsFor n) self.old self.new) }
+        ensures full { (n : ℕ) (rest : List (List ℕ)) → n < 2 ^ 64 → self.old ≡ decimal n ∷ rest → (result ≡ Ok n) × (self.new ≡ rest) }
+    {
+        let Some(word) = self.next() else {
+            return Err(Expected::Value);
+        };
+        data_word(word).ok_or(Expected::Value)
+    }
+
     /// Reads the number of a region or of a card.
     pub(crate) fn short_number(&mut self, what: &'static str) -> Result<u32, Expected>
         ensures digits { MatchResult result (λ n. HasFirst (Spells (2 ^ 32) n) self.old self.new) (λ _. HasNoFirst (IsBelow (2 ^ 32)) self.old) }
@@ -181,7 +193,7 @@ impl<'a> Words<'a> {
 }
 
 // A whole number in decimal digits alone. `parse` takes a plus in front of them, too.
-fn whole(text: &str) -> Option<u64>
+pub(crate) fn whole(text: &str) -> Option<u64>
     ensures digits { MatchOption result (IsBelow (2 ^ 64) text.now → ⊥) (λ n. Spells (2 ^ 64) n text.now) }
     ensures full { (n : ℕ) → n < 2 ^ 64 → text.now ≡ decimal n → result ≡ Some n }
 {

@@ -102,8 +102,8 @@ fn answer<T: Threads + Sync + Files, R: Read, W: Write>(
             let (status, text) = explain_pause(rt, alloc, explain, reader)?;
             hand_over_text(rt, alloc, status, text.as_bytes(), &explain.output, writer)
         }
-        Request::Why { image, address } => {
-            let text = explain_object(rt, alloc, image.as_str(), *address, reader)?;
+        Request::Why(why) => {
+            let text = explain_object(rt, alloc, why, reader)?;
             Ok(deliver_text(0, text.as_bytes(), writer)?)
         }
         Request::Trace(trace) => answer_trace(rt, alloc, trace, reader, writer),

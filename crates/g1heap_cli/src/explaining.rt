@@ -1,5 +1,6 @@
 //! A pause as lines, and what keeps an object.
 use crate::alone::{CHUNK, WORKERS};
+use crate::mapping::{copy_for, read_names, with_names};
 use crate::refusal::{contradiction, no_object, of_file};
 use crate::sources::{Source, find_collected, find_source};
 use g1_command::Refusal;
@@ -8,7 +9,7 @@ use g1_image::Image;
 use g1_pause::{Choice, Settings};
 use g1_report::locate;
 use g1_words::{Fault, object_at};
-use g1heap_request::Explain;
+use g1heap_request::{Explain, Why};
 use std::alloc::Global;
 use std::io::Read;
 use std::rt::Files;
@@ -24,9 +25,15 @@ pub fn explain_pause<T: Threads + Sync + Files, R: Read>(
     let settings = settings_of(alloc, request)?;
     let source = find_collected(rt, alloc, request.image.as_str(), reader)?;
     let image = source.image(rt, alloc)?;
+    let mut map = Vec::new(alloc);
+    let names = read_names(rt, alloc, &request.names, None, reader, &mut map)?;
+    let before = copy_for(alloc, &image, &names)?;
     let form = if request.map { Form::Map } else { Form::Steps };
     match explain(rt, alloc, image, &settings, form) {
-        Ok(explanation) => answer(rt, alloc, &source, explanation, form),
+        Ok(explanation) => {
+            let (status, text) = answer(rt, alloc, &source, explanation, form)?;
+            Ok((status, with_names(alloc, text, &before, &names)?))
+        }
         Err(Failure::Fault(fault)) => Err(source.refuse(rt, alloc, fault)),
         Err(failure) => Err(of_failure(alloc, source.name(), failure)),
     }
@@ -68,15 +75,18 @@ pub fn of_failure(alloc: Global, name: &str, failure: Failure) -> Refusal {
 pub fn explain_object<T: Threads + Sync + Files, R: Read>(
     rt: &T,
     alloc: Global,
-    name: &str,
-    address: u64,
+    request: &Why,
     reader: &mut R,
 ) -> Result<String, Refusal> {
+    let name = request.image.as_str();
     let source = find_source(rt, alloc, name, reader)?;
     let image = source.image(rt, alloc)?;
-    check_object(alloc, name, &image, address)?;
-    match why(rt, alloc, image, address) {
-        Ok(text) => Ok(text),
+    check_object(alloc, name, &image, request.address)?;
+    let mut map = Vec::new(alloc);
+    let names = read_names(rt, alloc, &request.names, None, reader, &mut map)?;
+    let before = copy_for(alloc, &image, &names)?;
+    match why(rt, alloc, image, request.address) {
+        Ok(text) => Ok(with_names(alloc, text, &before, &names)?),
         Err(Failure::Fault(fault)) => Err(source.refuse(rt, alloc, fault)),
         Err(failure) => Err(of_failure(alloc, name, failure)),
     }

@@ -230,6 +230,27 @@ pub fn not_for_lines(alloc: Global, name: &str, option: &str) -> Refusal {
     )
 }
 
+/// A file whose objects can't be asked whether they moved, since those of the file before have addresses and these have
+/// names, or the other way round.
+pub fn not_for_both(alloc: Global, name: &str) -> Refusal {
+    refusal(
+        2,
+        format!(in alloc;
+            "g1heap: {name}: --moved is for two images or for lines twice: leave it out, or name the objects of both by --names-after\n"
+        ),
+    )
+}
+
+/// A file with a text that can't be told from one of the file before.
+pub fn one_hash(alloc: Global, name: &str, text: &str, other: &str) -> Refusal {
+    refusal(
+        3,
+        format!(in alloc;
+            "g1heap: {name}: {text} has the hash of {other}, which is in the other file: write it in another way\n"
+        ),
+    )
+}
+
 /// A region that the image, which has this many, doesn't have.
 pub fn no_region(alloc: Global, name: &str, region: u32, regions: u64) -> Refusal {
     refusal(

@@ -1,12 +1,15 @@
 //! Whether two files have one heap, and what else is asked of them.
-use crate::files::{SideContent, read_bytes, read_side};
+use crate::files::{SideContent, read_side};
 use crate::line_writer::LineWriter;
-use crate::refusal::{not_for_lines, of_heap, of_stale, refuse_lines, refuse_names};
+use crate::mapping::read_names;
+use crate::refusal::{not_for_both, not_for_lines, of_heap, of_stale, one_hash, refuse_lines};
 use crate::young::with_young;
 use g1_command::Refusal;
 use g1_image::Image;
 use g1_rem::verify;
-use g1_report::{Asked, Lines, Names, Refused, Side, open_image, open_lines, open_stale, report};
+use g1_report::{
+    Asked, Lines, Names, Refused, Side, open_image, open_lines, open_stale, report, shared_text,
+};
 use g1_text::Wrong;
 use g1heap_request::Same;
 use std::alloc::Global;
@@ -72,7 +75,7 @@ fn read_and_open<'a, T: Files, R: Read>(
                 Err(wrong) => Err(refuse_lines(alloc, name, lines.as_slice(), wrong)),
             }
         }
-        SideContent::Image(image) => Ok(open_image(image)),
+        SideContent::Image(image) => Ok(open_image(alloc, image)),
         SideContent::Stale {
             image,
             stale,
@@ -90,14 +93,18 @@ fn compare_asked<T: Files, R: Read, W: Write>(
     answer: &mut LineWriter<'_, W>,
 ) -> Result<u8, Refusal> {
     check_asked(job.alloc, job.same, before, after)?;
-    let Some(file) = &job.same.names else {
-        return report_on(job, None, before, after, answer);
-    };
-    let text = read_bytes(job.rt, job.alloc, file.as_str(), reader)?;
-    match Names::read(job.alloc, text.as_slice()) {
-        Ok(names) => report_on(job, Some(&names), before, after, answer),
-        Err(wrong) => Err(refuse_names(job.alloc, file.as_str(), wrong)),
-    }
+    let (mut text, mut other) = (Vec::new(job.alloc), Vec::new(job.alloc));
+    let (rt, alloc, same) = (job.rt, job.alloc, job.same);
+    let names = read_names(rt, alloc, &same.names, before.labels(), reader, &mut text)?;
+    let names_after = read_names(
+        rt,
+        alloc,
+        &same.names_after,
+        after.labels(),
+        reader,
+        &mut other,
+    )?;
+    report_on(job, (&names, &names_after), before, after, answer)
 }
 
 // Lines of objects by name have no regions of the program's own, and no addresses.
@@ -107,9 +114,6 @@ fn check_asked(
     before: &Side<'_>,
     after: &Side<'_>,
 ) -> Result<(), Refusal> {
-    if before.labels.is_some() && same.names.is_some() {
-        return Err(not_for_lines(alloc, same.before.as_str(), "--names"));
-    }
     if before.labels.is_some() && !same.set.is_empty() {
         return Err(not_for_lines(alloc, same.before.as_str(), "--set"));
     }
@@ -117,12 +121,19 @@ fn check_asked(
         let option = if same.covered { "--covered" } else { "--set" };
         return Err(not_for_lines(alloc, same.after.as_str(), option));
     }
-    Ok(())
+    let named = same.names_after.is_some();
+    if same.moved && !named && before.labels.is_some() != after.labels.is_some() {
+        return Err(not_for_both(alloc, same.after.as_str()));
+    }
+    match shared_text(before, after) {
+        Some((text, other)) => Err(one_hash(alloc, same.after.as_str(), other, text)),
+        None => Ok(()),
+    }
 }
 
 fn report_on<T, W: Write>(
     job: &Job<'_, T>,
-    names: Option<&Names<'_>>,
+    names: (&Option<Names<'_>>, &Option<Names<'_>>),
     before: &Side<'_>,
     after: &Side<'_>,
     answer: &mut LineWriter<'_, W>,
@@ -131,7 +142,9 @@ fn report_on<T, W: Write>(
     let asked = Asked {
         before,
         after,
-        names,
+        names: names.0.as_ref(),
+        names_after: names.1.as_ref(),
+        moved: same.moved,
         set: same.set.as_slice(),
         fill: same.fill,
         all: same.all,

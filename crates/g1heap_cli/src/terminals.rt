@@ -41,7 +41,7 @@ fn waiting_text(request: &Request) -> Option<&'static str> {
         Request::Print { image, .. } => (image, IMAGE),
         Request::Make { lines, .. } => (lines, LINES),
         Request::Explain(explain) => (&explain.image, IMAGE),
-        Request::Why { image, .. } => (image, IMAGE),
+        Request::Why(why) => (&why.image, IMAGE),
         Request::Trace(trace) => (&trace.name, TRACE),
         Request::Ask(ask) => (&ask.image, IMAGE),
         Request::Rewrite(rewrite) => (&rewrite.image, IMAGE),

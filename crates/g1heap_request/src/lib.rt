@@ -16,7 +16,7 @@ mod tips;
 mod usage;
 
 pub use asking::{Ask, Rewrite};
-pub use options::{Explain, ImageAfter, Part, Request, Same, Trace, parse};
+pub use options::{Explain, ImageAfter, Part, Request, Same, Trace, Why, parse};
 pub use output::{Output, STANDARD_STREAM};
 pub use tips::{SET_TIP, names_regions};
 pub use usage::NAME;

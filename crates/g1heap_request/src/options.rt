@@ -35,16 +35,22 @@ pub enum Request {
     /// The lines of a pause.
     Explain(Explain),
     /// What keeps the object at an address.
-    Why {
-        image: String,
-        address: u64,
-    },
+    Why(Why),
     /// The replies to a trace.
     Trace(Trace),
     /// The lines that answer a question of an image.
     Ask(Ask),
     /// An image that is made of another one.
     Rewrite(Rewrite),
+}
+
+/// An object that is asked about, by its address.
+#[derive(Drop)]
+pub struct Why {
+    pub image: String,
+    pub address: u64,
+    /// The file of the names that the program has for what is in the image.
+    pub names: Option<String>,
 }
 
 /// A trace to answer.
@@ -77,6 +83,8 @@ pub struct Explain {
     pub set: Vec<u32>,
     /// Whether only the new addresses are wanted.
     pub map: bool,
+    /// The file of the names that the program has for what is in the image.
+    pub names: Option<String>,
     pub output: Output,
 }
 
@@ -96,6 +104,10 @@ pub struct Same {
     pub fill: bool,
     /// The file of the names that the program has for what is in the first one.
     pub names: Option<String>,
+    /// The file of the names that the program has for the objects of the second one.
+    pub names_after: Option<String>,
+    /// Whether the objects that moved are counted.
+    pub moved: bool,
     /// How many differences are listed and then all counted, if that is asked.
     pub all: Option<u64>,
 }
@@ -141,6 +153,10 @@ static LIVE: Argument = table::LIVE;
 static MAP: Argument = table::MAP;
 
 static NAMES: Argument = table::NAMES;
+
+static NAMES_AFTER: Argument = table::NAMES_AFTER;
+
+static MOVED: Argument = table::MOVED;
 
 static NUMBERED: Argument = table::NUMBERED;
 
@@ -201,9 +217,13 @@ pub(crate) fn output_of(alloc: Global, values: &ArgMatches<'_>) -> Result<Output
 // Refuses to read standard input for two of the files.
 fn check_streams(alloc: Global, values: &ArgMatches<'_>) -> Result<(), Misuse> {
     let (before, after) = (is_standard(values, &BEFORE), is_standard(values, &AFTER));
+    let (names, others) = (
+        is_standard(values, &NAMES),
+        is_standard(values, &NAMES_AFTER),
+    );
     let message = if before && after {
         "only one of the images can be standard input"
-    } else if is_standard(values, &NAMES) && (before || after) {
+    } else if names && others || (names || others) && (before || after) {
         "only one of the files can be standard input"
     } else {
         return Ok(());
@@ -246,6 +266,24 @@ fn fill_of(alloc: Global, values: &ArgMatches<'_>) -> Result<bool, Misuse> {
     Ok(fill)
 }
 
+// The names for an image, which are not on standard input if that is.
+fn names_beside(alloc: Global, values: &ArgMatches<'_>) -> Result<Option<String>, Misuse> {
+    if is_standard(values, &NAMES) && is_standard(values, &IMAGE) {
+        let message = "only one of the files can be standard input";
+        return Err(Misuse::Value(String::from_str(alloc, message)?));
+    }
+    Ok(name_if_given(alloc, values, &NAMES)?)
+}
+
+// The names after are said beside those before.
+fn names_after_of(alloc: Global, values: &ArgMatches<'_>) -> Result<Option<String>, Misuse> {
+    let names = name_if_given(alloc, values, &NAMES_AFTER)?;
+    if names.is_some() && values.get_str(NAMES.id).is_none() {
+        return Err(NAMES_AFTER.needs(alloc, &NAMES)?);
+    }
+    Ok(names)
+}
+
 fn same_of(alloc: Global, values: &ArgMatches<'_>) -> Result<Request, Misuse> {
     check_streams(alloc, values)?;
     Ok(Request::Same(Same {
@@ -256,6 +294,8 @@ fn same_of(alloc: Global, values: &ArgMatches<'_>) -> Result<Request, Misuse> {
         set: set_of(alloc, values)?,
         fill: fill_of(alloc, values)?,
         names: name_if_given(alloc, values, &NAMES)?,
+        names_after: names_after_of(alloc, values)?,
+        moved: values.get_flag(MOVED.id),
         all: all_of(alloc, values)?,
     }))
 }
@@ -267,6 +307,7 @@ fn explain_of(alloc: Global, values: &ArgMatches<'_>) -> Result<Request, Misuse>
         budget: number(alloc, values, &BUDGET)?,
         set: set_of(alloc, values)?,
         map: values.get_flag(MAP.id),
+        names: names_beside(alloc, values)?,
         output: output_of(alloc, values)?,
     }))
 }
@@ -310,10 +351,11 @@ fn print_of(alloc: Global, values: &ArgMatches<'_>) -> Result<Request, Misuse> {
 }
 
 fn why_of(alloc: Global, values: &ArgMatches<'_>) -> Result<Request, Misuse> {
-    Ok(Request::Why {
+    Ok(Request::Why(Why {
         image: name_of(alloc, values, &IMAGE)?,
         address: required_number(alloc, values, &ADDRESS)?,
-    })
+        names: names_beside(alloc, values)?,
+    }))
 }
 
 fn make_of(alloc: Global, values: &ArgMatches<'_>) -> Result<Request, Misuse> {

@@ -237,7 +237,18 @@ static SAME: Usage = Usage {
     name: "same",
     about: "Reports whether two images show the same graph from their roots, or where they differ",
     after_help: AFTER_SAME,
-    arguments: &[BEFORE, AFTER, COVERED, KEPT_SET, FILL, YOUNG, NAMES, ALL],
+    arguments: &[
+        BEFORE,
+        AFTER,
+        COVERED,
+        KEPT_SET,
+        FILL,
+        YOUNG,
+        NAMES,
+        NAMES_AFTER,
+        MOVED,
+        ALL,
+    ],
 };
 
 static PRINT: Usage = Usage {
@@ -267,6 +278,7 @@ static EXPLAIN: Usage = Usage {
         CARD,
         BYTE,
         MAP,
+        NAMES_BEHIND,
         OUTPUT,
     ],
 };
@@ -275,7 +287,7 @@ static WHY: Usage = Usage {
     name: "why",
     about: "Reports what keeps an object: the shortest path from a root, or a card",
     after_help: AFTER_WHY,
-    arguments: &[IMAGE, ADDRESS],
+    arguments: &[IMAGE, ADDRESS, NAMES_OF_PATH],
 };
 
 static TRACE: Usage = Usage {
@@ -346,6 +358,30 @@ pub const NAMES: Argument = Argument {
     values: &["MAP"],
     help: "Reports a difference in the names of this file, which has lines of BEFORE's objects",
     ..VALUE
+};
+
+const NAMES_OF_PATH: Argument = Argument {
+    help: "Puts the names of this file behind the lines: of the path, and of the objects' types",
+    ..NAMES
+};
+
+const NAMES_BEHIND: Argument = Argument {
+    help: "Puts the types of this file behind the lines of objects",
+    conflicts: &["map"],
+    ..NAMES
+};
+
+pub const NAMES_AFTER: Argument = Argument {
+    id: "names-after",
+    values: &["MAP"],
+    help: "With --names: AFTER's objects have the types and identifiers of this file",
+    ..VALUE
+};
+
+pub const MOVED: Argument = Argument {
+    id: "moved",
+    help: "Also says how many objects have another name, address or identifier",
+    ..FLAG
 };
 
 pub const ALL: Argument = Argument {

@@ -1,5 +1,4 @@
 use Rattle.std.proofs.Common.{false, subst}
-use Rattle.std.proofs.lemmas.Result.{on_ok_weaker}
 use Rattle.g1_text.specs.Reading.{lines_in}
 use Rattle.g1_text.specs.Forms.{GraphHeading, GraphLine}
 use Rattle.g1_text.specs.Drafts.{AreTaken}
@@ -9,6 +8,4 @@ use Rattle.g1_text.proofs.named.read_graph.Goals as goal
 pub returns-clause-known : goal.returns-clause-known
 returns-clause-known c =
     let read = c.in_ok-lines.ensures.known in
-    on_ok_weaker c.place_and_fill.result
-    (λ begun. meant_text GraphHeading GraphLine c.args.text.now (read.0, subst (AreTaken GraphHeading GraphLine false (lines_in c.args.text.now)) begun read.1))
-    c.place_and_fill.ensures.begun
+    meant_text GraphHeading GraphLine c.args.text.now (read.0, subst (AreTaken GraphHeading GraphLine false (lines_in c.args.text.now)) c.in_ok-graph.ensures.begun read.1)

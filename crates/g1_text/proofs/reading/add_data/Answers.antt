@@ -3,7 +3,7 @@ use Rattle.std.proofs.lemmas.List.{take_more, take_all}
 use Rattle.std.specs.Prelude.{decimal}
 use Rattle.g1_text.proofs.Results.{ok_one, not_both}
 use Rattle.g1_text.proofs.Gathering.{next_word, no_word}
-use Rattle.g1_text.specs.Forms.{IsBelow}
+use Rattle.g1_text.specs.Forms.{IsDataWord}
 use Rattle.g1_text.proofs.Fronts.{none_read, one_more_read, many_read}
 use Rattle.g1_text.proofs.reading.add_data.Goals as goal
 
@@ -12,7 +12,7 @@ returns-in_err-word-clause-full c = λ xs rest count fit e.
     let i = c.loop.counter in
     let kept = c.loop.invariant.0 xs rest count fit e in
     let lt : i < length xs = omega (arith, count, c.loop-test.true) in
-    absurd (not_both c.in_err-word.was (c.number.ensures.full (get_or xs i 0) (map decimal (drop (i + 1) xs) ++ rest) (fit i 0 lt) (kept.0 ∙ next_word decimal xs rest i lt)).0)
+    absurd (not_both c.in_err-word.was (c.value.ensures.full (get_or xs i 0) (map decimal (drop (i + 1) xs) ++ rest) (fit i 0 lt) (kept.0 ∙ next_word decimal xs rest i lt)).0)
 
 pub loop-preserved : goal.loop-preserved
 loop-preserved c = (
@@ -20,13 +20,13 @@ loop-preserved c = (
       let i = c.loop.counter in
       let kept = c.loop.invariant.0 xs rest count fit e in
       let lt : i < length xs = omega (arith, count, c.loop-test.true) in
-      let read = c.number.ensures.full (get_or xs i 0) (map decimal (drop (i + 1) xs) ++ rest) (fit i 0 lt) (kept.0 ∙ next_word decimal xs rest i lt) in
+      let read = c.value.ensures.full (get_or xs i 0) (map decimal (drop (i + 1) xs) ++ rest) (fit i 0 lt) (kept.0 ∙ next_word decimal xs rest i lt) in
       let same = ok_one c.in_ok-word.was read.0 in (
         read.1,
         c.in_ok-push.ensures.items ∙ ap (λ ys. ys ++ c.in_ok-word.word ∷ []) kept.1 ∙ append_assoc c.args.content.now.items (take i xs) (c.in_ok-word.word ∷ [])
             ∙ ap (λ ys. c.args.content.now.items ++ ys) (ap (λ x. take i xs ++ x ∷ []) same ∙ sym (take_more xs i 0 lt)),
       )),
-  one_more_read (IsBelow (2 ^ 64)) c.loop.counter c.loop.invariant.1 (c.in_ok-word.ensures.digits.0, c.in_ok-word.ensures.digits.1, (c.in_ok-word.word, c.in_ok-word.ensures.digits.2)),
+  one_more_read IsDataWord c.loop.counter c.loop.invariant.1 (c.in_ok-word.ensures.form.0, c.in_ok-word.ensures.form.1, (c.in_ok-word.word, c.in_ok-word.ensures.form.2)),
   omega (arith, c.loop-test.true),
 )
 
@@ -39,7 +39,7 @@ returns-clause-full c = λ xs rest count fit e.
     )
 
 pub loop-init : goal.loop-init
-loop-init c = ((λ xs rest count fit e. (e, sym (append-nil c.args.content.now.items))), none_read (IsBelow (2 ^ 64)) c.args.words.now, omega arith)
+loop-init c = ((λ xs rest count fit e. (e, sym (append-nil c.args.content.now.items))), none_read IsDataWord c.args.words.now, omega arith)
 
 pub returns-clause-form : goal.returns-clause-form
-returns-clause-form c = many_read (IsBelow (2 ^ 64)) c.loop.counter c.args.count (omega (arith, c.loop.invariant.2, c.loop-test.false)) c.loop.invariant.1
+returns-clause-form c = many_read IsDataWord c.loop.counter c.args.count (omega (arith, c.loop.invariant.2, c.loop-test.false)) c.loop.invariant.1
