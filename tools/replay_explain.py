@@ -334,7 +334,8 @@ class Tries:
         demand_same("status with --map", map_only.returncode, done.returncode)
         if done.returncode:
             text = facts[-1][1]
-            demand_same("map", (map_only.stdout, map_only.stderr), (b"", f"g1heap: -: {text}\n".encode()))
+            first = map_only.stderr.decode().partition("\n")[0]  # the second one says where the rule is broken
+            demand_same("map", (map_only.stdout, first), (b"", f"g1heap: -: {text}"))
         else:
             sizes = {fact[1]: fact[2] for fact in facts if fact[0] == "survivor"}
             lines = "".join(f"{at} {new} {sizes[at]}\n" for name, at, new in

@@ -137,7 +137,8 @@ class Tries:
         heap = Heap(from_bytes(data))
         for at in addresses(heap):
             done = subprocess.run([self.program, "why", "-", str(at)], input=data, capture_output=True, check=False)
-            found = done.returncode, done.stdout.decode(), done.stderr.decode()
+            told = done.stderr.decode().splitlines(keepends=True)[:1]  # the second one says where the rule is broken
+            found = done.returncode, done.stdout.decode(), "".join(told)
             expected = heap.answer(at)
             word = (expected[1] or f"status {expected[0]}").split("\n")[0].split()[0]
             self.words[word] = self.words.get(word, 0) + 1
