@@ -56,7 +56,11 @@ fn look_of_heading(numbers: &[u8]) -> Look {
         }
     }
     // A space is between two numbers.
-    if spaces == 3 { Look::Trace } else { Look::Lines }
+    if spaces == 3 {
+        Look::Trace
+    } else {
+        Look::Lines
+    }
 }
 
 /// The number of a heading that is out of its range.
