@@ -25,12 +25,11 @@ use std::alloc::{AllocError, Global};
 use std::thread::Threads;
 
 // What was found, and from where on it is still to be searched; the table, the seat of all its
-// shares, the lists that a round left to be used again, and the rank from which on none was offered.
+// shares, and the rank from which on none was offered.
 #[derive(Drop)]
 pub struct Search {
     pub claims: Claims,
     pub seat: ClaimSeat,
-    pub rooms: Vec<Vec<(u64, u64)>>,
     pub found: Vec<u64>,
     pub from: usize,
     pub next: u64,
@@ -79,10 +78,11 @@ fn push_addresses(found: &mut Vec<u64>, won: &[(u64, u64)]) -> Result<(), AllocE
     Ok(())
 }
 
-// The round of the roots and the cards.
+// The round of the roots and the cards. Its lists stay in the rooms.
 pub(crate) fn first_round<R: Threads + Sync, G: Gate + Sync>(
     crew: &Crew<'_, R, G>,
     scope: &Scope,
+    rooms: &mut Vec<Vec<(u64, u64)>>,
     cards: &[u32],
 ) -> Result<Search, Fault>
     requires scope { IsScope scope.now }
@@ -98,26 +98,25 @@ pub(crate) fn first_round<R: Threads + Sync, G: Gate + Sync>(
     let first = first_items(alloc, roots, cards)?;
     let items = first.as_slice();
     let hired = crew.hire(items.len(), 0);
-    let mut rooms = Vec::new(alloc);
     let sought = Sought::Items(items);
-    let (seat, won) = round_in(&hired, scope, &claims, seat, &mut rooms, sought)?;
+    let (seat, won) = round_in(&hired, scope, &claims, seat, rooms, sought)?;
     let mut found = Vec::new(alloc);
     push_addresses(&mut found, won.as_slice())?;
     rooms.push(won)?;
     Ok(Search {
         claims,
         seat,
-        rooms,
         found,
         from: 0,
         next: roots + scope.heap.words().len() as u64,
     })
 }
 
-// The round of the objects that the last one found.
+// The round of the objects that the last one found. It takes its lists from the rooms.
 pub(crate) fn next_round<R: Threads + Sync, G: Gate + Sync>(
     crew: &Crew<'_, R, G>,
     scope: &Scope,
+    rooms: &mut Vec<Vec<(u64, u64)>>,
     search: Search,
 ) -> Result<Search, Fault>
     requires scope { IsScope scope.now }
@@ -129,7 +128,6 @@ pub(crate) fn next_round<R: Threads + Sync, G: Gate + Sync>(
     let Search {
         claims,
         seat,
-        mut rooms,
         mut found,
         from,
         next,
@@ -139,14 +137,13 @@ pub(crate) fn next_round<R: Threads + Sync, G: Gate + Sync>(
     let mut bases = slot_counts_by(crew.rt, crew.alloc, scope.heap, addresses, workers)?;
     let next = number_on(&mut bases, next);
     let sought = Sought::Objects(addresses, bases.as_slice());
-    let (seat, won) = round_in(crew, scope, &claims, seat, &mut rooms, sought)?;
+    let (seat, won) = round_in(crew, scope, &claims, seat, rooms, sought)?;
     let from = found.len();
     push_addresses(&mut found, won.as_slice())?;
     rooms.push(won)?;
     Ok(Search {
         claims,
         seat,
-        rooms,
         found,
         from,
         next,
@@ -170,11 +167,12 @@ fn survivors_in<R: Threads + Sync, G: Gate + Sync>(
     if let Numbering::Words = scope.numbering {
         return Ok(search_alone(crew.alloc, scope, cards)?);
     }
-    let mut search = first_round(crew, scope, cards)?;
+    let mut rooms = Vec::new(crew.alloc);
+    let mut search = first_round(crew, scope, &mut rooms, cards)?;
     let mut round: u64 = 1;
     while search.from < search.found.len() {
         let hired = crew.hire(search.found.len() - search.from, round);
-        search = next_round(&hired, scope, search)?;
+        search = next_round(&hired, scope, &mut rooms, search)?;
         round = round.saturating_add(1);
     }
     Ok(search.found)

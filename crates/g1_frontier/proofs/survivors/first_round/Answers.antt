@@ -53,7 +53,7 @@ returns-clause-ok g c =
     let r = c.in_ok-seat.ensures.ok in
     first_search h c.requires.scope.valid window c.args.cards.now c.requires.scope.regions c.requires.cards c.requires.outside c.requires.lead_in
     (place_count c.args.scope.now) (place_in c.args.scope.now) c.requires.scope.numbers
-    (record { claims = c.in_ok-claims.claims; seat = c.in_ok-seat.seat; rooms = c.push.new.self; found = c.push_addresses.new.found; from = 0; next = length c.roots.result.now + c.len.result })
+    (record { claims = c.in_ok-claims.claims; seat = c.in_ok-seat.seat; found = c.push_addresses.new.found; from = 0; next = length c.roots.result.now + c.len.result })
     r.table
     r.whole
     (c.in_ok-claims.ensures.places ∙ c.places.ensures)

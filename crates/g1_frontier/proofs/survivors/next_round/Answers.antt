@@ -103,7 +103,7 @@ returns-clause-ok g c =
     ap (items_at part) (c.as_slice.ensures.value ∙ c.number_on-next.ensures.numbers ∙ ap (numbered_on s.next) c.in_ok-bases.ensures.ok) ∙ items_numbered h s.next part ∙ ap (object_items h s.next) cut in
     let r = c.in_ok-seat.ensures.ok in
     next_search h c.requires.scope.valid window c.requires.scope.regions s c.requires.search c.requires.scope.numbers
-    (record { claims = s.claims; seat = c.in_ok-seat.seat; rooms = c.push.new.self; found = c.push_addresses.new.found; from = c.len-from.result; next = c.number_on-next.result })
+    (record { claims = s.claims; seat = c.in_ok-seat.seat; found = c.push_addresses.new.found; from = c.len-from.result; next = c.number_on-next.result })
     r.table
     r.whole
     refl
