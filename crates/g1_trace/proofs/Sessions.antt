@@ -53,11 +53,17 @@ pub no_heap : (cost : Cost) (choice : Choice) (s : Session) (steps : Steps) → 
 no_heap cost choice s steps is taken =
     let there : image_of Begun ≡ Some taken.0 = subst (λ x. image_of x ≡ Some taken.0) is taken.1 in cc
 
+-- a step by the command of a line is what the line gets
+pub command_done : (cost : Cost) (s : Session) (line : List ℕ) (c : Command) (i j : Image) (n m : ℕ) (r : ReplyOf) → s ≡ Open i n → m ≡ one_more n
+    → AllFit (numbers_of c) → line ≡ command_line c → IsStep cost i c r j → IsDone cost s line (Reply r) (Open j m)
+command_done cost s line c i j n m r is counted fit text step =
+    let made : IsDone cost (Open i n) line (Reply r) (Open j (one_more n)) = command c fit text step in
+    subst (λ x. IsDone cost x line (Reply r) (Open j m)) (sym is) (subst (λ k. IsDone cost (Open i n) line (Reply r) (Open j k)) (sym counted) made)
+
 -- a pause that was made by its steps is what the line that asks for it gets
 pub pause_done : (cost : Cost) (choice : Choice) (s : Session) (i j : Image) (n m : ℕ) (r : ReplyOf) → s ≡ Open i n → m ≡ one_more n
     → ((b : ℕ) → choice ≡ Budget b → IsStep cost i (Pause b) r j)
     → (line : List ℕ) (b : ℕ) → AsksPause s line b → choice ≡ Budget b → IsDone cost s line (Reply r) (Open j m)
 pause_done cost choice s i j n m r is counted step line b asks asked =
     let here : AsksPause (Open i n) line b = subst (λ x. AsksPause x line b) is asks in
-    let made : IsDone cost (Open i n) line (Reply r) (Open j (one_more n)) = command (Pause b) (pause_fits b here.0) here.1 (step b asked) in
-    subst (λ x. IsDone cost x line (Reply r) (Open j m)) (sym is) (subst (λ k. IsDone cost (Open i n) line (Reply r) (Open j k)) (sym counted) made)
+    command_done cost s line (Pause b) i j n m r is counted (pause_fits b here.0) here.1 (step b asked)

@@ -8,6 +8,7 @@ use Rattle.g1_words.proofs.Members.{In, In-from_contains, Contains-from_in}
 use Rattle.g1_words.specs.Copy.{renamed}
 use Rattle.g1_trace.specs.declared.command.Command.{Command}
 use Rattle.g1_trace.specs.declared.command.Command.TheVariants.{New, Get, Put, Set, Say, Same, Copy, Drop, Pause}
+use Rattle.g1_trace.specs.declared.command.Reply.{Reply}
 use Rattle.g1_trace.specs.declared.command.Reply.TheVariants.{Ok, Range, Number}
 use Rattle.g1_trace.specs.Commands.{View, Effect, Nothing, SetRoot, SetSlot, SetValue, MakeNew, MakePause, Answer, answer, answer_of, in_range, not_null, within}
 use Rattle.g1_trace.specs.Views.{Seen, SameView, SeenWord, EffectFits, ForPause}
@@ -127,36 +128,44 @@ module _ (v : View) where
   answer_fits (Drop r) = range r (answer Ok (SetRoot r 0)) (λ h. (h, tt))
   answer_fits (Pause b) = tt
 
--- ---- a pause is answered by ok
+-- ---- a command whose effect is a pause is a pause, which is answered by ok
 
-abbrev Pauses : Answer → Type 0
-Pauses a = ForPause a.effect (a.reply ≡ Ok)
+abbrev Pauses : (Reply → Type 0) → Answer → Type 0
+Pauses P a = ForPause a.effect (P a.reply)
 
-pauses_either : (b : Bool) (x y : Answer) → Pauses x → Pauses y → Pauses (cond b x y)
-pauses_either true x y p q = p
-pauses_either false x y p q = q
+pauses_either : (P : Reply → Type 0) (b : Bool) (x y : Answer) → Pauses P x → Pauses P y → Pauses P (cond b x y)
+pauses_either P true x y p q = p
+pauses_either P false x y p q = q
 
-module _ (v : View) where
-  pauses_range : (r : ℕ) (a : Answer) → Pauses a → Pauses (in_range v r a)
-  pauses_range r a p = pauses_either (ltb r (length v.roots)) a (answer Range Nothing) p tt
+module _ (v : View) (P : Reply → Type 0) where
+  pauses_range : (r : ℕ) (a : Answer) → Pauses P a → Pauses P (in_range v r a)
+  pauses_range r a p = pauses_either P (ltb r (length v.roots)) a (answer Range Nothing) p tt
 
-  pauses_within : (k : ℕ) (xs : List ℕ) (a : Answer) → Pauses a → Pauses (within v k xs a)
-  pauses_within k xs a p = pauses_either (ltb k (length xs)) a (answer Range Nothing) p tt
+  pauses_within : (k : ℕ) (xs : List ℕ) (a : Answer) → Pauses P a → Pauses P (within v k xs a)
+  pauses_within k xs a p = pauses_either P (ltb k (length xs)) a (answer Range Nothing) p tt
 
-  pauses_not_null : (x : ℕ) (rest : ℕ → Answer) → ((a : ℕ) → Pauses (rest a)) → Pauses (not_null v x rest)
+  pauses_not_null : (x : ℕ) (rest : ℕ → Answer) → ((a : ℕ) → Pauses P (rest a)) → Pauses P (not_null v x rest)
   pauses_not_null zero rest p = tt
   pauses_not_null (suc a) rest p = p a
 
-  pub answer_pauses : (c : Command) → Pauses (answer_of v c)
-  answer_pauses (New r refs values) = pauses_range r (answer Ok (MakeNew r refs values)) tt
-  answer_pauses (Get r q i) = pauses_range r _ (pauses_range q _ (pauses_not_null (get_or v.roots q 0) _ (λ a. pauses_within i (v.slots a) (answer Ok (SetRoot r (get_or (v.slots a) i 0))) tt)))
-  answer_pauses (Put r i q) = pauses_range r _ (pauses_range q _ (pauses_not_null (get_or v.roots r 0) _ (λ a. pauses_within i (v.slots a) (answer Ok (SetSlot a i (get_or v.roots q 0))) tt)))
-  answer_pauses (Set r i x) = pauses_range r _ (pauses_not_null (get_or v.roots r 0) _ (λ a. pauses_within i (v.values a) (answer Ok (SetValue a i x)) tt))
-  answer_pauses (Say r i) = pauses_range r _ (pauses_not_null (get_or v.roots r 0) _ (λ a. pauses_within i (v.values a) (answer (Number (get_or (v.values a) i 0)) Nothing) tt))
-  answer_pauses (Same r q) = pauses_range r _ (pauses_range q _ tt)
-  answer_pauses (Copy r q) = pauses_range r _ (pauses_range q (answer Ok (SetRoot r (get_or v.roots q 0))) tt)
-  answer_pauses (Drop r) = pauses_range r (answer Ok (SetRoot r 0)) tt
-  answer_pauses (Pause b) = refl
+  pub for_pauses : (c : Command) → ((b : ℕ) → c ≡ Pause b → P Ok) → Pauses P (answer_of v c)
+  for_pauses (New r refs values) h = pauses_range r (answer Ok (MakeNew r refs values)) tt
+  for_pauses (Get r q i) h = pauses_range r _ (pauses_range q _ (pauses_not_null (get_or v.roots q 0) _ (λ a. pauses_within i (v.slots a) (answer Ok (SetRoot r (get_or (v.slots a) i 0))) tt)))
+  for_pauses (Put r i q) h = pauses_range r _ (pauses_range q _ (pauses_not_null (get_or v.roots r 0) _ (λ a. pauses_within i (v.slots a) (answer Ok (SetSlot a i (get_or v.roots q 0))) tt)))
+  for_pauses (Set r i x) h = pauses_range r _ (pauses_not_null (get_or v.roots r 0) _ (λ a. pauses_within i (v.values a) (answer Ok (SetValue a i x)) tt))
+  for_pauses (Say r i) h = pauses_range r _ (pauses_not_null (get_or v.roots r 0) _ (λ a. pauses_within i (v.values a) (answer (Number (get_or (v.values a) i 0)) Nothing) tt))
+  for_pauses (Same r q) h = pauses_range r _ (pauses_range q _ tt)
+  for_pauses (Copy r q) h = pauses_range r _ (pauses_range q (answer Ok (SetRoot r (get_or v.roots q 0))) tt)
+  for_pauses (Drop r) h = pauses_range r (answer Ok (SetRoot r 0)) tt
+  for_pauses (Pause b) h = h b refl
+
+-- a pause is answered by ok
+pub answer_pauses : (v : View) (c : Command) → ForPause (answer_of v c).effect ((answer_of v c).reply ≡ Ok)
+answer_pauses v c = for_pauses v (λ r. r ≡ Ok) c (λ b e. refl)
+
+-- a command that is no pause has no pause for its effect
+pub answer_goes_on : (v : View) (c : Command) → ((b : ℕ) → c ≡ Pause b → ⊥) → ForPause (answer_of v c).effect ⊥
+answer_goes_on v c none = for_pauses v (λ r. ⊥) c none
 
 -- ---- two views of the same objects answer alike
 

@@ -1,8 +1,9 @@
-ghost use Rattle.std.specs.Prelude.{◌≡◌, ℕ, ◌≤◌, ◌<◌, ◌⊎◌, slice_set, IfOk, IfErr};
+ghost use Rattle.std.specs.Prelude.{◌≡◌, ℕ, ◌≤◌, ◌<◌, ◌⊎◌, slice_set, IfOk, IfErr, OnErr};
 ghost use Rattle.g1_words.specs.Geometry.{most_roots};
 ghost use Rattle.g1_image.specs.Cards.{IsTracked};
 ghost use Rattle.g1_image.specs.Image.{Image as ImageOf};
 ghost use Rattle.g1_choose.specs.Cost.{IsCost};
+ghost use Rattle.g1_choose.specs.declared.parameters.Cost.{Cost as CostOf};
 ghost use Rattle.g1_work.specs.Team.{IsTeam};
 ghost use Rattle.g1_pause.specs.declared.settings.Choice.TheVariants.{Budget};
 ghost use Rattle.g1_pause.specs.Steps.{AreStepsOf};
@@ -75,6 +76,55 @@ fn set_data(tracked: &mut Tracked, object: u64, word: u64, value: u64)
     set_value(tracked, object + 1 + refs + word, value);
 }
 
+/// Does what a command does that is no pause, if the table of commands answers so. The heap is written in place.
+///
+/// # Errors
+///
+/// `Fault::Memory`, with the image as it was.
+fn write_effect(tracked: &mut Tracked, told: Answer) -> Result<Reply, Fault>
+    requires before { IsTracked tracked.old }
+    requires fits { EffectFits (heap_view tracked.old.heap) told.effect }
+    requires no_pause { ForPause told.effect ⊥ }
+    ensures done { IfOk result (λ r. (k : CostOf) → IsEffect k tracked.old told.effect told.reply r tracked.new) }
+    ensures memory { IfErr result (λ e. e ≡ Fault.Memory) }
+    ensures same { OnErr result (tracked.new ≡ tracked.old) }
+{
+    match told.effect {
+        Effect::Nothing => Ok(told.reply),
+        Effect::SetRoot { root, value } => {
+            set_root(tracked, root, value);
+            Ok(told.reply)
+        }
+        Effect::SetSlot {
+            object,
+            slot,
+            value,
+        } => match set_slot(tracked, object + 1 + slot, value) {
+            Ok(()) => Ok(told.reply),
+            Err(fault) => Err(fault),
+        },
+        Effect::SetValue {
+            object,
+            word,
+            value,
+        } => {
+            set_data(tracked, object, word, value);
+            Ok(told.reply)
+        }
+        Effect::MakeNew { root, refs, words } => {
+            let place = place_for(image(tracked).heap(), refs, words);
+            match place {
+                None => Ok(Reply::Full),
+                Some(r) => {
+                    place_object(tracked, r, root, refs, words);
+                    Ok(told.reply)
+                }
+            }
+        }
+        Effect::MakePause { .. } => unreachable!(),
+    }
+}
+
 /// Does what a command does, if the table of commands answers so.
 ///
 /// # Errors
@@ -93,38 +143,11 @@ fn carry_out<R: Threads + Sync, G: Gate + Sync>(
     ensures same { IfErr result.1 (λ e. result.0 ≡ tracked) }
 {
     match told.effect {
-        Effect::Nothing => (tracked, Ok(told.reply)),
-        Effect::SetRoot { root, value } => {
-            set_root(&mut tracked, root, value);
-            (tracked, Ok(told.reply))
-        }
-        Effect::SetSlot {
-            object,
-            slot,
-            value,
-        } => match set_slot(&mut tracked, object + 1 + slot, value) {
-            Ok(()) => (tracked, Ok(told.reply)),
-            Err(fault) => (tracked, Err(fault)),
-        },
-        Effect::SetValue {
-            object,
-            word,
-            value,
-        } => {
-            set_data(&mut tracked, object, word, value);
-            (tracked, Ok(told.reply))
-        }
-        Effect::MakeNew { root, refs, words } => {
-            let place = place_for(image(&tracked).heap(), refs, words);
-            match place {
-                None => (tracked, Ok(Reply::Full)),
-                Some(r) => {
-                    place_object(&mut tracked, r, root, refs, words);
-                    (tracked, Ok(told.reply))
-                }
-            }
-        }
         Effect::MakePause { budget } => pause(collector, tracked, budget),
+        _ => {
+            let outcome = write_effect(&mut tracked, told);
+            (tracked, outcome)
+        }
     }
 }
 
@@ -213,6 +236,21 @@ impl Mutator {
         let team = Team::new(workers, chunk);
         let collector = Collector::new(rt, alloc, cost, team, gate);
         self.execute(command, &collector)
+    }
+
+    /// Does one command that is no pause, in place.
+    ///
+    /// # Errors
+    ///
+    /// `Fault::Memory`, and then the mutator is as before.
+    pub(crate) fn write(&mut self, command: &Command) -> Result<Reply, Fault>
+        requires no_pause { (b : ℕ) → command.now ≡ Command.Pause b → ⊥ }
+        ensures done { IfOk result (λ r. (k : CostOf) → IsStep k self.old command.now r self.new) }
+        ensures memory { IfErr result (λ e. e ≡ Fault.Memory) }
+        ensures same { OnErr result (self.new ≡ self.old) }
+    {
+        let told = answer(image(&self.tracked).heap(), command);
+        write_effect(&mut self.tracked, told)
     }
 
     /// Does one command; its pauses are the collector's.

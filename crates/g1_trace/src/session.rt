@@ -1,8 +1,9 @@
-ghost use Rattle.std.specs.Prelude.{◌≡◌, ◌↔◌, ℕ, List, Some, None, IsTrue, IfSome, IfNone, IfOk, IfErr};
+ghost use Rattle.std.specs.Prelude.{◌≡◌, ◌↔◌, ℕ, List, Some, None, IsTrue, IfSome, IfNone, IfOk, IfErr, OnErr};
+ghost use Rattle.g1_choose.specs.declared.parameters.Cost.{Cost as CostOf};
 ghost use Rattle.g1_pause.specs.declared.settings.Choice.TheVariants.{Budget};
 ghost use Rattle.g1_trace.specs.TraceText.{command_line, numbers_of, AllFit};
 ghost use Rattle.g1_trace.specs.declared.session.Session.TheVariants.{Begun, Open as OpenOf};
-ghost use Rattle.g1_trace.specs.declared.session.Taken.TheVariants.{Reply as ReplyOf};
+ghost use Rattle.g1_trace.specs.declared.session.Taken.TheVariants.{Nothing, Reply as ReplyOf};
 ghost use Rattle.g1_trace.specs.Session.{AreStepsFor, AsksPause, IsComment, IsDone, IsReason, IsWrong, commands_of, image_of};
 
 use crate::collector::Collector;
@@ -17,6 +18,7 @@ use g1_rem::Tracked;
 use g1_words::Fault;
 use g1_work::Open;
 use std::alloc::Global;
+use std::mem;
 use std::thread::Threads;
 use thiserror::Error;
 
@@ -106,77 +108,115 @@ impl Session {
     /// Does the pause that a line asks for, whose steps were taken of the session's heap and looked at. It takes
     /// no memory.
     pub fn carry_out_pause<R: Threads + Sync>(
-        self,
+        &mut self,
         rt: &R,
         settings: &Settings,
         steps: Steps,
-    ) -> (Session, Reply)
-        requires taken { AreStepsFor settings.now.cost settings.now.choice self steps }
-        ensures done { (line : List ℕ) (b : ℕ) → AsksPause self line b → settings.now.choice ≡ Budget b → IsDone settings.now.cost self line (ReplyOf result.1) result.0 }
+    ) -> Reply
+        requires taken { AreStepsFor settings.now.cost settings.now.choice self.old steps }
+        ensures done { (line : List ℕ) (b : ℕ) → AsksPause self.old line b → settings.now.choice ≡ Budget b → IsDone settings.now.cost self.old line (ReplyOf result) self.new }
     {
-        match self {
+        match mem::replace(self, Session::Begun) {
             Session::Begun => unreachable!(),
             Session::Open { mutator, commands } => {
                 let (mutator, reply) = mutator.carry_out_pause(rt, settings, steps);
-                let session = Session::Open {
+                *self = Session::Open {
                     mutator,
                     commands: commands.saturating_add(1),
                 };
-                (session, reply)
+                reply
             }
         }
     }
 
     /// Does one line, without its end. If it is wrong, the session is as before.
     pub fn take<R: Threads + Sync>(
-        self,
+        &mut self,
         rt: &R,
         alloc: Global,
         line: &[u8],
         settings: &Settings,
-    ) -> (Session, Result<Taken, Wrong>)
-        ensures done { IfOk result.1 (λ a. IsDone settings.now.cost self line.now a result.0) }
-        ensures wrong { IfErr result.1 (IsWrong self line.now) }
-        ensures same { IfErr result.1 (λ _. result.0 ≡ self) }
+    ) -> Result<Taken, Wrong>
+        ensures done { IfOk result (λ a. IsDone settings.now.cost self.old line.now a self.new) }
+        ensures wrong { IfErr result (IsWrong self.old line.now) }
+        ensures same { OnErr result (self.new ≡ self.old) }
     {
         if is_comment(line) {
-            return (self, Ok(Taken::Nothing));
+            return Ok(Taken::Nothing);
         }
         match self {
-            Session::Begun => begin(alloc, line, settings),
-            Session::Open { mutator, commands } => match later_line(line) {
-                Some(command) => step(rt, alloc, mutator, commands, &command, settings),
-                None => {
-                    let wrong = Wrong::Line(Expected::of_line(line));
-                    (Session::Open { mutator, commands }, Err(wrong))
+            Session::Begun => match begin(alloc, line) {
+                Ok(session) => {
+                    *self = session;
+                    Ok(Taken::Nothing)
                 }
+                Err(wrong) => Err(wrong),
+            },
+            Session::Open { mutator, commands } => match later_line(line) {
+                None => Err(Wrong::Line(Expected::of_line(line))),
+                Some(Command::Pause { budget }) => take_pause(self, rt, alloc, budget, settings),
+                Some(command) => match mutator.write(&command) {
+                    Ok(reply) => {
+                        *commands = commands.saturating_add(1);
+                        Ok(Taken::Reply(reply))
+                    }
+                    Err(fault) => Err(Wrong::Fault(fault)),
+                },
             },
         }
     }
 }
 
-// Makes the heap of the line with the sizes.
-fn begin(alloc: Global, line: &[u8], settings: &Settings) -> (Session, Result<Taken, Wrong>)
-    ensures done { IfOk result.1 (λ a. IsDone settings.now.cost Begun line.now a result.0) }
-    ensures wrong { IfErr result.1 (IsReason Begun line.now) }
-    ensures same { IfErr result.1 (λ _. result.0 ≡ Begun) }
+// The session whose heap has the sizes of the line.
+fn begin(alloc: Global, line: &[u8]) -> Result<Session, Wrong>
+    ensures done { IfOk result (λ s. (k : CostOf) → IsDone k Begun line.now Nothing s) }
+    ensures wrong { IfErr result (IsReason Begun line.now) }
 {
     let Some((w, k, n, roots)) = first_line(line) else {
-        return (Session::Begun, Err(Wrong::Line(Expected::Heap)));
+        return Err(Wrong::Line(Expected::Heap));
     };
     match start(alloc, w, k, n, roots) {
         Ok(mutator) => {
-            let session = Session::Open {
+            Ok(Session::Open {
                 mutator,
                 commands: 0,
-            };
-            (session, Ok(Taken::Nothing))
+            })
         }
-        Err(fault) => (Session::Begun, Err(Wrong::Fault(fault))),
+        Err(fault) => Err(Wrong::Fault(fault)),
     }
 }
 
-// Does a command.
+// Does a pause. The heap goes out of the session and by value through it.
+fn take_pause<R: Threads + Sync>(
+    session: &mut Session,
+    rt: &R,
+    alloc: Global,
+    budget: u64,
+    settings: &Settings,
+) -> Result<Taken, Wrong>
+    requires open { session.old ≡ Begun → ⊥ }
+    ensures done { AllFit (numbers_of (Command.Pause budget)) → IfOk result (λ a. IsDone settings.now.cost session.old (command_line (Command.Pause budget)) a session.new) }
+    ensures wrong { IfErr result (IsReason session.old (command_line (Command.Pause budget))) }
+    ensures same { OnErr result (session.new ≡ session.old) }
+{
+    match mem::replace(session, Session::Begun) {
+        Session::Begun => unreachable!(),
+        Session::Open { mutator, commands } => {
+            let (after, outcome) = step(
+                rt,
+                alloc,
+                mutator,
+                commands,
+                &Command::Pause { budget },
+                settings,
+            );
+            *session = after;
+            outcome
+        }
+    }
+}
+
+// Does a command on a heap that goes by value through it.
 fn step<R: Threads + Sync>(
     rt: &R,
     alloc: Global,

@@ -20,7 +20,6 @@ use g1_work::Open;
 use g1heap_request::{Output, STANDARD_STREAM, Trace};
 use std::alloc::{AllocError, Global};
 use std::io::{Read, Write};
-use std::mem;
 use std::rt::Files;
 use std::thread::Threads;
 
@@ -173,7 +172,7 @@ fn take_line<T: Threads + Sync + Files>(
     state: &mut State,
 ) -> Result<(), Refusal> {
     let content = content_of(job.alloc, job.trace, line, number)?;
-    match take(job, content, &mut state.session) {
+    match state.session.take(job.rt, job.alloc, content, &job.settings) {
         Ok(Taken::Nothing) => Ok(()),
         Ok(Taken::Reply(reply)) => add_reply(job.alloc, job.trace, reply, state),
         Err(Wrong::Line(expected)) => {
@@ -215,17 +214,6 @@ fn content_of<'l>(
             Err(wrong(alloc, trace, number, Expected::End, hint))
         }
     }
-}
-
-fn take<T: Threads + Sync>(
-    job: &Job<'_, T>,
-    content: &[u8],
-    session: &mut Session,
-) -> Result<Taken, Wrong> {
-    let before = mem::replace(session, Session::new());
-    let (after, outcome) = before.take(job.rt, job.alloc, content, &job.settings);
-    *session = after;
-    outcome
 }
 
 fn add_reply(alloc: Global, trace: &Trace, reply: Reply, state: &mut State) -> Result<(), Refusal> {
@@ -284,15 +272,12 @@ fn take_explained<T: Threads + Sync + Files>(
     line: &[u8],
     state: &mut State,
 ) -> Result<Option<Reply>, Refusal> {
-    let session = mem::replace(&mut state.session, Session::new());
-    let Some((budget, tracked)) = session.asked_pause(line) else {
-        state.session = session;
+    let Some((budget, tracked)) = state.session.asked_pause(line) else {
         return Ok(None);
     };
     let settings = settings_with(job.trace, budget)?;
     let steps = explained_steps(job, tracked, &settings, &mut state.replies)?;
-    let (session, reply) = session.carry_out_pause(job.rt, &settings, steps);
-    state.session = session;
+    let reply = state.session.carry_out_pause(job.rt, &settings, steps);
     Ok(Some(reply))
 }
 

@@ -6,10 +6,10 @@ use Rattle.g1_trace.proofs.Sessions.{refused_sizes}
 use Rattle.g1_trace.proofs.session.begin.Goals as goal
 
 pub returns-in-Ok-clause-done : goal.returns-in-Ok-clause-done
-returns-in-Ok-clause-done c =
+returns-in-Ok-clause-done c = λ k.
     let line = c.in-Some in
     let made = sizes (record { w = line.w; k = line.k; n = line.n }) line.roots c.in-Ok.ensures.limits line.ensures.some in
-    subst (λ m. IsDone c.args.settings.now.cost Begun c.args.line.now Nothing (OpenOf m 0)) (sym c.in-Ok.ensures.ok) made
+    subst (λ m. IsDone k Begun c.args.line.now Nothing (OpenOf m 0)) (sym c.in-Ok.ensures.ok) made
 
 pub returns-in-Err-clause-wrong : goal.returns-in-Err-clause-wrong
 returns-in-Err-clause-wrong c =
