@@ -172,7 +172,10 @@ fn take_line<T: Threads + Sync + Files>(
     state: &mut State,
 ) -> Result<(), Refusal> {
     let content = content_of(job.alloc, job.trace, line, number)?;
-    match state.session.take(job.rt, job.alloc, content, &job.settings) {
+    match state
+        .session
+        .take(job.rt, job.alloc, content, &job.settings)
+    {
         Ok(Taken::Nothing) => Ok(()),
         Ok(Taken::Reply(reply)) => add_reply(job.alloc, job.trace, reply, state),
         Err(Wrong::Line(expected)) => {
