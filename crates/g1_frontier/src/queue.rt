@@ -114,10 +114,8 @@ impl Queue {
         requires object { Contains (objects scope.now.heap.now) object.now }
         ensures { OnOk result (HasNoted scope.now (object_names scope.now object.now) self.old self.new) }
     {
-        let words = scope.heap.words();
-        let first = object.at + 1;
-        for slot in first..first + object.refs {
-            self.note(scope, words.at(slot))?;
+        for word in scope.heap.slots(object) {
+            self.note(scope, *word)?;
         }
         Ok(())
     }

@@ -1,8 +1,24 @@
-ghost use Rattle.std.specs.Prelude.{◌<◌};
-ghost use Rattle.g1_words.specs.Heap.{objects_in, start};
+ghost use Rattle.std.specs.Prelude.{◌≡◌, ◌≢◌, ◌<◌, ◌+◌, ◌^◌};
+ghost use Rattle.g1_words.specs.Heap.{end, kind, object_at, objects_in, start};
 ghost use Rattle.g1_words.specs.Valid.{Tiles};
+ghost use Rattle.g1_words.specs.declared.region.Kind.TheVariants.{Ordinary};
 
-use g1_words::{Heap, Kind, Region, size_at};
+use g1_words::{Heap, Region};
+
+/// The address after the objects of a region that lie end to end from this one on.
+pub fn row_end(heap: &Heap, region: u32, first: u64) -> u64
+    requires region { region < heap.now.geometry.n }
+    requires first { first < 2 ^ 32 }
+    ensures ordinary { kind heap.now region ≡ Ordinary → result ≡ end heap.now region }
+    ensures alone { kind heap.now region ≢ Ordinary → result ≡ first + (object_at heap.now first).size }
+{
+    let Region { kind, top, .. } = heap.region(region);
+    if kind.is_ordinary() {
+        heap.geometry().start(region) + u64::from(top)
+    } else {
+        first + heap.words().header(first).size
+    }
+}
 
 /// The address after the last object that starts in a region; the region's own start if none does.
 pub fn objects_end(heap: &Heap, region: u32) -> u64
@@ -10,11 +26,9 @@ pub fn objects_end(heap: &Heap, region: u32) -> u64
     ensures { Tiles heap.now.words (start heap.now region) (objects_in heap.now region) result }
 {
     let start = heap.geometry().start(region);
-    let Region { kind, top, .. } = heap.region(region);
-    match kind {
-        Kind::Ordinary => start + u64::from(top),
-        Kind::HumongousFirst => start + size_at(heap, start),
-        Kind::Free => start,
-        Kind::Continuation => start,
+    if heap.region(region).kind.may_hold_cards() {
+        row_end(heap, region, start)
+    } else {
+        start
     }
 }

@@ -9,8 +9,9 @@ ghost use Rattle.g1_words.specs.Walk.{Reaches};
 ghost use Rattle.g1_rem.specs.Starts.{IsStartsOf, card_count};
 ghost use Rattle.g1_rem.specs.Slots.{slots_on, is_between};
 
+use crate::rows::row_end;
 use crate::starts::Starts;
-use g1_words::{Heap, Kind, Words, region_of, size_at};
+use g1_words::{Heap, Words, region_of};
 use smallvec::SmallVec;
 use std::alloc::Global;
 
@@ -72,11 +73,7 @@ pub fn slots_on(alloc: Global, heap: &Heap, starts: &Starts, card: u32) -> Small
         Some(first) => {
             let at = u64::from(first);
             let number = region_of(&geometry, at);
-            let region = heap.region(number as u32);
-            let end = match region.kind {
-                Kind::Ordinary => geometry.start(number as u32) + u64::from(region.top),
-                Kind::Free | Kind::HumongousFirst | Kind::Continuation => at + size_at(heap, at),
-            };
+            let end = row_end(heap, number as u32, at);
             slots_between(alloc, heap.words(), at, end, lo, lo + geometry.card_words())
         }
     }

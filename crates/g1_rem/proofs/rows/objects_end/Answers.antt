@@ -1,25 +1,25 @@
-use Rattle.std.proofs.Common.{◌≡◌, ◌+◌, ◌∙◌, sym, ap, subst, ◌*◌}
-use Rattle.g1_words.specs.Heap.{kind, start, end, objects_in, object_at}
-use Rattle.g1_words.specs.Valid.{Tiles}
-use Rattle.g1_words.specs.declared.region.Kind.TheVariants.{Ordinary, HumongousFirst}
+use Rattle.std.proofs.Common.{◌≡◌, ◌≢◌, ◌<◌, ◌+◌, ◌*◌, ◌∙◌, ℕ, refl, sym, ap, subst}
+use Rattle.g1_words.specs.Heap.{Heap, kind, start, end, objects_in, object_at}
+use Rattle.g1_words.specs.Kind.{MayHoldCards}
+use Rattle.g1_words.specs.Valid.{Tiles, IsValid}
+use Rattle.g1_words.specs.declared.region.Kind.{Kind}
+use Rattle.g1_words.specs.declared.region.Kind.TheVariants.{Free, Ordinary, HumongousFirst, Continuation}
 use Rattle.g1_rem.proofs.Filled.{ordinary_fills, humongous_fills}
 use Rattle.g1_rem.proofs.rows.objects_end.Goals as goal
 
-pub returns-in-Ordinary : goal.returns-in-Ordinary
-returns-in-Ordinary c =
-    let h = c.args.heap.now in
-    let is : kind c.args.heap.now c.args.region ≡ Ordinary = sym (ap (λ q. q.kind) c.region-kind.ensures) ∙ c.in-Ordinary.is in
-    let until : c.start-start.result + c.from.result ≡ end c.args.heap.now c.args.region = cc in
-    subst (λ x. Tiles c.args.heap.now.words (start c.args.heap.now c.args.region) (objects_in c.args.heap.now c.args.region) x) (sym until)
-    (ordinary_fills h c.args.region c.geometry.ensures.valid c.requires is)
+-- the objects of a region that may hold cards end where the row from its start on ends
+ended : (h : Heap) (r : ℕ) → IsValid h → r < h.geometry.n → (k : Kind) → kind h r ≡ k → MayHoldCards k → (x : ℕ)
+      → (kind h r ≡ Ordinary → x ≡ end h r) → (kind h r ≢ Ordinary → x ≡ start h r + (object_at h (start h r)).size) → Tiles h.words (start h r) (objects_in h r) x
+ended h r valid there Ordinary is holds x ordinary alone = subst (λ x. Tiles h.words (start h r) (objects_in h r) x) (sym (ordinary is)) (ordinary_fills h r valid there is)
+ended h r valid there HumongousFirst is holds x ordinary alone =
+    let other : kind h r ≢ Ordinary = λ same. cc in
+    subst (λ x. Tiles h.words (start h r) (objects_in h r) x) (sym (alone other)) (humongous_fills h r valid there is)
+ended h r valid there Free is holds x ordinary alone = absurd holds
+ended h r valid there Continuation is holds x ordinary alone = absurd holds
 
-pub returns-in-HumongousFirst : goal.returns-in-HumongousFirst
-returns-in-HumongousFirst c =
+pub returns-then-may_hold_cards : goal.returns-then-may_hold_cards
+returns-then-may_hold_cards c =
     let h = c.args.heap.now in
     let r = c.args.region in
-    let is : kind h r ≡ HumongousFirst = sym (ap (λ q. q.kind) c.region-kind.ensures) ∙ c.in-HumongousFirst.is in
     let begin : c.start-start.result ≡ start h r = c.start-start.ensures.value ∙ ap (λ g. c.args.region * g.w) c.geometry.ensures.same in
-    let size : c.size_at.result ≡ (object_at h (start h r)).size = c.size_at.ensures ∙ ap (λ a. (object_at c.args.heap.now a).size) begin in
-    let until : c.start-start.result + c.size_at.result ≡ start h r + (object_at h (start h r)).size = ap (λ a. a + c.size_at.result) begin ∙ ap (λ n. start c.args.heap.now c.args.region + n) size in
-    subst (λ x. Tiles c.args.heap.now.words (start c.args.heap.now c.args.region) (objects_in c.args.heap.now c.args.region) x) (sym until)
-    (humongous_fills h r c.geometry.ensures.valid c.requires is)
+    ended h r c.geometry.ensures.valid c.requires (kind h r) refl (subst (λ q. MayHoldCards q.kind) c.region.ensures (c.may_hold_cards.ensures.0 c.if-may_hold_cards.true)) c.row_end.result c.row_end.ensures.ordinary (subst (λ a. kind h r ≢ Ordinary → c.row_end.result ≡ a + (object_at h a).size) begin c.row_end.ensures.alone)

@@ -1,13 +1,13 @@
-use Rattle.std.proofs.Common.{arith, inl, inr, ap, sym, subst, refl, ◌≡◌, ◌≢◌, ◌+◌, ◌/◌, ◌*◌, ◌∙◌, length, slice_index_or, ℕ}
+use Rattle.std.proofs.Common.{arith, ap, sym, subst, refl, ◌≡◌, ◌≢◌, ◌+◌, ◌/◌, ◌*◌, ◌∙◌, length, slice_index_or, ℕ}
 use Rattle.std.specs.Prelude.{Some, None}
-use Rattle.g1_words.specs.Heap.{kind, object_at, end}
-use Rattle.g1_words.specs.declared.region.Kind.TheVariants.{Ordinary}
-use Rattle.g1_words.specs.Valid.{Tiles}
+use Rattle.g1_words.specs.Heap.{Heap, kind, object_at, end}
+use Rattle.g1_words.specs.declared.region.Kind.{Kind}
+use Rattle.g1_words.specs.declared.region.Kind.TheVariants.{Free, Ordinary, HumongousFirst, Continuation}
+use Rattle.g1_words.specs.Valid.{IsValid, Tiles}
 use Rattle.g1_words.specs.Walk.{Reaches}
 use Rattle.g1_rem.specs.Starts.{IsOver}
 use Rattle.g1_rem.proofs.Card.{none_on, over_at, RowOn, ordinary_row_on, alone_row_on}
 use Rattle.g1_rem.proofs.slots.slots_on.Goals as goal
-use Rattle.g1_rem.proofs.slots.slots_on.Goals.{in-Ordinary, in-Free}
 
 pub returns-in-None-clause-items : goal.returns-in-None-clause-items
 returns-in-None-clause-items c =
@@ -18,7 +18,23 @@ returns-in-None-clause-items c =
     (sym c.in-None.ensures) (c.requires.starts.each c.args.card (omega (arith, c.requires.card, c.requires.starts.one_each))) in
     c.new.ensures.items ∙ none_on h valid c.args.card (c.args.card * h.geometry.k) (c.args.card * h.geometry.k + h.geometry.k) refl refl over
 
-row : (c : goal.After-card_words) → RowOn c.args.heap.now c.args.card (c.card_start-lo.result) (c.card_start-lo.result + c.card_words.result) c.from-at.result c.match-region.end
+-- the slots on a card are in the row from the object over its first word on
+ends : (h : Heap) (card lo hi a r x : ℕ) → IsValid h → lo ≡ card * h.geometry.k → hi ≡ lo + h.geometry.k → IsOver h lo (Some a) → r ≡ a / h.geometry.w
+     → (kind h r ≡ Ordinary → x ≡ end h r) → (kind h r ≢ Ordinary → x ≡ a + (object_at h a).size) → (k : Kind) → kind h r ≡ k → RowOn h card lo hi a x
+ends h card lo hi a r x valid e f over number ordinary alone Ordinary is =
+    subst (λ x. RowOn h card lo hi a x) (sym (ordinary is ∙ ap (end h) number))
+    (ordinary_row_on h card lo hi a valid e f over (ap (kind h) (sym number) ∙ is))
+ends h card lo hi a r x valid e f over number ordinary alone Free is =
+    let other : kind h r ≢ Ordinary = λ same. cc in
+    subst (λ x. RowOn h card lo hi a x) (sym (alone other)) (alone_row_on h card lo hi a valid e f over (λ same. other (ap (kind h) number ∙ same)))
+ends h card lo hi a r x valid e f over number ordinary alone HumongousFirst is =
+    let other : kind h r ≢ Ordinary = λ same. cc in
+    subst (λ x. RowOn h card lo hi a x) (sym (alone other)) (alone_row_on h card lo hi a valid e f over (λ same. other (ap (kind h) number ∙ same)))
+ends h card lo hi a r x valid e f over number ordinary alone Continuation is =
+    let other : kind h r ≢ Ordinary = λ same. cc in
+    subst (λ x. RowOn h card lo hi a x) (sym (alone other)) (alone_row_on h card lo hi a valid e f over (λ same. other (ap (kind h) number ∙ same)))
+
+row : (c : goal.After-card_words) → RowOn c.args.heap.now c.args.card (c.card_start-lo.result) (c.card_start-lo.result + c.card_words.result) c.from-at.result c.row_end-end.result
 row c =
     let h = c.args.heap.now in
     let a : ℕ = c.from-at.result in
@@ -32,33 +48,19 @@ row c =
     let over : IsOver c.args.heap.now (c.card_start-lo.result) (Some c.from-at.result) =
     over_at h (c.args.card * h.geometry.k) (c.card_start-lo.result) (slice_index_or c.args.starts.now c.args.card None) (Some a) (sym e) same
     (c.requires.starts.each c.args.card (omega (arith, c.requires.card, c.requires.starts.one_each))) in
-    elim c.match-region.branch [
-      | in-Ordinary v ↦ (
-          let is : kind c.args.heap.now (c.from-at.result / c.args.heap.now.geometry.w) ≡ Ordinary =
-          ap (kind c.args.heap.now) (sym number) ∙ ap (λ q. q.kind) (sym c.region-region.ensures) ∙ v.in-Ordinary.is in
-          let from : v.start.result ≡ c.region_of-number.result * c.args.heap.now.geometry.w = v.start.ensures.value ∙ ap (λ g. c.region_of-number.result * g.w) c.geometry-geometry.ensures.same in
-          let until : c.match-region.end ≡ end c.args.heap.now (c.from-at.result / c.args.heap.now.geometry.w) = cc in
-          subst (λ x. RowOn c.args.heap.now c.args.card (c.card_start-lo.result) (c.card_start-lo.result + c.card_words.result) c.from-at.result x) (sym until)
-          (ordinary_row_on h c.args.card lo (lo + c.card_words.result) a valid e f over is))
-      | in-Free v ↦ (
-          let is : kind c.args.heap.now (c.from-at.result / c.args.heap.now.geometry.w) ≢ Ordinary =
-          (λ q. let same = ap (λ q. q.kind) c.region-region.ensures ∙ ap (kind c.args.heap.now) number ∙ q in elim v.in-Free.is [ inl e ↦ cc | inr f ↦ elim f [ inl e ↦ cc | inr e ↦ cc ] ]) in
-          let until : c.match-region.end ≡ c.from-at.result + (object_at c.args.heap.now c.from-at.result).size = v.end-is ∙ ap (λ x. c.from-at.result + x) v.size_at.ensures in
-          subst (λ x. RowOn c.args.heap.now c.args.card (c.card_start-lo.result) (c.card_start-lo.result + c.card_words.result) c.from-at.result x) (sym until)
-          (alone_row_on h c.args.card lo (lo + c.card_words.result) a valid e f over is))
-    ]
+    ends h c.args.card lo (lo + c.card_words.result) a c.region_of-number.result c.row_end-end.result valid e f over number c.row_end-end.ensures.ordinary c.row_end-end.ensures.alone (kind h c.region_of-number.result) refl
 
 pub slots_between-requires-clause-filled : goal.slots_between-requires-clause-filled
 slots_between-requires-clause-filled c =
-    subst (λ l. Reaches l c.from-at.result c.match-region.end) (sym c.words.ensures.same) (row c).filled
+    subst (λ l. Reaches l c.from-at.result c.row_end-end.result) (sym c.words.ensures.same) (row c).filled
 
 pub slots_between-requires-clause-in_words : goal.slots_between-requires-clause-in_words
 slots_between-requires-clause-in_words c = let w = ap length c.words.ensures.same in omega (arith, (row c).in_words, w)
 
-pub returns-after-region-clause-items : goal.returns-after-region-clause-items
-returns-after-region-clause-items c =
+pub returns-in-Some-clause-items : goal.returns-in-Some-clause-items
+returns-in-Some-clause-items c =
     let r = row c.before in
-    c.slots_between.ensures.items r.filled.0 (subst (λ l. Tiles l c.from-at.result r.filled.0 c.match-region.end) (sym c.words.ensures.same) r.filled.1)
+    c.slots_between.ensures.items r.filled.0 (subst (λ l. Tiles l c.from-at.result r.filled.0 c.row_end-end.result) (sym c.words.ensures.same) r.filled.1)
     ∙ r.all r.filled.0 r.filled.1
 
 pub slots_between-requires-clause-small : goal.slots_between-requires-clause-small
