@@ -9,7 +9,7 @@ use Rattle.g1_rem.proofs.rows.objects_end.Goals as goal
 
 -- the objects of a region that may hold cards end where the row from its start on ends
 ended : (h : Heap) (r : ℕ) → IsValid h → r < h.geometry.n → (k : Kind) → kind h r ≡ k → MayHoldCards k → (x : ℕ)
-      → (kind h r ≡ Ordinary → x ≡ end h r) → (kind h r ≢ Ordinary → x ≡ start h r + (object_at h (start h r)).size) → Tiles h.words (start h r) (objects_in h r) x
+    → (kind h r ≡ Ordinary → x ≡ end h r) → (kind h r ≢ Ordinary → x ≡ start h r + (object_at h (start h r)).size) → Tiles h.words (start h r) (objects_in h r) x
 ended h r valid there Ordinary is holds x ordinary alone = subst (λ x. Tiles h.words (start h r) (objects_in h r) x) (sym (ordinary is)) (ordinary_fills h r valid there is)
 ended h r valid there HumongousFirst is holds x ordinary alone =
     let other : kind h r ≢ Ordinary = λ same. cc in

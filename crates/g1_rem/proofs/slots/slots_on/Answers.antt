@@ -20,7 +20,7 @@ returns-in-None-clause-items c =
 
 -- the slots on a card are in the row from the object over its first word on
 ends : (h : Heap) (card lo hi a r x : ℕ) → IsValid h → lo ≡ card * h.geometry.k → hi ≡ lo + h.geometry.k → IsOver h lo (Some a) → r ≡ a / h.geometry.w
-     → (kind h r ≡ Ordinary → x ≡ end h r) → (kind h r ≢ Ordinary → x ≡ a + (object_at h a).size) → (k : Kind) → kind h r ≡ k → RowOn h card lo hi a x
+    → (kind h r ≡ Ordinary → x ≡ end h r) → (kind h r ≢ Ordinary → x ≡ a + (object_at h a).size) → (k : Kind) → kind h r ≡ k → RowOn h card lo hi a x
 ends h card lo hi a r x valid e f over number ordinary alone Ordinary is =
     subst (λ x. RowOn h card lo hi a x) (sym (ordinary is ∙ ap (end h) number))
     (ordinary_row_on h card lo hi a valid e f over (ap (kind h) (sym number) ∙ is))
