@@ -276,8 +276,9 @@ fn all_workers_count_live_bytes_at_once(rt: HostRuntime) -> Result<(), Fault> {
     Ok(())
 }
 
-/// Two roots reference two objects when the pause comes.
-static TRACE: &[u8] = b"heap 16 4 4 2\nnew 0 0 1\nnew 1 0 1\nset 0 0 5\npause 1000\nsay 0 0\n";
+/// Two roots reference two objects when the pause comes, which fills the second region: a third object is garbage.
+static TRACE: &[u8] =
+    b"heap 16 4 4 2\nnew 0 0 1\nnew 0 0 1\nnew 1 0 1\nset 0 0 5\npause 1000\nsay 0 0\n";
 
 #[test]
 fn the_workers_of_a_trace_pause_at_once(rt: HostRuntime) -> Result<(), Fault> {
@@ -286,7 +287,7 @@ fn the_workers_of_a_trace_pause_at_once(rt: HostRuntime) -> Result<(), Fault> {
         let gate = Crowd::new(&rt, part, 2, 1);
         let text = run_text(&rt, alloc, TRACE, &UNIT, Team::new(2, 1), &gate)?;
         expect_equal(&rt, (part, gate.met() > 0), (part, true));
-        expect_list(&rt, &text, b"ok\nok\nok\nok\n5\n");
+        expect_list(&rt, &text, b"ok\nok\nok\nok\nok\n5\n");
     }
     Ok(())
 }
