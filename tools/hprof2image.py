@@ -3,8 +3,9 @@
 
 DUMP is a binary heap dump, HPROF 1.0.2 or 1.0.1, as `jcmd PID GC.heap_dump -all FILE` or `jmap
 -dump:format=b,file=FILE PID` writes it. W is the words of a region, K the words of a card, N the number of regions
-(docs/IMAGE.md has their ranges). Without them the script chooses them: K is 64, W is the least from 4,096 on at which
-half of the regions stay free, or else the one that leaves most words free. The image has the objects of the dump in the
+(docs/IMAGE.md has their ranges, those of g1heap). Without them the script chooses them: K is 64, W is the least from
+4,096 on at which half of the regions stay free, or else the one that leaves most words free; and all of it is such that
+g1pause takes the image, if the objects fit into what that takes. The image has the objects of the dump in the
 dump's order, each behind the one before: if an object does not fit into the rest of its region, it begins the next one,
 and a humongous one takes regions of its own. The remembered sets are exact, no card is dirty, no region is current.
 
@@ -17,9 +18,10 @@ An object of the image is a header, its reference slots, a label, and its primit
   class             slots: the class above it, its loader, signers, protection domain, then the references of its
                     constants and of its static fields. Label: its own identifier.
 
-Primitive data are the bytes of the dump, packed without gaps, eight to a word, the first byte the lowest, the last
-word filled with zeros. A label is data, so no slot of an object references its class. Instead each class is a root, as
-in a pause that unloads no class. Each root of the dump, of whatever kind, is a root, in the dump's order; then come
+Primitive data are the values of the dump, packed without gaps, eight bytes to a word: the first value is lowest, and so is
+the lowest byte of each value. The last word is filled with zeros. So an int alone in its word is this word's number.
+A label is data, so no slot of an object references its class. Instead each class is a root, as in a pause that unloads
+no class. Each root of the dump, of whatever kind, is a root, in the dump's order; then come
 the classes that are none. A heap has at most 65,536 roots: if there are more, the last ones are slots of arrays
 made for them, which are roots. A reference to what the dump does not have is null, and counted.
 What the virtual machine alone holds, by roots that a dump does not list (its table of strings, for one), is garbage.
@@ -36,11 +38,18 @@ are its roots, so that `g1heap same` can compare two dumps of one program:
   no such object    a reference to what the dump does not have is an error with its path in Java's names, unless
                     --dangling-null.
 
+--from thread:NAME has a root for each thing that the frames of a thread hold, from the innermost frame on. Two dumps of a
+thread compare only if it stands at the same place in both. What the thread's own object holds is not among it.
+
+--fields lists the static fields instead, and makes no image: a line 'COUNT CLASS.FIELD' for each that is not null, with
+the number of objects that hang from it, the largest first. It walks as --from does.
+
 --names FILE writes what each object is, for whoever has to read a path: lines
 
   root INDEX NAME
   type TYPE slots NAME .. data NAME ..     a name for each slot and each data word; one that ends with [] is that of its
-                                           word and of all behind it; fields that share a word are joined by a comma
+                                           word and of all behind it; fields that share a word are joined by a comma,
+                                           and each has its type, as in count:int
   label NUMBER TYPE                        what stands in data word 0 of such objects (of arrays: also their length)
   object ADDRESS TYPE @IDENTIFIER          the identifier is the one of the dump: in HotSpot the address of the object
 
@@ -52,12 +61,14 @@ longer than a few seconds, it also says how far it is: in place on a terminal, e
 --progress every two.
 Statuses: 0 done; 1 the counts do not agree; 2 usage, a field that is not there, or W, K or N out of its range; 3 the
 file is no such dump; 4 a reference leads to nothing; 5 the objects do not fit; 6 a file can't be read or written, or
-there is too little memory. If the status is not 0, no image is written, except for a beginning of it if the writing failed.
-With --from a dump of 99 MB took 10 seconds of processor time, and less than six times the memory of its image.
+there is too little memory; 141 the reader of --fields went away. If the status is not 0, no image is written, except for a
+beginning of it if the writing failed.
+Objects of more than 2^28 words are refused: without --from while the dump is read, with --from once so many are found.
 """
 import argparse
 import contextlib
 import gc
+import os
 import pathlib
 import struct
 import sys
@@ -67,14 +78,15 @@ from zlib import crc32
 
 sys.path.insert(0, str(pathlib.Path(__file__).resolve().parent / "lib"))
 
-from hprof import (CLASS, INSTANCE, MOST_WORDS, OBJECTS, ClassShape, Dump, Progress, Refusal, bad,  # noqa: E402
-                   check_words, instance_shape, main_of, objects_shape, primitives_shape, quiet, words_of)
+from heap_image import MOST_REGIONS, MOST_ROOTS, SPECIFICATION, WIDE  # noqa: E402
+from hprof import (CLASS, INSTANCE, OBJECTS, ClassShape, Dump, Progress, Refusal, bad, check_words,  # noqa: E402
+                   instance_shape, main_of, objects_shape, primitives_shape, quiet, words_of)
+from hprof_fields import field_lines  # noqa: E402
 from hprof_graph import Graph  # noqa: E402
 from hprof_write import Writer  # noqa: E402
 
-MOST_REGIONS, MOST_ROOTS = 4096, 65536
 FREE, ORDINARY, FIRST, CONTINUATION = range(4)
-LEAST_WIDTH, MOST_WIDTH, CARD = 4096, 65536, 64  # what is chosen if nobody says W, K and N
+LEAST_WIDTH, CARD = 4096, 64  # what is chosen if nobody says W, K and N
 BATCH = 4096  # objects between two reports of progress
 
 
@@ -109,9 +121,10 @@ class Index:
         """The sizes of the objects in their order, each with how many objects behind each other have it."""
         return [(size, len(list(run))) for size, run in groupby(shape.size for shape in self.shapes)]
 
-    def objects(self):
-        """The shape and the identifier of each object in the image's order."""
-        return zip(self.shapes, self.names)
+    def runs(self):
+        """Objects of one shape behind each other in the image's order: the shape, and their identifiers."""
+        names = iter(self.names)
+        return ((shape, list(islice(names, len(list(run))))) for shape, run in groupby(self.shapes))
 
     def root_names(self):
         return [f"root{i}" for i in range(len(self.roots))]
@@ -154,8 +167,8 @@ class Layout:
             self.tops.append(min(left, self.region_words))
 
 
-def most_regions(region_words):
-    return min(MOST_REGIONS, MOST_WORDS // region_words)
+def most_regions(region_words, limits=WIDE):
+    return min(MOST_REGIONS, limits.words // region_words)
 
 
 def too_many(sizes, region_words, regions, needed):
@@ -165,14 +178,14 @@ def too_many(sizes, region_words, regions, needed):
     if needed <= most_regions(region_words):
         return Refusal(5, f"{words}: N from {needed} to {most_regions(region_words)} holds them "
                           f"(a pause needs some regions more)")
-    for power in range(4, 17):
+    for power in range(4, WIDE.region_words.bit_length()):
         width = 1 << power
         if total <= width * most_regions(width):
             other = len(Layout(sizes, width).tops)
             if other <= most_regions(width):
                 return Refusal(5, f"{words}, at most {most_regions(region_words)}: W {width} with N from {other} to "
                                   f"{most_regions(width)} holds them")
-    return Refusal(5, f"{words}: no heap holds them, since N*W is at most {MOST_WORDS} words and N at most "
+    return Refusal(5, f"{words}: no heap holds them, since N*W is at most {WIDE.words} words and N at most "
                       f"{MOST_REGIONS}")
 
 
@@ -363,8 +376,8 @@ def is_power(value, least, most):
 
 
 def check_limits(region_words, card_words, regions):
-    if not is_power(region_words, 16, 65536):
-        raise Refusal(2, f"W is {region_words}: a power of two from 16 to 65536 is wanted")
+    if not is_power(region_words, 16, WIDE.region_words):
+        raise Refusal(2, f"W is {region_words}: a power of two from 16 to {WIDE.region_words} is wanted")
     if not is_power(card_words, 4, min(64, region_words)):
         raise Refusal(2, f"K is {card_words}: a power of two from 4 to 64, and at most W, is wanted")
     if not 1 <= regions <= most_regions(region_words):
@@ -372,20 +385,27 @@ def check_limits(region_words, card_words, regions):
 
 
 def chosen(sizes):
-    """W, K and N for a heap of objects of these sizes."""
+    """W, K and N for a heap of objects of these sizes: such as g1pause takes, if they fit."""
+    total = sum(size * count for size, count in sizes)
+    check_words(total)
+    for limits in (SPECIFICATION, WIDE):
+        found = chosen_within(sizes, limits) if total <= limits.words else None
+        if found:
+            return found
+    raise Refusal(5, f"the objects take {total:,} words, and do not fit into regions of {WIDE.region_words} words or fewer")
+
+
+def chosen_within(sizes, limits):
+    """W, K and N within these limits, or None."""
     best, width = None, LEAST_WIDTH
-    while width <= MOST_WIDTH:
-        needed, most = len(Layout(sizes, width).tops), most_regions(width)
+    while width <= limits.region_words:
+        needed, most = len(Layout(sizes, width).tops), most_regions(width, limits)
         if 2 * needed <= most:
             return width, CARD, max(2 * needed, 2)
         if needed <= most and (best is None or width * (most - needed) > best[0]):
             best = width * (most - needed), width, most
         width *= 2
-    if best is None:
-        total = sum(size * count for size, count in sizes)
-        check_words(total)
-        raise Refusal(5, f"the objects take {total:,} words, and do not fit into regions of {MOST_WIDTH} words or fewer")
-    return best[1], CARD, best[2]
+    return best and (best[1], CARD, best[2])
 
 
 class TypeNames:
@@ -417,10 +437,15 @@ class TypeNames:
 def write_names(file, index, starts):
     """What each object is, for a reader of paths."""
     file.write("".join(f"root {i} {name}\n" for i, name in enumerate(index.root_names())))
-    types = TypeNames(file)
-    for (shape, name), start in zip(index.objects(), starts):
-        kind = types.of(shape)
-        file.write(f"object {start} {kind} @{name:#x}\n")
+    types, at = TypeNames(file), 0
+    for shape, names in index.runs():
+        # A line each. Formatting many at once, as bytes, takes a third of the time.
+        line = f"object %d {types.of(shape).replace('%', '%%')} @0x%x\n".encode()
+        for first in range(0, len(names), BATCH):
+            part = names[first:first + BATCH]
+            numbers = chain.from_iterable(zip(starts[at:at + len(part)], part))
+            file.write((line * len(part) % tuple(numbers)).decode())
+            at += len(part)
 
 
 def converted_whole(options, dump, progress):
@@ -441,7 +466,8 @@ def converted_graph(options, dump, progress):
 
 def graph_told(writer, graph, errors):
     """Says what was written."""
-    print(f"{graph.objects_in_dump} objects in the dump, {len(graph)} hang from {', '.join(graph.starts)}", file=errors)
+    roots = ", ".join(graph.starts) if len(graph.starts) < 9 else f"{graph.starts[0]} and {len(graph.starts) - 1} more roots"
+    print(f"{graph.objects_in_dump} objects in the dump, {len(graph)} hang from {roots}", file=errors)
     if writer.missing:
         print(f"{writer.missing} references to what is not in the dump are null", file=errors)
     print(used_regions(writer.image), file=errors)
@@ -452,7 +478,7 @@ def made(options, progress):
     """The index and the conversion of a dump. Names are written beside."""
     with open(options.dump, "rb") as file, contextlib.ExitStack() as files:
         converted = converted_graph if options.start else converted_whole
-        index, conversion = converted(options, Dump(file, progress), progress)
+        index, conversion = converted(options, Dump(file, progress, not options.start), progress)
         if options.names:
             names = files.enter_context(open(options.names, "w", encoding="utf-8"))
             write_names(names, index, conversion.starts)
@@ -475,13 +501,32 @@ def convert(options, output, errors):
     output.flush()
 
 
+def list_fields(options, output):
+    """Prints the static fields, those first from which most objects hang."""
+    progress = Progress(options.progress)
+    try:
+        with open(options.dump, "rb") as file:
+            lines = field_lines(Dump(file, progress), options.without, options.weak, progress)
+    finally:
+        progress.end()
+    try:
+        output.write("".join(f"{line}\n" for line in lines))
+        output.flush()
+    except BrokenPipeError:  # as by `| head`
+        os.dup2(os.open(os.devnull, os.O_WRONLY), output.fileno())
+        return 141
+    return 0
+
+
 def arguments():
     parser = argparse.ArgumentParser(description=__doc__, formatter_class=argparse.RawDescriptionHelpFormatter)
     parser.add_argument("dump", metavar="DUMP", help="the file of the dump")
     parser.add_argument("sizes", nargs="*", type=int, metavar="W K N",
                         help="words of a region, words of a card, number of regions (default: chosen)")
     parser.add_argument("--from", dest="start", action="append", metavar="CLASS.FIELD",
-                        help="only what hangs from this static field (several times: from these, in this order)")
+                        help="only what hangs from this static field, or from the stack of a thread, as in thread:main (several "
+                             "times: from these, in this order)")
+    parser.add_argument("--fields", action="store_true", help="list the static fields by the number of objects that hang from them")
     parser.add_argument("--without", action="append", default=[], metavar="CLASS.FIELD",
                         help="a field that is null or zero in the image")
     parser.add_argument("--weak", action="store_true", help="weak references keep what they refer to")
@@ -493,7 +538,9 @@ def arguments():
     options = parser.parse_args()
     if len(options.sizes) not in (0, 3):
         parser.error("W, K and N are given together, or none of them")
-    if not options.start and (options.without or options.weak or options.dangling_null):
+    if options.fields and (options.start or options.sizes or options.names or options.blank or options.dangling_null):
+        parser.error("--fields makes no image: only --without, --weak and --progress go with it")
+    if not options.start and not options.fields and (options.without or options.weak or options.dangling_null):
         parser.error("--without, --weak and --dangling-null go with --from")
     return options
 
@@ -501,6 +548,8 @@ def arguments():
 def main():
     options = arguments()
     gc.disable()  # millions of tuples live to the end, and a search among them for cycles takes half of the time
+    if options.fields:
+        return main_of("hprof2image", lambda: list_fields(options, sys.stdout))
     return main_of("hprof2image", lambda: convert(options, sys.stdout.buffer, sys.stderr))
 
 

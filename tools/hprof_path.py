@@ -6,9 +6,8 @@ wrote beside them. LINES are what `g1heap same` said. A line
 
   differ data at root 0 slot 10 slot 3: object 278336 before, object 278336 after; data word 10 is 5 before, 7 after
 
-is printed with the path in the program's names, as Judge.root.cache.table, with what both objects are, and with the
-fields that the data word has, its bytes in hexadecimal, in the order in which the dump has them. Any other line is
-printed as it is.
+is printed with the path in the program's names, as Judge.root.cache.table, with what both objects are, and with each
+field or element in the data word that differs and its values. Any other line is printed as it is.
 Statuses: 0 done; 2 usage; 3 a file is no image or has no names, or the path is not in it; 6 a file can't be read.
 """
 import argparse
@@ -23,8 +22,9 @@ sys.path.insert(0, str(pathlib.Path(__file__).resolve().parent / "lib"))
 from hprof import Refusal, TYPES, main_of  # noqa: E402 (it is in lib/)
 
 WIDTHS = {f"{name}[]": width for name, width in TYPES.values()}
+CODES = {"boolean": "?", "char": "H", "float": "f", "double": "d", "byte": "b", "short": "h", "int": "i", "long": "q"}
 LINE = re.compile(r"differ (\w+) at root (\d+)((?: slot \d+)*): ")
-DATA = re.compile(r"; data word (\d+) is (\d+)(?: \(0x\w+\))? before, (\d+)(?: \(0x\w+\))? after")
+DATA = re.compile(r"; data word (\d+) is \d+(?: \(0x\w+\))? before, \d+(?: \(0x\w+\))? after")
 EARLIER = re.compile(r"; (\d+) (before|after) is (\d+) (before|after) on an earlier path")
 MOST_TEXT = 40  # letters of a string that are shown
 
@@ -64,6 +64,20 @@ def parted(words, slots):
     as many names as the object has slots, if it is `data`, and else the first `data`."""
     border = slots if words[slots:slots + 1] == ["data"] else words.index("data")
     return words[:border], words[border + 1:]
+
+
+def laid_out(words):
+    """The name, the code and the first byte of each field, of the names of an object's data words behind the label, as in
+    value:int,flag:byte. A field that begins in one word and ends in the next has its name in both."""
+    found, end = [], 0
+    for number, word in enumerate(words):
+        for field in word.split(",")[end > 8 * number:]:
+            name, _, kind = field.rpartition(":")
+            if kind not in CODES:
+                raise Refusal(3, f"the names have no type of the field {field}: make them anew")
+            found.append((name, CODES[kind], end))
+            end += struct.calcsize(CODES[kind])
+    return found
 
 
 class Heap:
@@ -150,20 +164,31 @@ class Heap:
         words = self.words(address + 2, (count + 7) // 8)
         return " " + repr(struct.pack(f"<{len(words)}Q", *words)[:count].decode("latin-1"))
 
-    def data_name(self, address, word):
-        """The fields in a data word, or the elements of an array."""
-        kind = self.type_of(address)
-        name, number = numbered(self.parts(address)[1], word)
-        if number is None:
-            return name
-        if kind in WIDTHS:
-            first, count = 8 // WIDTHS[kind] * number, 8 // WIDTHS[kind]
-            return f"elements {first} to {min(first + count, self.length(address)) - 1}"
-        return f"{name}[{number}]"
+    def content(self, address):
+        """The data words of an object."""
+        header, = self.words(address, 1)
+        return self.words(address, header >> 32)[1 + (header & 0xFFFFFFFF):]
+
+    def values(self, address, word):
+        """The fields or the elements in a data word: the bytes of each, and what it is."""
+        names, words, kind = self.parts(address)[1], self.content(address), self.type_of(address)
+        if word and kind in WIDTHS:
+            first, end = (min(8 // WIDTHS[kind] * i, self.length(address)) for i in (word - 1, word))
+            fields = [(f"element {i}", CODES[kind[:-2]], WIDTHS[kind] * i) for i in range(first, end)]
+        elif word and not names[-1].endswith("[]"):
+            fields = [(name, code, at) for name, code, at in laid_out(names[1:])
+                      if 8 * (word - 1) < at + struct.calcsize(code) and at < 8 * word]
+        else:
+            name, number = numbered(names, word)
+            return {name if number is None else f"{name}[{number}]": (words[word], f"{words[word]:#x}")}
+        data = struct.pack(f"<{len(words) - 1}Q", *words[1:])
+        return {name: (data[at:at + struct.calcsize(code)], struct.unpack_from(f"<{code}", data, at)[0]) for name, code, at in fields}
 
 
-def hexadecimal(number):
-    return struct.pack("<Q", int(number)).hex(" ")
+def differences(before, after):
+    """What differs of the fields of two objects. Objects of two types need not have the same ones."""
+    return "".join(f"; {name}: {before[name][1]} before, {after[name][1]} after" for name in before
+                   if name in after and before[name][0] != after[name][0])
 
 
 def translated(before, after, line):
@@ -179,8 +204,7 @@ def translated(before, after, line):
     text = f"differ {kind} at {path}: {before.described(word)} before, {after.described(other)} after"
     data = DATA.search(line)
     if data:
-        fields = before.data_name(word - 1, int(data[1]))
-        text += f"; {fields}: {hexadecimal(data[2])} before, {hexadecimal(data[3])} after"
+        text += differences(before.values(word - 1, int(data[1])), after.values(other - 1, int(data[1])))
     earlier = EARLIER.search(line)
     if earlier:
         sides = {"before": before, "after": after}

@@ -12,6 +12,8 @@ import hashlib
 import io
 import os
 import pathlib
+import random
+import re
 import shlex
 import shutil
 import struct
@@ -29,6 +31,7 @@ sys.path[:0] = [str(TOOLS), str(TOOLS / "lib"), str(HOTSPOT)]
 import across  # noqa: E402
 import hprof  # noqa: E402
 import hprof2image  # noqa: E402
+import hprof_fields  # noqa: E402
 import hprof_graph  # noqa: E402
 import image_text  # noqa: E402
 import judge  # noqa: E402
@@ -110,7 +113,7 @@ def label(name):
 # at 13, the weak reference at 16. The array's slot at 11, on card 2, references region 1.
 WORDS = [
     [header(2, 0), label("pack.Node.class"),
-     header(5, 2), 8, 14, label("pack.Node"), 0x01_07000000,
+     header(5, 2), 8, 14, label("pack.Node"), 0x01_00000007,
      header(6, 4), 3, 0, 1, 17, label("pack.Node[]"),
      header(3, 0), BYTE << 32 | 3, 0x030201],
     [header(6, 4), 0, 0, 0, 0, label("java.lang.ref.WeakReference")],
@@ -120,7 +123,7 @@ root 0 pack.Main.root
 type pack.Node.class slots data class
 label {label("pack.Node.class")} pack.Node.class
 object 0 pack.Node.class @0x11
-type pack.Node slots next other data class value,flag
+type pack.Node slots next other data class value:int,flag:byte
 label {label("pack.Node")} pack.Node
 object 2 pack.Node @0x100
 type pack.Node[] slots [] data class
@@ -175,8 +178,85 @@ class Graphs(unittest.TestCase):
                 self.assertEqual(image, image_of(WORDS, [[], [2], [], []]))
                 self.assertEqual(names, NAMES)
 
+    def test_each_value_has_its_lowest_byte_first(self):
+        """By hand: a byte, a char, a long over two words and a double in an instance of 19 bytes, and arrays of each width. The
+        converter of a whole dump and the one of a part of it write the same data words."""
+        make, numbers = Maker(), {5: (2, "H"), 6: (4, "f"), 10: (4, "i"), 11: (8, "q"), 7: (8, "d")}
+        more = make.kind(0x30, fields=[("small", BYTE), ("letter", 5), ("long", 11), ("double", 7)])
+        more += make.instance(0x900, 0x30, b"\x85" + struct.pack(">Hqd", 0x1234, 0x0102030405060708, 1.5))
+        arrays = {0xA00 + kind: (kind, [1, 2, 3]) for kind in numbers}
+        for name, (kind, values) in arrays.items():
+            more += b"\x23" + make.ids(name) + struct.pack(f">IIB3{numbers[kind][1]}", 0, 3, kind, *values)
+        data = make.heap(array=make.objects(ARRAY, NODES, 0x900, *arrays), more=more)
+        expected = [struct.pack("<BHqd5x", 0x85, 0x1234, 0x0102030405060708, 1.5)]
+        for kind, (width, code) in numbers.items():
+            expected.append(struct.pack("<2Q", header(2 + -(-3 * width // 8), 0), kind << 32 | 3) + struct.pack(f"<3{code}", 1, 2, 3))
+        part, names = converted(data, sizes=None)
+        dump = hprof.Dump(io.BytesIO(data))
+        index = hprof2image.Index(dump)
+        whole = io.BytesIO()
+        hprof2image.Conversion(dump, index, 4096, 64, 2).image.write(whole)
+        for words in expected:
+            self.assertEqual((part.count(words), judged(whole.getvalue()).count(words)), (1, 1))
+        self.assertIn(" data class small:byte,letter:char,long:long long:long,double:double double:double\n", names)
+
+    def test_fields_are_listed_by_what_hangs_from_them(self):
+        """By hand: five objects hang from the root, as in the image. The node that is far behind a weak reference hangs from a
+        field alone, and two fields lead into a circle of three nodes, from which a fourth one hangs."""
+        make = Maker()
+        fields = [("far", FAR), ("circle", 0x900), ("way", 0x903), ("nothing", 0), ("nowhere", NOWHERE)]
+        more = make.kind(0x31, statics=[(name, REFERENCE, make.ids(value)) for name, value in fields])
+        more += b"".join(make.node(name, following, 0, other, 0) for name, following, other in
+                         ((0x900, 0x901, 0), (0x901, 0x902, 0), (0x902, 0x900, 0x904), (0x903, 0x901, 0), (0x904, 0, 0)))
+        dump = hprof.Dump(io.BytesIO(make.heap(more=more)))
+        lines = hprof_fields.field_lines(dump)
+        self.assertEqual(lines, ["5 class@31.way", "5 pack.Main.root", "4 class@31.circle", "1 class@31.far"])
+        lines = hprof_fields.field_lines(dump, weak=True)
+        self.assertEqual(lines[0], "6 pack.Main.root")
+
+    def test_what_hangs_is_counted_as_one_walk_after_the_other_counts_it(self):
+        chance = random.Random(1)
+        for size in [*range(1, 12)] * 40:
+            references = {i: tuple(chance.randrange(-1, size + 2) for _ in range(chance.randrange(3))) for i in range(size)}
+            expected = {}
+            for start in references:
+                found = [start]
+                for name in found:
+                    found += dict.fromkeys(target for target in references[name] if target in references and target not in found)
+                expected[start] = len(found)
+            self.assertEqual(hprof_fields.counted(references, range(-1, size + 2)), expected, references)
+
+    def threads(self, *frames, coder=0, text=b"main", old=False):
+        """A dump with a thread, and what its frames hold. An old string has chars."""
+        make, thread, string, letters = Maker(), 0x40, 0x41, 0x42
+        kind, count, fields = (5, len(text) // 2, [("hash", INT)]) if old else (BYTE, len(text), [("coder", BYTE)])
+        more = {thread: "java/lang/Thread", string: "java/lang/String"}
+        classes = [make.kind(OBJECT, 0), make.kind(MAIN), make.kind(thread, fields=[("name", REFERENCE)]),
+                   make.kind(0x43, thread, [("own", REFERENCE)]), make.kind(string, fields=[("value", REFERENCE), *fields]), make.kind(NODE, fields=[("next", REFERENCE)])]
+        parts = [make.instance(0x900, 0x43, make.ids(0, 0x901)),
+                 make.instance(0x901, string, make.ids(letters) + (bytes(4) if old else bytes([coder]))),
+                 b"\x23" + make.ids(letters) + struct.pack(">IIB", 0, count, kind) + text,
+                 *(make.instance(name, NODE, make.ids(following)) for name, following in ((0x100, 0x101), (0x101, 0), (0x102, 0)))]
+        parts += [b"\x08" + make.ids(0x900) + struct.pack(">II", 7, 0)]
+        parts += [bytes([tag]) + make.ids(name) + struct.pack(">II", number, frame) for tag, name, number, frame in frames]
+        return make.dump(classes, parts, more=more)
+
+    def test_what_a_thread_holds_is_there_frame_by_frame(self):
+        """By hand: two frames of thread 7, and one of another thread. A frame holds an object twice."""
+        frames = ((3, 0x102, 8, 0), (3, 0x101, 7, 2), (3, 0x100, 7, 1), (2, 0x100, 7, 1))
+        _, names = converted(self.threads(*frames), "thread:main")
+        self.assertEqual([line for line in names.splitlines() if line.startswith("root")],
+                         ["root 0 thread:main[0]", "root 1 thread:main[1]", "root 2 thread:main[2]"])
+        self.assertEqual(re.findall(r"@(\w+)$", names, re.M), ["0x100", "0x101"])
+        _, names = converted(self.threads(*frames, coder=1, text="a б".encode("utf-16-le")), "thread:a б")
+        self.assertIn("root 2 thread:a_б[2]", names)
+        _, names = converted(self.threads(*frames, old=True, text="main".encode("utf-16-be")), "thread:main")
+        self.assertIn("root 2 thread:main[2]", names)
+        self.refused(2, "^thread:man: the dump has no thread 'man': is it main", self.threads(), "thread:man")
+        self.assertEqual(converted(self.threads(), "thread:main")[1], "")
+
     def test_a_blank_image_has_labels_alone(self):
-        words = [[0 if word in (0x01_07000000, 0x030201) else word for word in part] for part in WORDS]
+        words = [[0 if word in (0x01_00000007, 0x030201) else word for word in part] for part in WORDS]
         self.assertEqual(converted(Maker().heap(), blank=True)[0], image_of(words, [[], [2], [], []]))
 
     def test_a_field_can_be_left_out(self):
@@ -222,8 +302,7 @@ class Graphs(unittest.TestCase):
         starts = [int(line.split(" ")[1]) for line in names.splitlines() if " class@30 @" in line]
         self.assertEqual(starts, [8, 11, *(16 * (4 + i // 5) + 3 * (i % 5) for i in range(38))])
         for name in numbers:
-            word, = struct.unpack("<Q", struct.pack(">i", name) + bytes(4))
-            self.assertEqual(image.count(struct.pack("<3Q", header(3, 0), label("class@30"), word)), 1)
+            self.assertEqual(image.count(struct.pack("<3Q", header(3, 0), label("class@30"), name)), 1)
 
     def nodes(self, *nodes, more=b"", fields=(), root=0x100):
         """A dump whose field `root` leads to the first of these nodes: each has a name and what its two slots reference."""
@@ -238,7 +317,7 @@ class Graphs(unittest.TestCase):
         """By hand: nodes of five words at 0, 5, 10 and 16. The slots at 2, 7 and 12, on the cards 0, 1 and 3, reference the
         last one. That references the first and the second, by slots on card 4."""
         image, _ = converted(self.nodes((0x100, 0x200, 0x400), (0x200, 0x300, 0x400), (0x300, 0, 0x400), (0x400, 0x100, 0x200)))
-        head, data = [header(5, 2)], [label("pack.Node"), 0x01_07000000]
+        head, data = [header(5, 2)], [label("pack.Node"), 0x01_00000007]
         words = [[*head, 6, 17, *data, *head, 11, 17, *data, *head, 0, 17, *data], [*head, 1, 6, *data]]
         self.assertEqual(image, image_of(words, [[4], [0, 1, 3], [], []], root=1))
 
@@ -258,7 +337,7 @@ class Graphs(unittest.TestCase):
         more = Maker().instance(0x900, CLASS, Maker().ids(0x200) + bytes(4))
         fields = [("loader", REFERENCE), ("hash", INT)]
         image, names = converted(self.nodes((0x100, 0x900, 0), (0x200, 0, 0), more=more, fields=fields))
-        words = [[header(5, 2), 6, 0, label("pack.Node"), 0x01_07000000, header(2, 0), label("primitive.class")]]
+        words = [[header(5, 2), 6, 0, label("pack.Node"), 0x01_00000007, header(2, 0), label("primitive.class")]]
         self.assertEqual(image, image_of(words, [[], [], [], []], root=1))
         self.assertIn("type primitive.class slots data class\n", names)
         self.assertNotIn("@0x200", names)
@@ -272,7 +351,7 @@ class Graphs(unittest.TestCase):
         _, names = converted(make.dump(classes, parts, more={0x30: "pack/Pair", 0x31: "pack/Pair"}))
         found = [line for line in names.splitlines() if "pack.Pair" in line]
         number = label("pack.Pair")
-        self.assertEqual(found, ["type pack.Pair slots data class first", f"label {number} pack.Pair", "object 4 pack.Pair @0x900",
+        self.assertEqual(found, ["type pack.Pair slots data class first:int", f"label {number} pack.Pair", "object 4 pack.Pair @0x900",
                                  "type pack.Pair#2 slots second data class", f"label {number} pack.Pair#2",
                                  "object 7 pack.Pair#2 @0x901"])
 
@@ -287,10 +366,17 @@ class Graphs(unittest.TestCase):
         self.assertEqual(hprof2image.chosen([(8, 3 << 19)]), (4096, 64, 4096))
 
     def test_a_heap_that_is_too_large_is_refused_with_what_would_fit(self):
-        text = "33,554,432 words, and a heap has at most 16,777,216: 50 of 100"
+        text = "536,870,912 words, and a heap has at most 268,435,456: 50 of 100"
         with self.assertRaisesRegex(hprof.Refusal, text) as caught:
-            hprof2image.chosen([(8, 1 << 22)])
+            hprof2image.chosen([(8, 1 << 26)])
         self.assertEqual(caught.exception.status, 5)
+
+    def test_what_g1pause_takes_is_chosen_if_the_objects_fit(self):
+        """Two objects fill a region of 4,096 words, and 4,096 such regions are the most that g1pause takes. One object more takes
+        2,049 regions of 8,192 words, or 1,025 of 16,384: then as many stay free. All 2^28 words of a heap leave none."""
+        self.assertEqual(hprof2image.chosen([(2048, 8192)]), (4096, 64, 4096))
+        self.assertEqual(hprof2image.chosen([(2048, 8193)]), (16384, 64, 2050))
+        self.assertEqual(hprof2image.chosen([(1 << 22, 64)]), (65536, 64, 4096))
 
     def test_a_dump_that_is_too_large_is_refused_before_it_is_sorted_or_written(self):
         """By hand: the dump's six objects have 5 + 5 + 6 + 3 + 6 + 5 words, and its classes 6 * 6 + 8. Of what hangs from
@@ -300,10 +386,21 @@ class Graphs(unittest.TestCase):
         self.assertEqual(caught.exception.status, 5)
         with unittest.mock.patch.object(hprof, "MOST_WORDS", 74):
             hprof2image.Index(hprof.Dump(io.BytesIO(Maker().heap())))
-        with unittest.mock.patch.object(hprof, "MOST_WORDS", 15):
-            self.refused(5, "^what hangs from the fields takes at least 16 words", Maker().heap())
-        with unittest.mock.patch.object(hprof, "MOST_WORDS", 16):
-            converted(Maker().heap())
+        with unittest.mock.patch.object(hprof, "MOST_WORDS", 19):
+            self.refused(5, "^what hangs from the fields takes at least 20 words, and a heap has at most 19. Dump", Maker().heap())
+
+    def test_a_dump_that_is_too_large_is_refused_while_it_is_read(self):
+        """By hand: at least 2 + 3 words for each of the three nodes, whose fields have 21 bytes (of identifiers of 8 bytes), 6
+        for the array, 3 for the bytes, and 6 for the weak reference. What was read is looked at behind each step."""
+        with unittest.mock.patch.object(hprof, "STEP", 1), unittest.mock.patch.object(hprof, "BOUND_STEP", 1):
+            with unittest.mock.patch.object(hprof, "MOST_WORDS", 29), self.assertRaises(hprof.Refusal) as caught:
+                hprof.Dump(io.BytesIO(Maker().heap()), is_whole=True)
+            with unittest.mock.patch.object(hprof, "MOST_WORDS", 30):
+                hprof.Dump(io.BytesIO(Maker().heap()), is_whole=True)
+            with unittest.mock.patch.object(hprof, "MOST_WORDS", 0):
+                hprof.Dump(io.BytesIO(Maker().heap()))
+        self.assertEqual(caught.exception.status, 5)
+        self.assertRegex(str(caught.exception), "^the objects take at least 30 words, and a heap has at most 29. Dump")
 
     def test_a_dump_that_would_fill_the_memory_is_refused(self):
         with unittest.mock.patch.object(hprof_graph, "free_memory", lambda: 13 * hprof_graph.OBJECT_BYTES - 1):
@@ -405,6 +502,22 @@ class TwoJudges(unittest.TestCase):
         self.assertEqual(self.judged(self.SAME, self.MOVED), (f"{self.SAME}, moved 3, ran Young 2", True))
         self.assertEqual(self.compared(self.SAME, self.MOVED), (self.SAME, True))
 
+    def test_a_run_in_which_nothing_moved_judges_nothing(self):
+        still = self.MOVED.replace("3 of", "0 of")
+        self.assertEqual(self.judged(self.SAME, still), (f"{self.SAME}, moved 0, ran Young 2: judged nothing", None))
+        self.assertEqual(self.compared(self.SAME, still), (self.SAME, True))  # of two runs no object is the same one
+
+    def test_a_collector_that_moved_nothing_in_any_run_fails(self):
+        java = argparse.Namespace(version="17")
+        options = argparse.Namespace(collection=None, objects=9)
+        for found, expected in (([True, None, True], [True, True]), ([None, None, None], [False]), ([None, False, None], [False]),
+                                ([None, True, False], [True, False])):
+            with unittest.mock.patch.object(judge, "judged", side_effect=[("a line", good) for good in found]), \
+                    contextlib.redirect_stdout(io.StringIO()) as out:
+                self.assertEqual(judge.judged_runs("g1heap", java, "Serial", [], options, None), expected)
+            end = ["17 Serial: no object moved in any run"] if found == [None] * 3 else []
+            self.assertEqual(out.getvalue().splitlines(), [f"17 Serial {how}: a line" for how in judge.HOW] + end)
+
     def test_a_collector_that_has_not_run_fails(self):
         said = "before | Young 3 | Old 1\nafter | Young 3 | Old 1\n"
         self.assertEqual(self.judged(self.SAME, self.MOVED, said), ("the collector has not run", False))
@@ -484,13 +597,12 @@ class Commands(unittest.TestCase):
     def test_a_difference_is_said_in_the_programs_names(self):
         self.made("before", Maker().heap())
         self.made("after", Maker().heap(flag=3))
-        lines = ["differ data at root 0 slot 0 slot 0: object 2 before, object 2 after; data word 1 is 4412407808 before, "
-                 "13002342400 after",
+        lines = ["differ data at root 0 slot 0 slot 0: object 2 before, object 2 after; data word 1 is 4294967303 before, "
+                 "12884901895 after",
                  "differ null at root 0 slot 0 slot 3 slot 1: null before, null after",
                  "differ split at root 0 slot 1: object 13 before, object 13 after; 13 before is 7 after on an earlier path",
                  "differ roots: 1 before, 2 after", "same objects 5 words 22"]
-        expected = ["differ data at pack.Main.root.next[0]: pack.Node @0x100 before, pack.Node @0x100 after; value,flag: "
-                    "00 00 00 07 01 00 00 00 before, 00 00 00 07 03 00 00 00 after",
+        expected = ["differ data at pack.Main.root.next[0]: pack.Node @0x100 before, pack.Node @0x100 after; flag: 1 before, 3 after",
                     "differ null at pack.Main.root.next[3].queue: null before, null after",
                     "differ split at pack.Main.root.other: byte[] of 3 @0x300 before, byte[] of 3 @0x300 after; byte[] of 3 "
                     "@0x300 before is pack.Node[] of 4 @0x200 after on an earlier path", *lines[3:]]
@@ -502,6 +614,49 @@ class Commands(unittest.TestCase):
         self.assertEqual((status, out, errors.count("\n")), (3, b"", 1))
         status, out, errors = self.call("hprof_path.py", "before.names", *files[1:], given=b"")
         self.assertEqual((status, out, errors.count("\n")), (3, b"", 1))
+
+    def test_values_are_said_by_field_and_element(self):
+        """By hand: a long over two words, a float, chars and doubles; in word 1 two of three fields differ."""
+        def heap(small, long, number, letters, doubles):
+            make = Maker()
+            kind = make.kind(0x30, fields=[("small", BYTE), ("same", 5), ("long", 11), ("number", 6)])
+            more = kind + make.instance(0x900, 0x30, struct.pack(">bHqf", small, 7, long, number))
+            for name, code, type_, values in ((0xA00, "H", 5, letters), (0xB00, "d", 7, doubles)):
+                more += b"\x23" + make.ids(name) + struct.pack(f">IIB{len(values)}{code}", 0, len(values), type_, *values)
+            return make.heap(array=make.objects(ARRAY, NODES, 0x900, 0xA00, 0xB00), more=more)
+        before, after = heap(-1, 5, 1.5, [1, 2, 3, 4, 5], [0.0, 2.5]), heap(-2, 2711, 2.5, [1, 2, 3, 9, 6], [-0.0, 2.5])
+        for name, data in (("before", before), ("after", after)):
+            (self.folder / f"{name}.hprof").write_bytes(data)
+            words = ["--from", "pack.Main.root", "--names", f"{name}.names", f"{name}.hprof"]
+            (self.folder / f"{name}.img").write_bytes(self.call("hprof2image.py", *words)[1])
+        files = ["before.img", "before.names", "after.img", "after.names"]
+        start = "differ data at root 0 slot 0 slot {}: object 9 before, object 9 after; data word {} is 1 (0x1) before, 2 (0x2) after"
+        for slot, word, expected in ((0, 1, "small: -1 before, -2 after; long: 5 before, 2711 after"),
+                                     (0, 2, "long: 5 before, 2711 after; number: 1.5 before, 2.5 after"),
+                                     (1, 1, "element 3: 4 before, 9 after"), (1, 2, "element 4: 5 before, 6 after"),
+                                     (2, 1, "element 0: 0.0 before, -0.0 after")):
+            status, out, errors = self.call("hprof_path.py", *files, given=start.format(slot, word).encode())
+            self.assertEqual((status, errors, out.decode().partition("; ")[2]), (0, "", f"{expected}\n"))
+        old = (self.folder / "before.names").read_text().replace("small:byte", "small")
+        (self.folder / "before.names").write_text(old)
+        status, out, errors = self.call("hprof_path.py", *files, given=start.format(0, 1).encode())
+        self.assertEqual((status, out, errors), (3, b"", "hprof_path: the names have no type of the field small: make them anew\n"))
+
+    def test_fields_are_listed_on_standard_output(self):
+        (self.folder / "dump").write_bytes(Maker().heap())
+        self.assertEqual(self.call("hprof2image.py", "--fields", "dump"), (0, b"5 pack.Main.root\n", ""))
+        self.assertEqual(self.call("hprof2image.py", "--fields", "--without", "pack.Node.other", "dump"), (0, b"4 pack.Main.root\n", ""))
+        for words in (["--from", "pack.Main.root"], ["16", "4", "4"], ["--names", "names"], ["--blank"]):
+            status, out, errors = self.call("hprof2image.py", "--fields", "dump", *words)
+            self.assertEqual((status, out), (2, b""))
+            self.assertIn("--fields makes no image", errors)
+        self.assertEqual(self.call("hprof2image.py", "--fields", "nothing")[0], 6)
+        reader, writer = os.pipe()
+        os.close(reader)
+        done = subprocess.run([sys.executable, str(TOOLS / "hprof2image.py"), "--fields", "dump"], stdout=writer, stderr=subprocess.PIPE,
+                              cwd=self.folder, timeout=60, check=False)
+        os.close(writer)
+        self.assertEqual((done.returncode, done.stderr), (141, b""))
 
     def test_bad_input_is_one_line_and_a_status(self):
         (self.folder / "text").write_text("no dump at all, and long enough to be one\n")
@@ -568,6 +723,27 @@ class Commands(unittest.TestCase):
         words = ["--only", "Serial", "--collection", "full", str(self.folder / "link"), str(self.folder / "folder/java")]
         _status, out, _errors = self.with_java("exit 7", "judge.py", *words)
         self.assertEqual(out, "17.0.1 Serial full: java ended with status 7: it said nothing\n0 passed, 1 failed\n")
+
+    def test_a_java_that_does_not_work_does_not_keep_the_others_from_being_judged(self):
+        """A javac ends with an exception and a stack of calls below it; another java is not there."""
+        (self.folder / "bad").mkdir()
+        text = 'case "$*" in *-version*) echo version \'"21.0.1"\' >&2; exit;; esac'
+        javac = "echo 'Exception in thread \"main\" java.lang.Bad: why' >&2; echo '\tat Main.main(Main.java:50)' >&2; exit 4"
+        for name, body in (("java", text), ("javac", javac)):
+            (self.folder / "bad" / name).write_text(f"#!/bin/sh\n{body}\n")
+            (self.folder / "bad" / name).chmod(0o755)
+        bad = [f"{self.folder}/bad/javac: status 4: Exception in thread \"main\" java.lang.Bad: why: NOT JUDGED",
+               "there is no java 'no-such-java': NOT JUDGED"]
+        words = [f"{self.folder}/bad/java", "no-such-java"]
+        for script in ("across.py", "plants.py"):
+            self.assertEqual(self.with_java("exit 7", script, *words)[1].splitlines()[:2], bad)
+        status, out, errors = self.with_java("exit 7", "judge.py", "--only", "Serial", "--collection", "full", *words)
+        lines = [*bad, "17.0.1 Serial full: java ended with status 7: it said nothing", "0 passed, 3 failed"]
+        self.assertEqual((status, out.splitlines(), errors), (1, lines, ""))
+        done = subprocess.run([sys.executable, str(HOTSPOT / "judge.py"), *words], capture_output=True, text=True, check=False,
+                              env=dict(os.environ, G1HEAP=sys.executable), timeout=60)
+        said = "; ".join(line.removesuffix(": NOT JUDGED") for line in bad)
+        self.assertEqual((done.returncode, done.stdout, done.stderr), (2, "", f"judge: {said}\n"))
 
     def test_numbers_that_are_none_are_refused(self):
         for script, option in (("judge.py", "--objects"), ("across.py", "--steps"), ("plants.py", "--seeds"), ("pause.py", "--objects")):

@@ -9,7 +9,8 @@ can't show: a barrier that loses a reference, or a slot that is updated while th
 
 A field that differs from run to run without an error has to be left out. One is java.lang.String.hash, since other code
 of the JVM may ask a shared string for its hash. Others are tables that are ordered by identity hashes. If no --without is
-given, both are left out for Judge.java. The last line is 'N passed, M failed'.
+given, both are left out for Judge.java. A JAVA that does not work has a line that says why, and counts as one failure. The
+last line is 'N passed, M failed'.
 Statuses: 0 all passed; 1 a run failed; 2 usage, or a program is not there.
 """
 import argparse
@@ -47,10 +48,11 @@ def compared(heap, first, dump, left_out):
 
 
 def work(options):
-    heap, passed, failed = jvm.heap_program(), 0, 0
+    heap, passed = jvm.heap_program(), 0
     with tempfile.TemporaryDirectory() as folder:
         room = pathlib.Path(folder)
-        for java in jvm.javas(options.java, room):
+        javas, failed = jvm.working(options.java, room)
+        for java in javas:
             left_out = left_out_for(java, options)
             dump, _ = run_once(java, jvm.COLLECTORS["Serial"], options, room, f"first_{java.version}")
             first = dump, jvm.convert(dump, left_out)

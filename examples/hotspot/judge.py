@@ -8,7 +8,9 @@ Python, which shares nothing with these, compares the dumps themselves, and coun
 script prints a line for each run.
 
 A run fails if one of the judges finds a difference, if their numbers of objects or words differ, or if the collector
-did not run between the dumps. The last line is 'N passed, M failed'.
+did not run between the dumps. A run in which no object moved judges nothing, and does not count; a collector without any
+other run fails. A JAVA that does not work has a line that says why, and counts as one failure. The last line is 'N passed,
+M failed'.
 Statuses: 0 all passed; 1 a run failed; 2 usage, or a program is not there.
 """
 import argparse
@@ -37,7 +39,7 @@ def collections(said):
 
 
 def judged(heap, java, options, how, objects, room):
-    """The line of one run, and whether it passed."""
+    """The line of one run, and whether it passed. That is None if no object moved."""
     said = java.run(options, "Judge", objects, STEPS, room / "dump", how)
     if "another identity hash" in said:
         return "an object has another identity hash", False
@@ -52,31 +54,39 @@ def judged(heap, java, options, how, objects, room):
     same = re.fullmatch(r"(same objects \d+ words \d+), (\d+) of them at another address", plain)
     if not same or same[1] != line:
         return f"{line}\n    plain judge: {plain}", False
-    return f"{line}, moved {same[2]}, ran {ran}", True
+    moved = int(same[2])
+    return f"{line}, moved {moved}, ran {ran}" + ("" if moved else ": judged nothing"), True if moved else None
 
 
-def runs(options, room):
-    """Each java with each of its collectors, and each kind of collection."""
-    for java in jvm.javas(options.java, room):
-        for name, flags in java.collectors():
-            if options.only in (None, name):
-                yield from ((java, name, flags, how) for how in options.collection or HOW)
+def judged_runs(heap, java, name, flags, options, room):
+    """Whether each run under a collector passed. Each has its line, and so has a collector that moved nothing."""
+    found = []
+    for how in options.collection or HOW:
+        try:
+            line, good = judged(heap, java, flags, how, options.objects, room)
+        except jvm.TooLarge:
+            raise
+        except jvm.Problem as problem:
+            line, good = str(problem), False
+        print(f"{java.version} {name} {how}: {line}", flush=True)
+        found.append(good)
+    if not any(good is not None for good in found):
+        print(f"{java.version} {name}: no object moved in any run", flush=True)
+        found = [False]
+    return [good for good in found if good is not None]
 
 
 def work(options):
-    heap, passed, failed = jvm.heap_program(), 0, 0
+    heap, passed = jvm.heap_program(), []
     with tempfile.TemporaryDirectory() as folder:
         room = pathlib.Path(folder)
-        for java, name, flags, how in runs(options, room):
-            try:
-                line, good = judged(heap, java, flags, how, options.objects, room)
-            except jvm.TooLarge:
-                raise
-            except jvm.Problem as problem:
-                line, good = str(problem), False
-            print(f"{java.version} {name} {how}: {line}", flush=True)
-            passed, failed = passed + good, failed + (not good)
-    print(f"{passed} passed, {failed} failed")
+        javas, failed = jvm.working(options.java, room)
+        for java in javas:
+            for name, flags in java.collectors():
+                if options.only in (None, name):
+                    passed += judged_runs(heap, java, name, flags, options, room)
+    failed += passed.count(False)
+    print(f"{passed.count(True)} passed, {failed} failed")
     return 1 if failed or not passed else 0
 
 

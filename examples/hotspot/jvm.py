@@ -97,7 +97,7 @@ class Java:
             raise Problem(f"{command}: there is no javac beside it, and none on the path")
         status, _, errors = run(javac, "-nowarn", "-d", self.classes, *(HERE / source for source in sources))
         if status:
-            raise Problem(f"{javac}: {last_line(errors)}")
+            raise Problem(f"{javac}: status {status}: {failure_of(errors)}")
 
     def collectors(self):
         """The collectors that this java has, with their options."""
@@ -116,12 +116,22 @@ class Java:
         return out
 
 
-def javas(commands, room, sources=("Judge.java",)):
-    """The javas of these commands, each once: /usr/lib/jvm has links beside the folders that they lead to."""
-    once = {}
+def working(commands, room, sources=("Judge.java",)):
+    """The javas of these commands that work, each once: /usr/lib/jvm has links beside the folders that they lead to. Each
+    other one has a line that says why, and they are counted. If none works, there is nothing to judge."""
+    once, found, problems = {}, [], []
     for command in commands:
         once.setdefault(os.path.realpath(shutil.which(command) or command), command)
-    return [Java(command, room, sources) for command in once.values()]
+    for command in once.values():
+        try:
+            found.append(Java(command, room, sources))
+        except Problem as problem:
+            problems.append(str(problem) if command in str(problem) else f"{command}: {problem}")
+    if not found:
+        raise Problem("; ".join(problems))
+    for problem in problems:
+        print(f"{problem}: NOT JUDGED", flush=True)
+    return found, len(problems)
 
 
 def convert(dump, left_out=()):

@@ -1,13 +1,11 @@
 #!/usr/bin/env python3
-"""Sets pauses of HotSpot's G1 beside ours: pause.py [--programs FOLDER] [--objects N] [--only NAME] JAVA
+"""Sets pauses of HotSpot's G1 beside ours: pause.py [--region MIB] [--objects N] [--only NAME] JAVA
 
 PausePoint.java makes G1 pause once between two dumps of its heap: for a young pause, for a mixed one, and for a young
 one after large arrays have died. The first dump becomes an image in which each object has its own size, region and
-address. g1pause then evacuates the collection set that G1 chose. G1's figures come from its log.
-
-G1's least region has 131,072 words, and an image's largest has 65,536. So the script copies this repository, raises
-that one constant in the copy, and builds g1pause there without any proof, which takes some minutes. --programs FOLDER
-keeps the program in FOLDER for the next call, and takes the one that is there from an earlier one.
+address. `g1heap pause` then evacuates the collection set that G1 chose. G1's figures come from its log. The regions are G1's
+own: of 1 MiB, or of as many as --region says (1, 2, 4, 8, 16 or 32). The program is that of out/, or G1HEAP in the
+environment.
 
 JAVA is a JDK 25. Later ones may have other options; earlier ones write another log. The last line is 'N passed, M
 failed': a pause passes if each object fits into its place, and cards and bytes are within 5 percent of G1's.
@@ -29,19 +27,14 @@ sys.path[:0] = [str(jvm.TOP / "tools"), str(jvm.TOP / "tools" / "lib")]
 
 from hprof import CLASS, INSTANCE, Dump, Refusal, instance_shape  # noqa: E402
 from hprof2image import CONTINUATION, FIRST, FREE, ORDINARY, Image, Index  # noqa: E402
-import unproved  # noqa: E402
 
 HOW = ("young", "mixed", "humongous")
-WIDTH, CARD, MEGABYTES = 1 << 17, 64, 120
+MEGABYTE, CARD, MEGABYTES = 1 << 17, 64, 120  # the first two count words
 MOST_APART = 0.05
 SOURCES = ("Judge.java", "PausePoint.java", "jdk/test/whitebox/WhiteBox.java")
-# The constant in the program and in its specification.
-RAISED = (("crates/g1_words/src/geometry.rt", "const MOST_REGION_WORDS: u64 = 65_536;",
-           "const MOST_REGION_WORDS: u64 = 131_072;"),
-          ("crates/g1_words/specs/Geometry.antt", "most_region_words = 65536", "most_region_words = 131072"))
 # With neither compressed references nor compressed classes a slot is a word, and a header is two.
 FLAGS = ["-XX:+UseG1GC", "-XX:+UnlockDiagnosticVMOptions", "-XX:+UnlockExperimentalVMOptions", "-XX:+WhiteBoxAPI",
-         f"-Xms{MEGABYTES}m", "-XX:G1HeapRegionSize=1m", "-XX:-UseCompressedOops", "-XX:-UseCompressedClassPointers",
+         f"-Xms{MEGABYTES}m", "-XX:-UseCompressedOops", "-XX:-UseCompressedClassPointers",
          "-XX:-UseCompactObjectHeaders", "-Xshare:off", "-XX:ParallelGCThreads=2"]
 # No pause but those that are asked for, and as many old regions in the mixed one as G1 may take.
 CHOICE = ["-XX:+ExplicitGCInvokesConcurrent", "-XX:G1NewSizePercent=40", "-XX:MaxGCPauseMillis=5000",
@@ -51,20 +44,6 @@ LOG = "gc*=debug,gc+heap+region=trace,gc+region=trace,gc+phases=trace,gc+ergo+cs
 WEAK = ("java.lang.ref.WeakReference", "java.lang.ref.PhantomReference")
 WEAK_FIELDS = ("java.lang.ref.Reference.referent", "java.lang.ref.Reference.discovered")
 ROW = re.compile(r"\|\s*(\d+)\|0x(\w+), 0x(\w+), 0x\w+\|\s*\d+%\|\s*(\w+)\|")
-
-
-def raised_program(folder):
-    """The g1pause of a copy of the repository in which a region may have twice as many words."""
-    program = folder / "g1pause"
-    if program.exists():
-        return program
-    folder.mkdir(parents=True, exist_ok=True)
-    print("building g1pause with a raised limit, without any proof", flush=True)
-    try:
-        unproved.build_changed(jvm.TOP, RAISED, "g1pause", program)
-    except unproved.NotBuilt as error:
-        raise jvm.Problem(jvm.last_line(str(error))) from None
-    return program
 
 
 class Pause:
@@ -150,12 +129,12 @@ def size_of(shape, tag, room):
 class OwnImage:
     """The image of a dump with each object in its own place: word (address - bottom of the heap) / 8."""
 
-    def __init__(self, index, pause):
-        self.index, self.regions = index, pause.before
+    def __init__(self, index, pause, width):
+        self.index, self.regions, self.width = index, pause.before, width
         self.base = min(bottom for bottom, _, _ in self.regions.values())
         count = len(self.regions)
         self.layout = types.SimpleNamespace(kinds=[FREE] * count, tops=[0] * count)
-        self.image = Image(self.layout, WIDTH, CARD, count)
+        self.image = Image(self.layout, self.width, CARD, count)
         self.image.kinds, self.image.tops = self.layout.kinds, self.layout.tops
         self.objects = [found for found in index.by_address() if self.is_used(found[0])]
         self.words = {name: self.word(name) + 1 for name, _, _ in self.objects}
@@ -168,14 +147,14 @@ class OwnImage:
         return (address - self.base) >> 3
 
     def is_used(self, address):
-        region = self.word(address) // WIDTH
+        region = self.word(address) // self.width
         return address >= self.base and region < len(self.regions) and self.regions[region][2] != "F"
 
     def put_objects(self):
         """Region by region, so that what lies between two objects is seen."""
         names = [name for name, _, _ in self.objects]
         for region, (bottom, top, kind) in sorted(self.regions.items()):
-            first, end = (bisect.bisect_left(names, address) for address in (bottom, bottom + 8 * WIDTH))
+            first, end = (bisect.bisect_left(names, address) for address in (bottom, bottom + 8 * self.width))
             if kind == "HS":
                 self.put_humongous(region, self.objects[first])
             elif kind not in ("F", "HC"):
@@ -183,16 +162,16 @@ class OwnImage:
 
     def put_humongous(self, region, found):
         size = found[1].size + 1
-        self.put(found, region * WIDTH, size)
-        if 4 * size <= 3 * WIDTH:  # HotSpot's humongous objects begin at half a region, ours at three quarters
+        self.put(found, region * self.width, size)
+        if 4 * size <= 3 * self.width:  # HotSpot's humongous objects begin at half a region, ours at three quarters
             self.layout.kinds[region], self.layout.tops[region] = ORDINARY, size
             return
-        for at, left in enumerate(range(size, 0, -WIDTH)):
+        for at, left in enumerate(range(size, 0, -self.width)):
             self.layout.kinds[region + at] = CONTINUATION if at else FIRST
-            self.layout.tops[region + at] = min(left, WIDTH)
+            self.layout.tops[region + at] = min(left, self.width)
 
     def put_region(self, region, found, top):
-        end = region * WIDTH
+        end = region * self.width
         starts = [self.word(name) for name, _, _ in found]
         for one, start, after in zip(found, starts, [*starts[1:], top]):
             if start > end:
@@ -203,7 +182,7 @@ class OwnImage:
             self.put(one, start, size)
             end = start + size
         self.layout.kinds[region] = ORDINARY if found else FREE
-        self.layout.tops[region] = end - region * WIDTH
+        self.layout.tops[region] = end - region * self.width
 
     def put_dead(self, at, size):
         """A dead object where the dump has none."""
@@ -223,7 +202,7 @@ class OwnImage:
     def cards_into(self, chosen):
         """The cards outside the regions that have a slot into them."""
         cards = set().union(*(self.image.cards[region] for region in chosen))
-        return {card for card in cards if card * CARD // WIDTH not in chosen}
+        return {card for card in cards if card * CARD // self.width not in chosen}
 
 
 def own_pause(program, image, chosen, room):
@@ -233,11 +212,11 @@ def own_pause(program, image, chosen, room):
     with open(before, "wb") as file:
         image.write(file)
     said = []
-    for words in (["live"], ["choose", "--budget", "0"], ["pause", *map(str, chosen)]):
-        with open(before, "rb") as file:
-            done = subprocess.run([program, *words], stdin=file, capture_output=True, check=False)
+    collected = ["--set", ",".join(map(str, chosen))] if chosen else []
+    for words in (["live"], ["choose", "--budget", "0"], ["pause", *collected]):
+        done = subprocess.run([program, *words, before], capture_output=True, check=False)
         if done.returncode:
-            raise jvm.Problem(f"g1pause {words[0]}: {jvm.last_line(done.stderr.decode(errors='replace'))}")
+            raise jvm.Problem(f"g1heap {words[0]}: {jvm.last_line(done.stderr.decode(errors='replace'))}")
         said.append(done.stdout)
     live = [int(line.split()[-1]) for line in said[0].decode().splitlines()]
     order = [int(number) for number in re.findall(r"^region (\d+) ", said[1].decode(), re.M)]
@@ -248,18 +227,18 @@ def near(ours, theirs):
     return abs(ours - theirs) <= MOST_APART * max(ours, theirs)
 
 
-def compared(program, java, how, objects, room):
+def compared(options, program, java, how, room):
     """The lines of one pause, and whether it passed."""
     log = room / "gc.log"
     log.unlink(missing_ok=True)
     boot = f"-Xbootclasspath/a:{java.classes}"
-    java.run([boot, *FLAGS, *CHOICE, f"-Xlog:{LOG}:file={log}:uptime,tags"], "PausePoint", objects, 100_000,
-             room / "pause", how)
+    java.run([boot, *FLAGS, f"-XX:G1HeapRegionSize={options.region}m", *CHOICE, f"-Xlog:{LOG}:file={log}:uptime,tags"],
+             "PausePoint", options.objects, 100_000, room / "pause", how)
     pause = Pause(log)
     if (pause.kind == "Mixed") != (how == "mixed"):
         raise jvm.Problem(f"G1 made a pause '{pause.kind}'")
     with open(room / "pause_before.hprof", "rb") as file:
-        own = OwnImage(OwnPlaces(Dump(file)), pause)
+        own = OwnImage(OwnPlaces(Dump(file)), pause, options.region * MEGABYTE)
     chosen = [region for region in pause.set if own.layout.kinds[region] == ORDINARY]
     live, order, after = own_pause(program, own.image, chosen, room)
     kinds = own.layout.kinds
@@ -297,11 +276,10 @@ def work(options):
         java = jvm.Java(options.java, room, SOURCES)
         if java.major < 25:
             raise jvm.Problem(f"{options.java} is a JDK {java.major}: this needs JDK 25")
-        kept = pathlib.Path(options.programs) if options.programs else room
-        program, passed, failed = raised_program(kept), 0, 0
+        program, passed, failed = jvm.heap_program(), 0, 0
         for how in [options.only] if options.only else HOW:
             try:
-                lines, good = compared(program, java, how, options.objects, room)
+                lines, good = compared(options, program, java, how, room)
             except jvm.TooLarge:
                 raise
             except (jvm.Problem, Refusal) as problem:
@@ -315,7 +293,8 @@ def work(options):
 def main():
     parser = argparse.ArgumentParser(description=__doc__, formatter_class=argparse.RawDescriptionHelpFormatter)
     parser.add_argument("java", metavar="JAVA", help="a java of JDK 25: a command or a path")
-    parser.add_argument("--programs", metavar="FOLDER", help="where the program with the raised limit is, or is made")
+    parser.add_argument("--region", type=int, default=1, choices=(1, 2, 4, 8, 16, 32), metavar="MIB",
+                        help="the size of G1's regions in MiB (default: 1)")
     parser.add_argument("--objects", type=jvm.count, default=200_000, metavar="N", help="about how many objects (default: 200000)")
     parser.add_argument("--only", choices=HOW, metavar="NAME", help="this pause alone")
     options = parser.parse_args()

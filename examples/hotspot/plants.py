@@ -17,7 +17,8 @@ stale, a wrong or a null slot, or torn data. This is tried for each JAVA under S
 A report is right if its path leads to the planted slot or object. There are two exceptions. A second copy may be reported
 at another slot that references the first one. And a wrong slot may have the shorter path to its object: then `joined` is
 reported at the other slot that references this object, and the line has to end with the object that the planted slot
-references in the first dump. The last line is 'N passed, M failed'.
+references in the first dump. A JAVA that does not work has a line that says why, and counts as one failure. The last line
+is 'N passed, M failed'.
 Statuses: 0 all passed; 1 an error was not reported, or with a wrong path; 2 usage, or a program is not there.
 """
 import argparse
@@ -266,10 +267,11 @@ def live_plants(heap, java, options, room):
 
 
 def work(options):
-    heap, passed, failed = jvm.heap_program(), 0, 0
+    heap, passed = jvm.heap_program(), 0
     with tempfile.TemporaryDirectory() as folder:
         room = pathlib.Path(folder)
-        for java in jvm.javas(options.java, room, ("Judge.java", "LiveBug.java") if options.live else ("Judge.java",)):
+        javas, failed = jvm.working(options.java, room, ("Judge.java", "LiveBug.java") if options.live else ("Judge.java",))
+        for java in javas:
             for line, good in (live_plants if options.live else dumped_plants)(heap, java, options, room):
                 print(f"{java.version} {line}", flush=True)
                 passed, failed = passed + good, failed + (not good)

@@ -9,63 +9,72 @@
 
 (define (address x) (#%$fxaddress x))
 (define (immediate? x) (or (fixnum? x) (boolean? x) (char? x) (null? x) (eq? x (void))))
-(define (word-of text) ; FNV-1a, 64 bits
-  (fold-left (lambda (hash c) (logand (* (logxor hash (char->integer c)) #x100000001b3) #xffffffffffffffff))
-             #xcbf29ce484222325 (string->list text)))
-(define (data-of x) (if (fixnum? x) (logand x #xffffffffffffffff) (word-of (format "~s" x))))
-(define (numbers-below n) (iota n))
+(define (escaped c)
+  (if (and (char<? #\! c #\x7f) (not (char=? c #\\))) (string c) (format "\\x~x;" (char->integer c))))
+(define (text x) (format "\"~a\"" (apply string-append (map escaped (string->list (format "~a" x))))))
+(define (data-of x) (if (fixnum? x) x (text (format "~s" x))))
 
-;; The values in the slots, and the data words. A table by address changes its order with each collection, so its cells
-;; are not written; the other tables' cells are.
+;; The type, the names of the slots, the values in them, and more data words with their names before them. A table by
+;; address changes its order with each collection, so its cells are not written; the other tables' cells are. A weak pair
+;; of ours references the same object strongly, too, so that its car may not be cleared.
 (define (parts x)
   (cond
-    [(pair? x) (values (list (car x) (cdr x)) '(1))]
-    [(vector? x) (values (vector->list x) '(2))]
-    [(string? x) (values '() (list 3 (string-length x) (word-of x)))]
-    [(symbol? x) (values '() (list 4 (word-of (symbol->string x))))]
+    [(weak-pair? x) (values 'weak-pair '(cdr) (list (cdr x)) '(car-is-cdr) (list (if (eq? (car x) (cdr x)) 1 0)))]
+    [(pair? x) (values 'pair '(car cdr) (list (car x) (cdr x)) '() '())]
+    [(vector? x) (values 'vector '("[]") (vector->list x) '() '())]
+    [(string? x) (values 'string '() '() '(length text) (list (string-length x) (text x)))]
+    [(symbol? x) (values 'symbol '() '() '(text) (list (text x)))]
     [(flonum? x) (let ([bytes (make-bytevector 8)])
                    (bytevector-ieee-double-native-set! bytes 0 x)
-                   (values '() (list 5 (bytevector-u64-native-ref bytes 0))))]
-    [(number? x) (values '() (list 6 (word-of (number->string x))))]
-    [(box? x) (values (list (unbox x)) '(7))]
-    [(procedure? x) (values (map (lambda (i) (#%$closure-ref x i)) (numbers-below (#%$closure-length x)))
-                            (list 8 (word-of (format "~a" (#%$code-name (#%$closure-code x))))))]
-    [(eq-hashtable? x) (values '() (list 9 (hashtable-size x)))]
-    [(hashtable? x) (values (fold-right (lambda (cell rest) (cons* (car cell) (cdr cell) rest)) '() (vector->list (hashtable-cells x)))
-                            (list 10 (hashtable-size x)))]
-    [(record-type-descriptor? x) (values '() (list 11 (word-of (symbol->string (record-type-name x)))))]
+                   (values 'flonum '() '() '(bits) (list (bytevector-u64-native-ref bytes 0))))]
+    [(number? x) (values 'number '() '() '(digits) (list (text x)))]
+    [(box? x) (values 'box '(value) (list (unbox x)) '() '())]
+    [(procedure? x) (values 'procedure '("[]") (map (lambda (i) (#%$closure-ref x i)) (iota (#%$closure-length x)))
+                            '(code) (list (text (#%$code-name (#%$closure-code x)))))]
+    [(eq-hashtable? x) (values 'table-by-address '() '() '(size) (list (hashtable-size x)))]
+    [(hashtable? x) (values 'table '("cells[]") (fold-right (lambda (cell all) (cons* (car cell) (cdr cell) all)) '() (vector->list (hashtable-cells x)))
+                            '(size) (list (hashtable-size x)))]
+    [(record-type-descriptor? x) (values 'record-type '() '() '(name) (list (text (record-type-name x))))]
     [(#%$record? x)
-     (let ([type (#%$record-type-descriptor x)])
-       (values (cons type (map (lambda (i) ((record-accessor type i) x)) (numbers-below (vector-length (record-type-field-names type)))))
-               '(12)))]
-    [else (values '() (list 13 (word-of (format "~s" x))))]))
+     (let* ([type (#%$record-type-descriptor x)] [fields (vector->list (record-type-field-names type))])
+       (values (record-type-name type) (cons 'type fields)
+               (cons type (map (lambda (i) ((record-accessor type i) x)) (iota (length fields)))) '() '()))]
+    [else (values 'other '() '() '(text) (list (text (format "~s" x))))]))
 
-(define (write-line out x slots data)
-  (define words (append data (map (lambda (v) (if (immediate? v) (data-of v) 0)) slots)))
-  (fprintf out "object ~a ~a/~a" (address x) (+ 1 (length slots) (length words)) (length slots))
-  (for-each (lambda (v) (fprintf out " ~a" (if (immediate? v) "-" (address v)))) slots)
-  (for-each (lambda (w) (fprintf out " ~a" w)) words)
-  (newline out))
+(define (write-line out x type slots data)
+  (define words (cons* (text type) (append data (map (lambda (v) (if (immediate? v) (data-of v) 0)) slots))))
+  (fprintf out "object ~a ~a/~a~{ ~a~}~{ ~a~}\n" (address x) (+ 1 (length slots) (length words)) (length slots)
+    (map (lambda (v) (if (immediate? v) "-" (address v))) slots) words))
+
+(define types (make-eq-hashtable))
+(define (write-type type names data-names)
+  (unless (hashtable-contains? types type)
+    (hashtable-set! types type #t)
+    (fprintf map-file "type ~a slots~{ ~a~} data class~{ ~a~}~{ ~a~}\nlabel ~a ~a\n" type names data-names names (text type) type)))
+(define (open name) (open-file-output-port (format "~a/~a" folder name) (file-options no-fail) (buffer-mode block) (native-transcoder)))
+(define map-file (open "names"))
 
 (define (write-heap name)
-  (define out (open-file-output-port (format "~a/~a.txt" folder name) (file-options no-fail) (buffer-mode block) (native-transcoder)))
+  (define out (open (format "~a.txt" name)))
   (define known (make-eqv-hashtable))
   (define queue (list heap))
   (define (find! x last)
     (cond [(or (immediate? x) (hashtable-contains? known (address x))) last]
           [else (hashtable-set! known (address x) #t) (set-cdr! last (list x)) (cdr last)]))
   (hashtable-set! known (address heap) #t)
-  (fprintf out "graph\nroot ~a\n" (address heap))
+  (fprintf out "graph\nroot ~a as judged\n" (address heap))
   (let loop ([queue queue] [last queue])
     (unless (null? queue)
-      (let-values ([(slots data) (parts (car queue))])
-        (write-line out (car queue) slots data)
+      (let-values ([(type names slots data-names data) (parts (car queue))])
+        (write-type type names data-names)
+        (write-line out (car queue) type slots data)
         (let ([last (fold-left (lambda (last x) (find! x last)) last slots)])
           (loop (cdr queue) last)))))
   (close-port out))
 
 ;; The heap that is judged.
 (define-record-type node (fields (mutable key) (mutable left) (mutable right) name weight))
+(define-record-type judged (fields root by-name cycle big box counter weak))
 (define (tree depth key add)
   (let ([n (make-node key #f #f (format "node ~a" key) (/ key 3.0))])
     (add n)
@@ -78,10 +87,11 @@
          [cycle (list 1 2 3)] [count 41])
     (for-each (lambda (n) (hashtable-set! by-name (node-name n) n)) nodes)
     (set-cdr! (cddr cycle) cycle)
-    (vector root by-name cycle (expt 3 200) (box root) (lambda () (set! count (+ count 1)) (list count root)))))
+    (make-judged root by-name cycle (expt 3 200) (box root) (lambda () (set! count (+ count 1)) (list count root)) (weak-cons root root))))
 (define (garbage n) (do ([i 0 (+ i 1)]) ((= i n)) (number->string i)))
 
 (write-heap "before")
+(close-port map-file)
 (printf "before\n")
 (for-each
   (lambda (name from to)
@@ -95,16 +105,16 @@
 (define (field-offset i) (+ 1 8 (* 8 i)))
 (define (peek x i) (#%$object-ref 'unsigned-64 x (field-offset i)))
 (define (poke! x i word) (#%$object-set! 'unsigned-64 x (field-offset i) word))
-(define (plant name kind object x i wrong)
+(define (plant name x i wrong found)
   (let ([right (peek x i)])
     (poke! x i wrong)
     (write-heap name)
     (poke! x i right)
-    (printf "planted ~a ~a ~a\n" name kind object)))
-(define changed (node-right (node-left (vector-ref heap 0))))
-(define other (node-left (node-right (vector-ref heap 0))))
+    (printf "planted ~a ~a\n" name found)))
+(define changed (node-left (judged-root heap)))
+(define other (node-right (judged-root heap)))
 (unless (= (peek changed 0) (* 8 (node-key changed))) (error 'chez.ss "this Chez lays out its records otherwise"))
-(plant "wrong" 'split (address (node-left changed)) changed 1 (peek other 1))
-(plant "torn" 'data (address changed) changed 0 (logxor (peek changed 0) #x5500))
+(plant "wrong" changed 2 (peek other 1) "split judged.root.left.right node")
+(plant "torn" changed 0 (logxor (peek changed 0) #x5500) "data judged.root.left node key")
 (write-heap "again")
 (printf "again\n")

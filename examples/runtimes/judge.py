@@ -1,14 +1,16 @@
 #!/usr/bin/env python3
-"""Judges the collectors of language runtimes: judge.py [--depth N] [--keep FOLDER] [RUNTIME ..]
+"""Judges the collectors of language runtimes: judge.py [OPTION ..] [RUNTIME ..]
 
 A RUNTIME is one of those that `judge.py --list` prints; without one, each that is installed is judged. The file of a
 runtime beside this script is a program in its language. It builds a heap with a tree of N levels, writes it as lines of
-objects by name before and after each kind of collection, and then with errors planted into its memory.
+objects by name before and after each kind of collection, and then with errors planted into its memory. It also writes a
+map of names. docs/RUNTIMES.md says what such a program prints, and --program judges one that is not in the list.
 
-`g1heap same --moved` compares each heap with the one before it. A collection passes if nothing differs. The objects that
-moved are those with another name, which is their address, or those that the runtime reports. An error passes if it is
-found at the object that has it. A runtime fails, too, if none of its collections moved an object: then nothing was
-judged.
+`g1heap same --moved --names` compares each heap with the one before it. A collection passes if nothing differs. The objects
+that moved are those with another name, which is their address, or those that the program reports. An error passes if it is
+found at its place: the path, the type and the field of the report have to be those that the program says. A runtime fails,
+too, if none of its collections moved an object: then nothing was judged. A runtime that never moves one fails if none of
+its collections freed one.
 A line for each; the last line is 'N passed, M failed'.
 Statuses: 0 all passed; 1 one failed; 2 usage, or a program is not there.
 """
@@ -17,6 +19,7 @@ import dataclasses
 import os
 import pathlib
 import re
+import shlex
 import shutil
 import subprocess
 import sys
@@ -25,6 +28,8 @@ import tempfile
 HERE = pathlib.Path(__file__).resolve().parent
 SAME = re.compile(r"same objects (\d+) words (\d+)")
 MOVED = re.compile(r"^moved (\d+) of \d+ by name$", re.MULTILINE)
+STEP = re.compile(r"(before|again)|(collection) (\S+)(?: (\d+) (moved|freed))?|(planted) (\S+) ([a-z]+) (\S+) (\S+)(?: (\S+))?")
+SECONDS = 900  # for one program
 
 
 class Problem(Exception):
@@ -39,6 +44,7 @@ class Runtime:
     run: list
     build: list = dataclasses.field(default_factory=list)
     settings: dict = dataclasses.field(default_factory=dict)
+    moves: bool = True
 
     def command(self, words, room):
         return [word.format(file=HERE / self.file, room=room) for word in words]
@@ -50,10 +56,14 @@ class Runtime:
 
 RUNTIMES = {
     "chez": Runtime("chez.ss", "chezscheme", ["scheme", "--script", "{file}"]),
+    "clisp": Runtime("clisp.lisp", "clisp", ["clisp", "-q", "-q", "-norc", "{file}"]),
+    "cpython": Runtime("cpython.py", "python3", ["python3", "{file}"], moves=False),
     "ghc": Runtime("ghc.hs", "ghc", ["{room}/walk"], ["ghc", "-O1", "-rtsopts", "-package", "ghc-heap", "-with-rtsopts=-A1g",
                                                       "-outputdir", "{room}", "-o", "{room}/walk", "{file}"]),
+    "lua": Runtime("lua.lua", "lua5.4", ["lua5.4", "{file}"], moves=False),
     "mono": Runtime("mono.cs", "mono-runtime mono-mcs", ["mono", "{room}/walk.exe"], ["mcs", "-unsafe", "-out:{room}/walk.exe", "{file}"],
                     {"MONO_GC_PARAMS": "nursery-size=256m"}),
+    "racket": Runtime("racket.rkt", "racket", ["racket", "{file}"]),
     "ruby": Runtime("ruby.rb", "ruby", ["ruby", "{file}"]),
     "sbcl": Runtime("sbcl.lisp", "sbcl", ["sbcl", "--dynamic-space-size", "4GB", "--script", "{file}"]),
     "v8": Runtime("v8.js", "nodejs", ["node", "--expose-gc", "--allow-natives-syntax", "--min-semi-space-size=64", "--compact-on-every-full-gc", "{file}"]),
@@ -62,61 +72,108 @@ RUNTIMES = {
 
 def said_by(words, room, where=None, settings=None):
     """What a command prints."""
-    ran = subprocess.run(words, cwd=room, stdout=where or subprocess.PIPE, stderr=subprocess.PIPE, text=True, env={**os.environ, **(settings or {})})
+    more = {name: value.format(room=room) for name, value in (settings or {}).items()}
+    try:
+        ran = subprocess.run(words, cwd=room, stdout=where or subprocess.PIPE, stderr=subprocess.PIPE, text=True, errors="replace",
+                             stdin=subprocess.DEVNULL, env={**os.environ, **more}, timeout=SECONDS, check=False)
+    except OSError as error:
+        raise Problem(f"{words[0]}: {error.strerror}") from None
+    except subprocess.TimeoutExpired:
+        raise Problem(f"{words[0]}: was ended after {SECONDS} seconds") from None
     if ran.returncode:
-        raise Problem(f"{pathlib.Path(words[0]).name}: status {ran.returncode}: {ran.stderr.strip()[-300:]}")
+        raise Problem(f"{pathlib.Path(words[0]).name}: status {ran.returncode}: {' '.join(ran.stderr.split())[-300:]}")
     return ran.stdout
+
+
+def step_of(line):
+    """The words of a line that reports a step, or None."""
+    found = STEP.fullmatch(line)
+    if found:
+        return [word for word in found.groups() if word]
+    if line.split(" ")[0] in ("collection", "planted"):
+        raise Problem(f"its program's line is not one of docs/RUNTIMES.md: {line}")
+    return None
 
 
 def steps(runtime, room, depth):
     """What the program of a runtime did, in order: the words of each line. V8 prints addresses into its own output, so
     that is a file."""
     if runtime.build:
-        said_by(runtime.command(runtime.build, room), room)
-    with open(room / "said", "w+") as said:
+        said_by(runtime.command(runtime.build, room), room, settings=runtime.settings)
+    with open(room / "said", "w+", encoding="utf-8", errors="replace") as said:
         said_by([*runtime.command(runtime.run, room), str(room), str(depth)], room, said, runtime.settings)
         said.seek(0)
-        found = [line.split() for line in said if line.split(" ")[0].strip() in ("before", "again", "collection", "planted")]
-    if not found or found[-1] != ["again"]:
+        found = [words for line in said if (words := step_of(line.rstrip("\n")))]
+    if not found or found[0] != ["before"] or found[-1] != ["again"]:
         raise Problem("its program did not come to its end")
+    for name in ["names", *(f"{words[1] if len(words) > 1 else words[0]}.txt" for words in found)]:
+        if not (room / name).is_file():
+            raise Problem(f"its program wrote no file {name}")
     return found
 
 
 def compared(room, before, after):
     """What g1heap reports of two heaps, and how many objects have another name."""
-    ran = subprocess.run(["g1heap", "same", "--moved", f"{before}.txt", f"{after}.txt"], cwd=room, capture_output=True, text=True)
-    said = ran.stdout or ran.stderr
+    ran = subprocess.run(["g1heap", "same", "--moved", "--names", "names", f"{before}.txt", f"{after}.txt"], cwd=room,
+                         capture_output=True, text=True, errors="replace", check=False)
+    said = ran.stdout or ran.stderr or f"g1heap ended with status {ran.returncode}"
     moved = MOVED.search(said)
     return said.splitlines()[0], int(moved[1]) if moved else 0
 
 
-def judged(room, found):
-    """A line for each step after the first, and whether it passed."""
-    last, collections, moves = "before", 0, 0
-    for kind, *words in found[1:]:
-        name = words[0] if words else "again"
-        line, moved = compared(room, last, name)
-        if kind == "planted":
-            good = line.startswith(f"differ {words[1]} ") and f"object {words[2]} before" in line
-            yield f"planted {name}: {line}", good
-            continue
-        moved = int(words[1]) if len(words) > 1 else moved
+def is_found(line, kind, path, type_, field=None):
+    """Whether a line reports this kind of difference at this place."""
+    words = f"differ {re.escape(kind)} at {re.escape(path)}: object \\S+ \\({re.escape(type_)}\\) before[,;] "
+    return bool(re.match(words + (f".*; data word \\d+, {re.escape(field)}, is " if field else ""), line))
+
+
+class Judged:
+    """What the steps of one runtime showed: a line for each after the first, and whether it passed."""
+
+    def __init__(self, room, moves):
+        self.room, self.moves = room, moves
+        self.collections = self.moved = self.freed = 0
+
+    def lines(self, found):
+        last = "before"
+        for kind, *words in found[1:]:
+            name = words[0] if words else "again"
+            line, moved = compared(self.room, last, name)
+            if kind == "planted":
+                yield f"planted {name}: {line}", is_found(line, *words[1:])
+                continue
+            last, noted = name, self.noted(kind, moved, words)
+            yield f"{name}: {line}, {noted}", bool(SAME.fullmatch(line))
+        yield self.end()
+
+    def noted(self, kind, moved, words):
+        """Counts a collection, and says what it did."""
+        moved = int(words[1]) if words[2:] == ["moved"] else moved
+        freed = int(words[1]) if words[2:] == ["freed"] else 0
         if kind == "collection":
-            collections, moves = collections + 1, moves + moved
-        yield f"{name}: {line}, {moved} moved", bool(SAME.fullmatch(line))
-        last = name
-    yield f"{collections} collections, {moves} moves" + ("" if moves else ": judged nothing"), moves > 0
+            self.collections, self.moved, self.freed = self.collections + 1, self.moved + moved, self.freed + freed
+        return f"{moved} moved" if self.moves or moved else f"{freed} freed"
+
+    def end(self):
+        """The line of all collections."""
+        if self.moves:
+            line, good = f"{self.collections} collections, {self.moved} moves", self.moved > 0
+        else:
+            line, good = f"{self.collections} collections, {self.freed} freed", self.freed > 0 and self.moved == 0
+        if not self.moves and self.moved:
+            return f"{line}: it moved {self.moved} objects, and was to move none", False
+        return line + ("" if good else ": judged nothing"), good
 
 
-def judge(name, depth, keep):
+def judge(name, runtime, options):
     """Judges one runtime, and returns how many of its steps passed and how many did not."""
     passed = failed = 0
     with tempfile.TemporaryDirectory() as folder:
-        room = pathlib.Path(folder) if keep is None else keep / name
+        room = pathlib.Path(folder) if options.keep is None else options.keep.resolve() / name
         room.mkdir(parents=True, exist_ok=True)
         try:
-            found = steps(RUNTIMES[name], room, depth)
-            for line, good in judged(room, found):
+            found = steps(runtime, room, options.depth)
+            for line, good in Judged(room, runtime.moves).lines(found):
                 passed, failed = passed + good, failed + (not good)
                 print(f"{name} {line}" + ("" if good else "  FAILED"), flush=True)
         except Problem as problem:
@@ -125,27 +182,51 @@ def judge(name, depth, keep):
     return passed, failed
 
 
-def main():
+def chosen(options, parser):
+    """The runtimes to be judged. Those that are named have to be there."""
+    if options.program:
+        words = shlex.split(options.program)
+        if not words or not shutil.which(words[0]):
+            parser.error(f"there is no program '{words[0] if words else ''}'")
+        words[0] = shutil.which(words[0])
+        words = [str(pathlib.Path(word).resolve()) if os.path.exists(word) else word for word in words]
+        return {"program": Runtime("", "", [word.replace("{", "{{").replace("}", "}}") for word in words], moves=not options.unmoving)}
+    for name in options.runtimes:
+        if name not in RUNTIMES:
+            parser.error(f"no runtime {name}; there are {', '.join(RUNTIMES)}")
+        if RUNTIMES[name].missing():
+            parser.error(f"{name} needs {', '.join(RUNTIMES[name].missing())}: Debian's {RUNTIMES[name].package}")
+    return {name: RUNTIMES[name] for name in options.runtimes or RUNTIMES if not RUNTIMES[name].missing()}
+
+
+def arguments():
     parser = argparse.ArgumentParser(description=__doc__, formatter_class=argparse.RawDescriptionHelpFormatter)
     parser.add_argument("runtimes", metavar="RUNTIME", nargs="*", help="what to judge (default: each that is installed)")
     parser.add_argument("--depth", type=int, default=12, help="the levels of the tree, 3 to 18 (default: 12)")
     parser.add_argument("--keep", type=pathlib.Path, metavar="FOLDER", help="keep the files of lines in this folder")
     parser.add_argument("--list", action="store_true", help="print the runtimes, and what is missing")
+    parser.add_argument("--program", metavar="COMMAND", help="judge this command, which gets FOLDER and DEPTH as its last words")
+    parser.add_argument("--unmoving", action="store_true", help="with --program: its runtime moves no object, and reports those that it freed")
     options = parser.parse_args()
-    unknown = [name for name in options.runtimes if name not in RUNTIMES]
-    if unknown or not 3 <= options.depth <= 18:
-        parser.error(f"no runtime {unknown[0]}; there are {', '.join(RUNTIMES)}" if unknown else "DEPTH has to be from 3 to 18")
+    if not 3 <= options.depth <= 18:
+        parser.error("DEPTH has to be from 3 to 18")
+    if options.program is not None and options.runtimes:
+        parser.error("--program is judged alone")
+    if options.unmoving and options.program is None:
+        parser.error("--unmoving goes with --program: the list says which runtimes move nothing")
+    return options, parser
+
+
+def main():
+    options, parser = arguments()
     if options.list:
         for name, runtime in RUNTIMES.items():
             print(name, f"needs {runtime.package}" if runtime.missing() else "is installed")
         return 0
+    runtimes = chosen(options, parser)
     if not shutil.which("g1heap"):
         parser.error("no g1heap on the path: tools/build.py --unproved builds out/g1heap")
-    for name in options.runtimes:
-        if RUNTIMES[name].missing():
-            parser.error(f"{name} needs {', '.join(RUNTIMES[name].missing())}: Debian's {RUNTIMES[name].package}")
-    counts = [judge(name, options.depth, options.keep and options.keep.resolve())
-              for name in options.runtimes or [name for name, runtime in RUNTIMES.items() if not runtime.missing()]]
+    counts = [judge(name, runtime, options) for name, runtime in runtimes.items()]
     passed, failed = (sum(count[k] for count in counts) for k in (0, 1))
     print(f"{passed} passed, {failed} failed")
     return 1 if failed or not passed else 0

@@ -3,7 +3,6 @@
 # A file has lines of objects by name, and a name is the object's address. Slots are an object's class, its variables,
 # elements, pairs and members. A value that is no object (a small number, nil, true) has a null slot and a data word.
 # The walk takes addresses by Fiddle.dlwrap, and no collection runs while it walks.
-require 'digest'
 require 'fiddle'
 
 FOLDER, DEPTH = ARGV[0], ARGV[1].to_i
@@ -14,64 +13,65 @@ module Seen
 
   module_function
 
-  def text(string) = Digest::SHA256.digest(string)[0, 8].unpack1('Q')
+  def text(string) = "\"#{string.b.gsub(/[^!-~]|["\\]/n) { |byte| format('\x%02x', byte.ord) }}\""
   def address(value) = Fiddle.dlwrap(value)
   def immediate?(value) = address(value) & 7 != 0 || [0, 8].include?(address(value))
 
-  # The values in the slots, and the data words.
+  # The names of the slots, the values in them, and the data words by their names.
   def parts(value)
-    return [[], [text(value.name || 'no name')]] if value.is_a?(Module)
-
-    names = VARIABLES.bind_call(value)
-    values, data = contents(value)
-    [[CLASS.bind_call(value), *values, *names.map { |name| VARIABLE.bind_call(value, name) }], data + names.map { |name| text(name.name) }]
+    return [[], [], { class: text(value.class.name), name: text(value.name || 'no name') }] if value.is_a?(Module)
+    variables = VARIABLES.bind_call(value)
+    names, values, data = contents(value)
+    [['class', *variables.map { |name| name.name.delete('@') }, *names],
+     [CLASS.bind_call(value), *variables.map { |name| VARIABLE.bind_call(value, name) }, *values],
+     { class: text(CLASS.bind_call(value).name), variables: text(variables.join(',')), **data }]
   end
 
   def contents(value)
     case value
-    when String then [[], [value.bytesize, text(value.b), text(value.encoding.name)]]
-    when Float then [[], [[value].pack('D').unpack1('Q')]]
-    when Integer, Symbol then [[], [text(value.to_s)]]
-    when Array then [value, []]
-    when Hash then [value.flat_map { |key, target| [key, target] }, [value.compare_by_identity? ? 1 : 0]]
-    when Struct then [value.to_a, []]
-    when Proc then [value.binding.local_variables.map { |name| value.binding.local_variable_get(name) }, []]
-    else [[], []]
+    when String then [[], [], { bytes: value.bytesize, text: text(value), encoding: text(value.encoding.name) }]
+    when Float then [[], [], { bits: [value].pack('D').unpack1('Q') }]
+    when Integer, Symbol then [[], [], { value: text(value.to_s) }]
+    when Array then [['[]'], value, {}]
+    when Hash then [['pairs[]'], value.flat_map { |key, target| [key, target] }, { by_identity: value.compare_by_identity? ? 1 : 0 }]
+    when Struct then [value.members, value.to_a, {}]
+    when Proc then [(names = value.binding.local_variables), names.map { |name| value.binding.local_variable_get(name) }, {}]
+    else [[], [], {}]
     end
   end
 end
 
-def line_of(value)
-  values, data = Seen.parts(value)
+def line_of(value, types)
+  names, values, data = Seen.parts(value)
+  types[data[:class]] ||= "type #{data[:class].delete('"')} #{['slots', *names, 'data', *data.keys, *names].join(' ')}"
   slots = values.map { |target| Seen.immediate?(target) ? '-' : Seen.address(target) }
-  words = data + values.map { |target| Seen.immediate?(target) ? Seen.address(target) & 0xffffffffffffffff : 0 }
+  words = data.values + values.map { |target| Seen.immediate?(target) ? Seen.address(target) & 0xffffffffffffffff : 0 }
   "object #{Seen.address(value)} #{1 + slots.size + words.size}/#{slots.size} #{(slots + words).join(' ')}"
 end
 
 def write(name)
   GC.disable
-  queue, known = [HEAP], { Seen.address(HEAP) => true }
+  queue, known, types = [HEAP], { Seen.address(HEAP) => true }, {}
   File.open("#{FOLDER}/#{name}.txt", 'w') do |file|
-    file.puts 'graph', "root #{Seen.address(HEAP)}"
+    file.puts 'graph', "root #{Seen.address(HEAP)} as judged"
     while (value = queue.shift)
-      file.puts line_of(value)
-      Seen.parts(value)[0].each do |target|
-        next if Seen.immediate?(target) || known[Seen.address(target)]
-
-        known[Seen.address(target)] = true
-        queue << target
-      end
+      file.puts line_of(value, types)
+      found = Seen.parts(value)[1].reject { |target| Seen.immediate?(target) || known[Seen.address(target)] }
+      queue.concat(found.uniq { |target| Seen.address(target) }.each { |target| known[Seen.address(target)] = true })
     end
   end
+  File.write("#{FOLDER}/names", types.map { |label, line| "#{line}\nlabel #{label} #{label.delete('"')}\n" }.join)
 ensure
   GC.enable
 end
 
+# The heap that is judged.
 class Node
   attr_accessor :key, :left, :right, :name, :weight
 
   def initialize(key) = (@key, @left, @right, @name, @weight = key, nil, nil, "node #{key}", key / 3.0)
 end
+Judged = Struct.new(:root, :by_name, :big, :next, :self)
 
 def tree(depth, key, nodes)
   nodes << node = Node.new(key)
@@ -83,7 +83,7 @@ end
 # A method of its own: a block keeps all variables around it.
 def heap
   root, count = tree(DEPTH, 1, nodes = []), 41
-  { root: root, by_name: nodes.to_h { |node| [node.name, node] }, big: 3**200, next: -> { count + 1 } }.tap { |all| all[:self] = all }
+  Judged.new(root, nodes.to_h { |node| [node.name, node] }, 3**200, -> { count + 1 }).tap { |all| all.self = all }
 end
 
 GARBAGE = []
@@ -103,18 +103,18 @@ def word(at) = Fiddle::Pointer.new(at)[0, 8].unpack1('Q')
 def put(at, word) = Fiddle::Pointer.new(at)[0, 8] = [word].pack('Q')
 def place(node, variable) = word(Seen.address(node) + 24) + 8 * node.instance_variables.index(variable)
 
-def plant(name, kind, object, at, wrong)
+def plant(name, at, wrong, found)
   right = word(at)
   put(at, wrong)
   write(name)
   put(at, right)
-  puts "planted #{name} #{kind} #{object}"
+  puts "planted #{name} #{found}"
 end
 
 GC.disable
-node, other = HEAP[:root].left.right, HEAP[:root].right.left
+node, other = HEAP.root.left, HEAP.root.right
 abort 'ruby.rb: this Ruby lays out its objects otherwise' unless word(place(node, :@key)) == 2 * node.key + 1
-plant('wrong', 'split', Seen.address(node.left), place(node, :@left), Seen.address(other.left))
-plant('torn', 'data', Seen.address(node), place(node, :@key), word(place(node, :@key)) ^ 0x5500)
+plant('wrong', place(node, :@right), Seen.address(other.left), 'split judged.root.left.right Node')
+plant('torn', place(node, :@key), word(place(node, :@key)) ^ 0x5500, 'data judged.root.left Node key')
 write('again')
 puts 'again'

@@ -10,6 +10,7 @@ import sys
 from array import array
 
 import progress
+from heap_image import WIDE
 
 VERSIONS = (b"JAVA PROFILE 1.0.1\0", b"JAVA PROFILE 1.0.2\0")
 TEXT, LOAD_CLASS, HEAP_DUMP, HEAP_DUMP_SEGMENT, HEAP_DUMP_END = 0x01, 0x02, 0x0C, 0x1C, 0x2C
@@ -19,8 +20,11 @@ TYPES = {4: ("boolean", 1), 5: ("char", 2), 6: ("float", 4), 7: ("double", 8), 8
          10: ("int", 4), 11: ("long", 8)}
 LETTERS = {"Z": "boolean", "C": "char", "F": "float", "D": "double", "B": "byte", "S": "short", "I": "int",
            "J": "long"}
-MOST_WORDS = 1 << 24  # of a heap
+MOST_WORDS = WIDE.words
 STEP = 1 << 22  # bytes that are read between two reports of progress
+BOUND_STEP = 16  # steps between two looks at whether any heap holds what was read
+FRAME_ROOTS, THREAD_ROOT = (0x02, 0x03), 0x08  # what a frame of a thread holds, and the thread itself
+CODES = {1: "B", 2: "H", 4: "I", 8: "Q"}  # of numbers without a sign, by their bytes
 
 
 class Refusal(Exception):
@@ -35,12 +39,12 @@ def bad(text):
     return Refusal(3, text)
 
 
-def check_words(total, known="the objects take"):
-    """Refuses objects that no heap holds."""
+def check_words(total, known="the objects take", is_whole=True):
+    """Refuses objects that no heap holds. If they are not all counted, nobody knows how many would fit."""
     if total > MOST_WORDS:
-        raise Refusal(5, f"{known} {total:,} words, and a heap has at most {MOST_WORDS:,}: {100 * MOST_WORDS // total} of 100 "
-                         f"would fit. Dump live objects alone, take what hangs from few fields by --from, or give the "
-                         f"program less to do")
+        share = f": {100 * MOST_WORDS // total} of 100 would fit" if is_whole else ""
+        raise Refusal(5, f"{known} {total:,} words, and a heap has at most {MOST_WORDS:,}{share}. Dump live objects alone, take "
+                         f"what hangs from few fields by --from, or give the program less to do")
 
 
 class Progress:
@@ -133,8 +137,9 @@ def java_name(text):
 class Dump:
     """A dump: its objects by type and length, its classes, its roots and its texts."""
 
-    def __init__(self, file, progress=quiet):
-        self.data = mapped(file)
+    def __init__(self, file, progress=quiet, is_whole=False):
+        """With `is_whole` all objects go into one image, so that too many of them are refused as soon as they are read."""
+        self.data, self.is_whole = mapped(file), is_whole
         check_version(self.data)
         self.id_bytes, = struct.unpack_from(">I", self.data, len(VERSIONS[0]))
         if self.id_bytes not in (4, 8):
@@ -142,6 +147,8 @@ class Dump:
         self.id_code = "I" if self.id_bytes == 4 else "Q"
         self.shape_parts()
         self.groups, self.roots = Groups(), array("Q")
+        self.steps, self.least_words = 0, []  # the identifiers of a group, and the fewest words of such an object
+        self.frames, self.threads = [], {}  # (thread, frame, identifier) of each root in a frame; each thread's object
         self.texts, self.class_names, self.classes = {}, {}, {}
         try:
             self.read_records(progress)
@@ -156,6 +163,9 @@ class Dump:
         self.primitives = struct.Struct(f">x{code}4xIB")
         # How many bytes stand behind the identifier of each kind of root.
         self.root_bytes = {0xFF: 0, 0x01: size, 0x02: 8, 0x03: 8, 0x04: 4, 0x05: 0, 0x06: 4, 0x07: 0, 0x08: 8}
+        # The identifier of an object and the bytes that say its type and length; and what such bytes mean.
+        head = struct.Struct(f">x{code}4x{4 + size}s").unpack_from
+        self.kinds = {INSTANCE: (head, {}), OBJECTS: (head, {}), PRIMITIVES: (struct.Struct(f">x{code}4x5s").unpack_from, {})}
 
     def read_records(self, progress):
         data, size, last = self.data, self.id_bytes, None
@@ -174,6 +184,8 @@ class Dump:
             if tag in (HEAP_DUMP, HEAP_DUMP_SEGMENT, HEAP_DUMP_END):
                 last = tag
             at += length
+        self.kinds.clear()  # so that a group that is given up gives back its memory
+        self.least_words.clear()
         if last in (None, HEAP_DUMP_SEGMENT):
             raise bad("cut short: the file ends before the end of the heap dump")
 
@@ -182,38 +194,66 @@ class Dump:
         while at < end:
             progress("reading the dump, bytes", at, len(self.data))
             at = self.read_some(at, min(end, at + STEP))
+            self.steps += 1
+            if self.is_whole and self.steps % BOUND_STEP == 0:
+                words = sum(words * len(names) for names, words in self.least_words)
+                check_words(words, "the objects take at least", False)
         if at > end:
             raise bad(f"a part of the heap passes the end of its record, at byte {end}")
 
     def read_some(self, at, end):
         """Finds the parts that begin before `end`, and returns where the next one begins."""
-        data, groups = self.data, self.groups
-        instance, objects, primitives = (part.unpack_from for part in (self.instance, self.objects, self.primitives))
-        heads, id_bytes = (self.instance.size, self.objects.size, self.primitives.size), self.id_bytes
+        data, kinds_of = self.data, self.kinds.get
         while at < end:
-            tag, place = data[at], at
-            if tag == INSTANCE:
-                name, kind, count = instance(data, at)
-                at += heads[0] + count
-            elif tag == PRIMITIVES:
-                name, count, kind = primitives(data, at)
-                at += heads[2] + count * type_bytes(kind)
-            elif tag == OBJECTS:
-                name, count, kind = objects(data, at)
-                at += heads[1] + count * id_bytes
-            elif tag == CLASS:
-                name, at = self.read_class(at + 1)
-                kind, count = name, 0
-            elif tag in self.root_bytes:
-                self.roots.extend(self.ids(at + 1, 1))
-                at += 1 + id_bytes + self.root_bytes[tag]
+            tag = data[at]
+            found = kinds_of(tag)
+            if found is None:
+                at = self.read_other(tag, at)
                 continue
-            else:
-                raise bad(f"a part of the heap has the unknown tag {tag:#04x}, at byte {at}")
-            group = groups[tag, kind, count]
-            group.names.append(name)
-            group.places.append(place)
+            name, key = found[0](data, at)
+            kind = found[1].get(key) or self.new_kind(tag, key, found[1])
+            kind[0](name)
+            kind[1](at)
+            at += kind[2]
         return at
+
+    def new_kind(self, tag, key, kinds):
+        """What notes an object's identifier and place, and its length, by the bytes that say its type and length."""
+        if tag == INSTANCE:
+            kind, count = struct.unpack(f">{self.id_code}I", key)
+            length, words = self.instance.size + count, 2 + words_of(count)
+        elif tag == OBJECTS:
+            count, kind = struct.unpack(f">I{self.id_code}", key)
+            length, words = self.objects.size + count * self.id_bytes, 2 + count
+        else:
+            count, kind = struct.unpack(">IB", key)
+            length, words = self.primitives.size + count * type_bytes(kind), 2 + words_of(count * type_bytes(kind))
+        group = self.groups[tag, kind, count]
+        self.least_words.append((group.names, words))
+        kinds[key] = group.names.append, group.places.append, length
+        return kinds[key]
+
+    def read_other(self, tag, at):
+        """Reads a class or a root, and returns where it ends."""
+        if tag == CLASS:
+            name, end = self.read_class(at + 1)
+            group = self.groups[CLASS, name, 0]
+            group.names.append(name)
+            group.places.append(at)
+            return end
+        if tag not in self.root_bytes:
+            raise bad(f"a part of the heap has the unknown tag {tag:#04x}, at byte {at}")
+        self.read_root(tag, at + 1)
+        return at + 1 + self.id_bytes + self.root_bytes[tag]
+
+    def read_root(self, tag, at):
+        name, = self.ids(at, 1)
+        self.roots.append(name)
+        if tag in FRAME_ROOTS:
+            thread, frame = struct.unpack_from(">II", self.data, at + self.id_bytes)
+            self.frames.append((thread, frame, name))
+        elif tag == THREAD_ROOT:
+            self.threads[struct.unpack_from(">I", self.data, at + self.id_bytes)[0]] = name
 
     def ids(self, at, count):
         return struct.unpack_from(f">{count}{self.id_code}", self.data, at)
@@ -249,7 +289,7 @@ class Dump:
                 references.append(value)
                 at += self.id_bytes
             else:
-                data.append(self.data[at:at + type_bytes(kind)])
+                data.append(self.data[at:at + type_bytes(kind)][::-1])
                 at += type_bytes(kind)
             found.append((name, kind, value))
         return at, found
@@ -284,6 +324,15 @@ def words_of(count):
     return (count + 7) // 8
 
 
+def lowest_first(data, width):
+    """Values of so many bytes with the lowest byte first, as a word has it. A dump has the highest byte first."""
+    if width == 1:
+        return data
+    values = array(CODES[width], data)
+    values.byteswap()
+    return values.tobytes()
+
+
 def name_label(name):
     """What stands for a class in an image whose labels have to outlast a collection."""
     return int.from_bytes(hashlib.sha256(name.encode()).digest()[:8], "little")
@@ -296,6 +345,7 @@ class Shape:
         self.dump, self.name, self.label, self.array_of = dump, name, label, array_of
         self.pieces, self.place = [f"{head}x"], head
         self.slots, self.fields, self.runs = [], [], []  # runs: of data that lie together, and are copied together
+        self.width = None  # of the elements of an array of values
         self.null_slots, self.zeros, self.data_bytes = [], [], 0
 
     def add_slots(self, names, left_out=False):
@@ -322,6 +372,8 @@ class Shape:
         self.references = struct.Struct(">" + "".join(self.pieces))
         pads = [place - end for (place, _), end in zip(self.runs, [0, *map(sum, self.runs)])]
         self.content = struct.Struct(">" + "".join(f"{pad}x{count}s" for pad, (_, count) in zip(pads, self.runs)))
+        codes = "" if self.width else "".join(CODES[count] for _name, _start, count in self.fields)
+        self.highest_first, self.lowest_first = struct.Struct(f">{codes}"), struct.Struct(f"<{codes}")
         self.data_words = words_of(self.data_bytes)
         self.size = 2 + len(self.slots) + self.data_words
         return self
@@ -331,6 +383,10 @@ class Shape:
         data = self.dump.data
         names = self.references.unpack_from(data, at) if self.slots else ()
         content = b"".join(self.content.unpack_from(data, at)) if self.runs else b""
+        if self.width:
+            content = lowest_first(content, self.width)
+        elif content:
+            content = self.lowest_first.pack(*self.highest_first.unpack(content))
         if self.null_slots:
             names = [0 if i in self.null_slots else name for i, name in enumerate(names)]
         for start, end in self.zeros:
@@ -345,7 +401,7 @@ class Shape:
         return ["[]"] if self.array_of == "objects" else self.slots
 
     def data_names(self):
-        """A name for each data word: the fields in it, joined by a comma if it has several."""
+        """A name for each data word: the fields in it with their types, joined by a comma if it has several."""
         if self.array_of:
             return ["class"] if self.array_of == "objects" else ["length", self.name]
         words = [[] for _ in range(self.data_words)]
@@ -362,7 +418,8 @@ def instance_shape(dump, kind, count, label, left_out=()):
         if type_ == REFERENCE:
             shape.add_slots([field], left)
         else:
-            shape.add_data(field, type_bytes(type_), left)
+            width = type_bytes(type_)
+            shape.add_data(f"{field}:{TYPES[type_][0]}", width, left)
     expected = shape.place - dump.instance.size
     if count != expected:
         raise bad(f"an instance has {count} bytes of fields, and its class says {expected}")
@@ -379,6 +436,7 @@ def objects_shape(dump, kind, count, label):
 def primitives_shape(dump, kind, count):
     name, width = TYPES[kind]
     shape = Shape(dump, f"{name}[]", kind << 32 | count, dump.primitives.size, "values")
+    shape.width = width
     if count:
         shape.add_data(name, count * width)
     return shape.end()

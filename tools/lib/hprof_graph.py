@@ -1,4 +1,5 @@
-"""What hangs from static fields of a Java program, in a heap dump: the walk from them, for the scripts beside it.
+"""What hangs from static fields of a Java program, and from its threads' stacks, in a heap dump: the walk from them, for
+the scripts beside it.
 
 The rest of a dump differs from one dump to the next, whatever the collector does: threads' stacks, handles, what the
 dump itself loads. What hangs from a field that the program owns has to be the same after a collection.
@@ -14,14 +15,17 @@ what has to be done for each of them is done by map, zip and the like for a whol
 import difflib
 from array import array
 from itertools import chain, compress, repeat
+from operator import getitem, itemgetter
 
 from hprof import (CLASS, INSTANCE, OBJECTS, REFERENCE, Refusal, Shape, bad, check_words, instance_shape, name_label,
                    objects_shape, primitives_shape, quiet)
+from hprof_threads import frame_roots
 
 WEAK_FIELDS = tuple(f"java.lang.ref.Reference.{field}" for field in ("referent", "next", "discovered", "queue"))
-MIRROR = "java.lang.Class"
+MIRROR, THREAD = "java.lang.Class", "thread:"
 BATCH = 1 << 16  # objects between two reports of progress
 OBJECT_BYTES = 220  # of memory that an object of the dump takes, on average
+OTHER = b"\1\0" + bytes(254)  # turns 0 into 1, and 1 into 0
 USAGE, DANGLING, MEMORY = 2, 4, 6
 
 
@@ -81,40 +85,57 @@ def check_memory(count):
                               f"{free / 1e9:.1f} GB are free")
 
 
+def at_all(items, places):
+    """The items at these places. For an array `itemgetter` takes half of the time of a map over its `__getitem__`."""
+    return itemgetter(*places)(items) if len(places) > 1 else [items[place] for place in places]
+
+
 class Members:
-    """The objects of one group that were reached: their shape, their identifiers and their places in the dump."""
+    """The objects of one group: their shape, their identifiers, their places in the dump, and the number of each; and, of
+    those that were reached, the numbers of what their slots reference, object by object."""
 
-    __slots__ = ("shape", "names", "places")
+    __slots__ = ("shape", "names", "places", "numbers", "targets")
 
-    def __init__(self, shape, names, places):
-        self.shape, self.names, self.places = shape, names, places
+    def __init__(self, shape, names, places, numbers=range(0), targets=None):
+        self.shape, self.names, self.places, self.numbers, self.targets = shape, names, places, numbers, targets
 
-    def references(self, part=slice(None)):
-        """The identifiers in the slots of each object, or of a part of them."""
-        places = self.places[part]
+    def references(self, part):
+        """The identifiers in the slots of a part of the objects, object by object."""
         if not self.shape.slots:
-            return repeat((), len(places))
-        found = map(self.shape.references.unpack_from, repeat(self.shape.dump.data), places)
-        if not self.shape.null_slots:
-            return found
-        return (tuple(0 if i in self.shape.null_slots else name for i, name in enumerate(names)) for names in found)
+            return repeat((), 0)
+        found = map(self.shape.references.unpack_from, repeat(self.shape.dump.data), self.places[part])
+        if self.shape.null_slots:
+            found = (tuple(0 if i in self.shape.null_slots else name for i, name in enumerate(names)) for names in found)
+        return chain.from_iterable(found)
 
 
-class Graph:
-    """The objects that hang from static fields, by type and length."""
+def start_roots(dump, text):
+    """The roots of a word of --from, each with its name: one for a field, and one for each thing that a stack holds."""
+    if not text.startswith(THREAD):
+        return [(text, static_field(dump, text))]
+    names, found = frame_roots(dump, text[len(THREAD):])
+    if found is None:
+        name = text[len(THREAD):].replace(" ", "_")
+        several = f"{names.count(name)} threads" if name in names else "no thread"
+        raise Refusal(USAGE, f"{text}: the dump has {several} '{name}'{'' if name in names else like(name, set(names))}")
+    return [(f"{text.replace(' ', '_')}[{i}]", value) for i, value in enumerate(found)]
 
-    def __init__(self, dump, starts, left_out=(), weak=False, progress=quiet):
-        self.dump, self.starts, self.progress = dump, starts, progress
+
+class Objects:
+    """All objects of a dump, by type and length; and, by numbers, what each references and which the roots are."""
+
+    def __init__(self, dump, root_values, left_out=(), weak=False, progress=quiet):
+        self.dump, self.root_values, self.progress = dump, root_values, progress
         for text in left_out:
             check_field(dump, text)
-        self.root_values = [static_field(dump, text) for text in starts]
         self.left_out = {*left_out, *(() if weak else WEAK_FIELDS)}
         self.mirrors = {kind for kind in dump.classes if dump.class_name(kind) == MIRROR}
         check_memory(sum(len(group.names) for group in dump.groups.values()))
         self.groups = [Members(self.shape_of(*key), group.names, group.places) for key, group in dump.groups.items()]
-        self.unreached = self.all_references()
-        self.walk()
-        self.keep_reached()
+        self.number_objects()
+        self.nowhere = 1 + self.objects_in_dump  # the number of what the dump does not have; that of null is 0
+        self.targets, self.firsts = array("I"), array("Q", [0])  # of all objects, and where those of each number begin
+        self.read_references(self.numbers())
 
     def shape_of(self, tag, kind, count):
         dump, name = self.dump, self.dump.class_name(kind)
@@ -128,39 +149,91 @@ class Graph:
             return objects_shape(dump, kind, count, name_label(name))
         return primitives_shape(dump, kind, count)
 
-    def all_references(self):
-        """The references of each object of the dump."""
-        found, count = {}, 0
-        for group in self.groups:
-            self.progress("reading references, objects", count)
-            found.update(zip(group.names, group.references()))
-            count += len(group.names)
-        self.objects_in_dump = count
-        if len(found) != count or 0 in found:
+    def number_objects(self):
+        """Gives each object a number from 1 on. Those with slots come first."""
+        self.objects_in_dump = self.objects_with_slots = 0
+        self.by_number = sorted(self.groups, key=lambda group: not group.shape.slots)
+        for group in self.by_number:
+            first, self.objects_in_dump = 1 + self.objects_in_dump, self.objects_in_dump + len(group.names)
+            group.numbers = range(first, 1 + self.objects_in_dump)
+            if group.shape.slots:
+                self.objects_with_slots = self.objects_in_dump
+
+    def numbers(self):
+        """The number of each object by its identifier."""
+        names = chain.from_iterable(group.names for group in self.by_number)
+        found = dict(zip(names, range(1, self.nowhere)))
+        if len(found) != self.objects_in_dump or 0 in found:
             raise bad("two objects have the same identifier, or one has the identifier 0")
+        found[0] = 0
         return found
 
+    def read_references(self, numbers):
+        """Finds what each slot of the dump references."""
+        for group in self.by_number:
+            slots, count = len(group.shape.slots), len(group.names)
+            for first in range(0, count if slots else 0, BATCH):
+                self.progress("reading references, objects", group.numbers.start + first, self.objects_in_dump)
+                names = group.references(slice(first, first + BATCH))
+                self.targets.extend(array("I", list(map(numbers.get, names, repeat(self.nowhere)))))
+            end = len(self.targets)
+            self.firsts.extend(range(end - slots * count, end, slots) if slots else repeat(end, count))
+        self.firsts.extend([len(self.targets)] * 2)
+        self.root_numbers = [numbers.get(value, self.nowhere) for value in self.root_values]
+
+    def references(self):
+        """The numbers of what each object references, by its own number."""
+        found = dict.fromkeys(range(1, self.nowhere), ())
+        parts = map(slice, self.firsts[1:], self.firsts[2:])
+        found.update(zip(range(1, 1 + self.objects_with_slots), map(getitem, repeat(self.targets), parts)))
+        return found
+
+
+class Graph(Objects):
+    """The objects that hang from static fields and threads."""
+
+    def __init__(self, dump, starts, left_out=(), weak=False, progress=quiet):
+        roots = [root for text in starts for root in start_roots(dump, text)]
+        self.starts = [name for name, _value in roots]
+        super().__init__(dump, [value for _name, value in roots], left_out, weak, progress)
+        self.left = bytearray(1) + b"\1" * self.nowhere  # 1 for each number that was not reached
+        self.walk()
+        self.is_dangling = not self.left[self.nowhere]
+        self.keep_reached()
+
     def walk(self):
-        """Takes what the roots reach out of `unreached`, breadth first. What was taken before, null, and what the dump
-        does not have give no references."""
-        take, none, reached, words = self.unreached.pop, repeat(()), 0, 0
-        todo = [self.root_values]
-        while todo:
-            todo = list(filter(None, map(take, chain.from_iterable(todo), none)))
-            reached += len(todo)
-            words += 2 * len(todo) + sum(map(len, todo))  # of headers, labels and slots
-            check_words(words, "what hangs from the fields takes at least")
-            self.progress("walking, objects with references", reached)
+        """Marks what the roots reach, breadth first."""
+        left, firsts, ends = self.left, self.firsts, self.firsts[1:]
+        reached, words, last = 0, 0, self.objects_with_slots
+        found = set(self.root_numbers) - {0}
+        while found:
+            for number in found:
+                left[number] = 0
+            reached += len(found)
+            todo = list(filter(last.__ge__, found))
+            parts = map(slice, at_all(firsts, todo), at_all(ends, todo))
+            targets = list(chain.from_iterable(map(getitem, repeat(self.targets), parts)))
+            words += 2 * len(found) + len(targets)  # of headers, labels and slots
+            check_words(words, "what hangs from the fields takes at least", False)
+            self.progress("walking, objects", reached, self.objects_in_dump)
+            found = set(compress(targets, at_all(left, targets)))
 
     def keep_reached(self):
-        missing, kept = self.unreached.__contains__, []
+        """Leaves out all other objects."""
+        kept = []
         for group in self.groups:
-            reached = [not is_missing for is_missing in map(missing, group.names)]
-            names = array("Q", compress(group.names, reached))
-            if names:
-                kept.append(Members(group.shape, names, array("Q", compress(group.places, reached))))
+            numbers, slots = group.numbers, len(group.shape.slots)
+            targets = self.targets[self.firsts[numbers.start]:self.firsts[numbers.stop]]
+            reached = self.left[numbers.start:numbers.stop].translate(OTHER)
+            if 0 in reached:
+                chosen = chain.from_iterable(map(repeat, reached, repeat(slots)))
+                targets = array("I", list(compress(targets, chosen)))
+                numbers = array("I", list(compress(numbers, reached)))
+                group.names, group.places = (array("Q", list(compress(part, reached))) for part in (group.names, group.places))
+            if group.names:
+                kept.append(Members(group.shape, group.names, group.places, numbers, targets))
         self.groups = kept
-        self.unreached = None
+        del self.by_number, self.targets, self.firsts, self.left
 
     def __len__(self):
         return sum(len(group.names) for group in self.groups)
@@ -169,9 +242,9 @@ class Graph:
         """The size of the objects of each group, and how many they are."""
         return [(group.shape.size, len(group.names)) for group in self.groups]
 
-    def objects(self):
-        """The shape and the identifier of each object in the image's order."""
-        return chain.from_iterable(zip(repeat(group.shape), group.names) for group in self.groups)
+    def runs(self):
+        """Objects of one shape behind each other in the image's order: the shape, and their identifiers."""
+        return ((group.shape, group.names) for group in self.groups)
 
     def root_names(self):
         return self.starts
