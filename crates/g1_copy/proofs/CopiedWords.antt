@@ -9,13 +9,14 @@ use Rattle.std.proofs.lemmas.List.Sums.{count_by-le-length, length-filter}
 use Rattle.std.proofs.lemmas.Grind.{flat_map-append, same_number_lists}
 use Rattle.std.proofs.Math.Nat.{mul-le-mul_right}
 use Rattle.std.proofs.Math.ListN.{get_or-append}
+use Rattle.std.proofs.Math.Seq.{take-add}
 use Rattle.g1_words.specs.Geometry.{most_words}
 use Rattle.g1_words.specs.declared.object.Object.{Object}
 use Rattle.g1_words.specs.Heap.{Heap, is_free, kind, object_at, regions, start, word}
 use Rattle.g1_words.specs.Layout.{forward, free_regions, laid, need, places, sizes_of}
 use Rattle.g1_words.specs.Valid.{IsValid}
 use Rattle.g1_words.proofs.Indices.{get_or-In, is_free_region, range_bounds}
-use Rattle.g1_words.proofs.Members.{In, In-append_cases, Contains-from_in, filter_member, map_cases}
+use Rattle.g1_words.proofs.Members.{In, In-append_cases, In-append_right, Contains-from_in, filter_member, map_cases}
 use Rattle.g1_words.specs.Copy.{renamed, renamed_words, words_at}
 use Rattle.g1_after.specs.Made.{moved_word}
 use Rattle.g1_layout.proofs.Conditions.{can_lay}
@@ -27,7 +28,7 @@ use Rattle.g1_layout.specs.declared.plan.Run.{Run}
 use Rattle.g1_copy.specs.Plans.{IsPlanOf}
 use Rattle.g1_copy.specs.Gathered.{placed_words, to_space_words}
 use Rattle.g1_copy.specs.Filled.{filled_slots}
-use Rattle.g1_copy.specs.Links.{moved_slots}
+use Rattle.g1_copy.specs.Links.{copied_between, moved_slots}
 use Rattle.g1_copy.proofs.CopiedSlots.{place_within, survivor_slots, slot_named, slots_before}
 use Rattle.g1_copy.proofs.GatheringWords.{forward_at, get_or-placed_words, get_or-to_space_words, length-placed_words, length-to_space_words, placed_word}
 
@@ -123,6 +124,33 @@ same_slots f g w p (k ∷ ks) same =
 abbrev pub first_copied : Heap → List ℕ → ℕ → List (ℕ × ℕ)
 first_copied h l i = flat_map (moved_slots h l) (take i l)
 
+module _ (h : Heap) (l : List ℕ) where
+  pub between_none : (i : ℕ) → copied_between h l i i ≡ []
+  between_none i = let e : i - i ≡ 0 = omega arith in ap (λ n. flat_map (moved_slots h l) (take n (drop i l))) e
+
+  -- one survivor more
+  pub between_more : (i k : ℕ) → i ≤ k → k < length l → copied_between h l i (k + 1) ≡ copied_between h l i k ++ moved_slots h l (get_or l k 0)
+  between_more i k le lt =
+      let rest = length-drop i l in
+      let count : k + 1 - i ≡ k - i + 1 = omega (arith, le) in
+      let back : i + (k - i) ≡ k = omega (arith, le) in
+      ap (λ n. flat_map (moved_slots h l) (take n (drop i l))) count
+      ∙ ap (flat_map (moved_slots h l)) (take_more (drop i l) (k - i) 0 (omega (arith, le, lt, rest)))
+      ∙ flat_map-append (moved_slots h l) (take (k - i) (drop i l)) (get_or (drop i l) (k - i) 0 ∷ [])
+      ∙ ap (λ ys. copied_between h l i k ++ ys) (append-nil (moved_slots h l (get_or (drop i l) (k - i) 0)))
+      ∙ ap (λ a. copied_between h l i k ++ moved_slots h l a) (get_or-drop i l (k - i) 0 ∙ ap (λ j. get_or l j 0) back)
+
+  -- those of the first survivors, and of the next
+  pub first_between : (i j : ℕ) → i ≤ j → first_copied h l i ++ copied_between h l i j ≡ first_copied h l j
+  first_between i j le =
+      let whole : i + (j - i) ≡ j = omega (arith, le) in
+      sym (flat_map-append (moved_slots h l) (take i l) (take (j - i) (drop i l)))
+      ∙ ap (flat_map (moved_slots h l)) (sym (take-add i (j - i) l) ∙ ap (λ n. take n l) whole)
+
+  -- a member of a stretch is one of the first
+  pub between_first : (i j : ℕ) (x : ℕ × ℕ) → i ≤ j → In (copied_between h l i j) x → In (first_copied h l j) x
+  between_first i j x le k = subst (λ ys. In ys x) (first_between i j le) (In-append_right (first_copied h l i) (copied_between h l i j) x k)
+
 module _ (h : Heap) (set l : List ℕ) (valid : IsValid h) (can : CanPlace h set l) (room : need h l ≤ length (free_regions h)) where
   positive : 0 < h.geometry.w
   positive = omega (arith, valid.limits.w_least)
@@ -191,11 +219,8 @@ module _ (h : Heap) (set l : List ℕ) (valid : IsValid h) (can : CanPlace h set
         (sym (forward_at h set l valid can room i in_list))
 
     -- one survivor more
-    pub run_more : first_copied h l i ++ filled_slots words (offset i) place ≡ first_copied h l (i + 1)
-    run_more =
-        ap (λ ys. first_copied h l i ++ ys) (read_slots ∙ sym (append-nil (moved_slots h l survivor)))
-        ∙ sym (flat_map-append (moved_slots h l) (take i l) (survivor ∷ []))
-        ∙ ap (flat_map (moved_slots h l)) (sym (take_more l i 0 in_list))
+    pub run_more : (b : ℕ) → b ≤ i → copied_between h l b i ++ filled_slots words (offset i) place ≡ copied_between h l b (i + 1)
+    run_more b le = ap (λ ys. copied_between h l b i ++ ys) read_slots ∙ sym (between_more h l b i le in_list)
 
     -- what its slots name is there
     pub named_there : (k : ℕ) → k < (object_at h survivor).refs → get_or words (offset i + k + 1) 0 ≤ h.geometry.n * h.geometry.w
@@ -352,14 +377,18 @@ module _ (h : Heap) (p : Plan) (made : IsPlanOf h p) where
               omega (arith, is, named_there h p.set p.survivors valid can room one.0 there i from to k (omega (arith, less, refs_are)))
 
           -- the slots of the survivors before this one stand below it
-          pub slots_lower : All (λ x. x.0 ≤ place) (first_copied h p.survivors i)
-          slots_lower =
+          pub slots_lower : (b : ℕ) → b ≤ i → All (λ x. x.0 ≤ place) (copied_between h p.survivors b i)
+          slots_lower b le =
               let goes : forward h p.survivors (get_or p.survivors i 0) ≡ place = forward_at h p.set p.survivors valid can room i listed ∙ sym (place_is ∙ ap (λ xs. get_or xs i 0) places_are) in
-              subst (λ q. All (λ x. x.0 ≤ q) (first_copied h p.survivors i)) goes (slots_before h p.set p.survivors valid can room i listed)
+              let all = subst (λ q. All (λ x. x.0 ≤ q) (first_copied h p.survivors i)) goes (slots_before h p.set p.survivors valid can room i listed) in
+              λ k d lt.
+              let m = between_first h p.survivors b i (get_or (copied_between h p.survivors b i) k d) le (get_or-In (copied_between h p.survivors b i) k d lt) in
+              let c = Contains-from_in (first_copied h p.survivors i) (get_or (copied_between h p.survivors b i) k d) m in
+              subst (λ (z : ℕ × ℕ). z.0 ≤ place) c.2 (all c.0 (get_or (copied_between h p.survivors b i) k d) c.1)
 
           -- one survivor more
-          pub slots_more : first_copied h p.survivors i ++ filled_slots words at place ≡ first_copied h p.survivors (i + 1)
-          slots_more =
+          pub slots_more : (b : ℕ) → b ≤ i → copied_between h p.survivors b i ++ filled_slots words at place ≡ copied_between h p.survivors b (i + 1)
+          slots_more b le =
               let goes : place ≡ get_or (places h p.survivors) i 0 = place_is ∙ ap (λ xs. get_or xs i 0) places_are in
-              (λ j. first_copied h p.survivors i ++ filled_slots (words_there j) (at_offset j) (goes j))
-              ∙ run_more h p.set p.survivors valid can room one.0 there i from to
+              (λ j. copied_between h p.survivors b i ++ filled_slots (words_there j) (at_offset j) (goes j))
+              ∙ run_more h p.set p.survivors valid can room one.0 there i from to b le

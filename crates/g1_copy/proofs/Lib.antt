@@ -24,6 +24,7 @@ pub mod GatheringRuns
 pub mod GatheringWhole
 pub mod GatheredLaws
 pub mod CopiedWords
+pub mod LinkingParts
 pub mod PreparedRegions
 pub mod PreparedPause
 pub mod Committed

@@ -21,12 +21,12 @@ use Rattle.g1_copy.specs.Links.{cards_by_region, is_linked, link}
 -- ---- lists
 
 -- two tests that agree on the members of a list filter it alike
-same_filter : (p q : ℕ → Bool) (xs : List ℕ) → ((x : ℕ) → In xs x → p x ≡ q x) → filter p xs ≡ filter q xs
+pub same_filter : (p q : ℕ → Bool) (xs : List ℕ) → ((x : ℕ) → In xs x → p x ≡ q x) → filter p xs ≡ filter q xs
 same_filter p q [] same = refl
 same_filter p q (x ∷ xs) same = ap (λ b. cond b (x ∷ filter p xs) (filter p xs)) (same x (inl refl)) ∙ ap (λ ys. cond (q x) (x ∷ ys) ys) (same_filter p q xs (λ y i. same y (inr i)))
 
 -- a test that no member passes
-none_pass : (p : ℕ → Bool) (xs : List ℕ) → ((x : ℕ) → In xs x → p x ≡ false) → filter p xs ≡ []
+pub none_pass : (p : ℕ → Bool) (xs : List ℕ) → ((x : ℕ) → In xs x → p x ≡ false) → filter p xs ≡ []
 none_pass p xs f = same_filter p (λ x. false) xs f ∙ all_out xs where
   all_out : (ys : List ℕ) → filter (λ x. false) ys ≡ []
   all_out [] = refl

@@ -1,11 +1,12 @@
 -- Slots with their words, and the cards that such slots put into remembered sets.
-use Rattle.std.specs.Prelude.{ℕ, Bool, not, ◌&&◌, List, ◌+◌, ◌-◌, ◌==◌, map, filter, flat_map}
+use Rattle.std.specs.Prelude.{ℕ, Bool, not, ◌&&◌, List, ◌+◌, ◌-◌, ◌*◌, ◌==◌, min, length, map, filter, flat_map, slice_range}
 use Rattle.std.specs.List.{range_with_len, list_any}
 use Rattle.g1_words.specs.Heap.{Heap, regions, card_of, object_at, word}
 use Rattle.g1_words.specs.References.{Ref}
 use Rattle.g1_words.specs.Layout.{forward}
 use Rattle.g1_words.specs.Copy.{renamed}
 use Rattle.g1_image.specs.Cards.{cards_where, leads_into}
+use Rattle.g1_layout.specs.Plan.{Plan, laid_before}
 
 -- the reference that a slot holds whose word isn't null
 abbrev pub link : ℕ × ℕ → Ref
@@ -27,3 +28,16 @@ moved_slots h l a =
 -- those of all survivors, in their order
 abbrev pub copied_slots : Heap → List ℕ → List (ℕ × ℕ)
 copied_slots h l = flat_map (moved_slots h l) l
+
+-- those of the survivors from one index of the list up to another
+abbrev pub copied_between : Heap → List ℕ → ℕ → ℕ → List (ℕ × ℕ)
+copied_between h l i j = flat_map (moved_slots h l) (slice_range l i j)
+
+-- how many runs stand before the j-th part of so many runs
+abbrev pub runs_before : Plan → ℕ → ℕ → ℕ
+runs_before p size j = min (j * size) (length p.runs)
+
+-- for each region the cards of those slots of the survivors of the j-th part's runs that lead into it from another
+abbrev pub part_cards : Heap → Plan → ℕ → ℕ → List (List ℕ)
+part_cards h p size j =
+    cards_by_region h (copied_between h p.survivors (laid_before h p.survivors (runs_before p size j)) (laid_before h p.survivors (runs_before p size (j + 1))))

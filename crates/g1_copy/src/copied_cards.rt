@@ -1,14 +1,22 @@
-ghost use Rattle.std.specs.Prelude.{◌≡◌, ◌≤◌, ◌<◌, ◌+◌, ◌*◌, ◌++◌, ◌%◌, ◌^◌, ℕ, List, length, map, flat_map, take, slice_index, All, Contains, OnOk, IfOk, IfErr};
+ghost use Rattle.std.specs.Prelude.{◌≡◌, ◌≤◌, ◌<◌, ◌+◌, ◌*◌, ◌++◌, ◌%◌, ◌^◌, ℕ, List, length, map, slice_index, All, Contains, OnOk, IfOk, IfErr};
+ghost use Rattle.g1_words.specs.declared.fault.Fault.TheVariants.{Memory};
+ghost use Rattle.g1_layout.specs.Plan.{laid_before};
 ghost use Rattle.g1_copy.specs.Plans.{IsPlanOf};
 ghost use Rattle.g1_copy.specs.Gathered.{placed_words, to_space_words};
-ghost use Rattle.g1_copy.specs.Links.{cards_by_region, copied_slots, moved_slots};
+ghost use Rattle.g1_copy.specs.Links.{cards_by_region, copied_between, copied_slots, part_cards};
 ghost use Rattle.g1_copy.specs.Filled.{filled_slots};
+ghost use Rattle.g1_copy.specs.Remembered.{cards_at};
 
 use crate::cards_by_region::add_slot;
 use g1_layout::{Plan, Run};
 use g1_rem::no_cards;
-use g1_words::{Heap, header};
+use g1_words::{Fault, Heap, header};
+use g1_work::{Make, make_each, threads_for};
 use std::alloc::{AllocError, Global};
+use std::thread::Threads;
+
+/// A thread is worth starting for this many words of to-space.
+const LISTED_WORDS_A_THREAD: usize = 131_072;
 
 /// Adds the cards of an object's slots to the lists of the regions that these lead into. The object's
 /// words begin at an index of those given, and will be at a place in the heap, above the slots
@@ -37,7 +45,9 @@ fn add_object(
     Ok(())
 }
 
-/// Adds the cards of the slots of one run's survivors. `words` are those of the run's region.
+/// Adds the cards of the slots of one run's survivors. `words` are those of the run's region. If the
+/// lists have the cards of the survivors before the run from some index on, they then have those of
+/// the run's, too.
 fn add_run(
     heap: &Heap,
     plan: &Plan,
@@ -48,8 +58,8 @@ fn add_run(
     requires plan { IsPlanOf heap.now plan.now }
     requires run { Contains plan.now.runs run.now }
     requires words { words.now ≡ placed_words heap.now plan.now.survivors run.now.region }
-    requires before { map (λ s. s.items) lists.old ≡ cards_by_region heap.now (flat_map (moved_slots heap.now plan.now.survivors) (take run.now.from plan.now.survivors)) }
-    ensures { OnOk result (map (λ s. s.items) lists.new ≡ cards_by_region heap.now (flat_map (moved_slots heap.now plan.now.survivors) (take run.now.to plan.now.survivors))) }
+    requires one_each { length lists.old ≡ heap.now.geometry.n }
+    ensures { OnOk result ((i : ℕ) → i ≤ run.now.from → map (λ s. s.items) lists.old ≡ cards_by_region heap.now (copied_between heap.now plan.now.survivors i run.now.from) → map (λ s. s.items) lists.new ≡ cards_by_region heap.now (copied_between heap.now plan.now.survivors i run.now.to)) }
 {
     let start = heap.geometry().start(run.region);
     for i in run.from..run.to {
@@ -59,27 +69,132 @@ fn add_run(
     Ok(())
 }
 
-/// For each region the cards, rising, of those slots of the survivors, at their places, that lead into
-/// it from another region, read from the words of to-space. Linear in the slots of the survivors and
-/// the regions.
-pub(crate) fn copied_cards(
+/// What cards are listed of: the survivors of a plan, and the words of to-space that hold them.
+#[derive(Clone, Copy)]
+pub struct Copied<'a> {
+    heap: &'a Heap,
+    plan: &'a Plan,
+    gathered: &'a [u64],
+}
+
+/// For each region the cards, rising, of those slots of the survivors of some runs, at their places,
+/// that lead into it from another region. The runs are those from one number up to another.
+fn cards_of_runs(
     alloc: Global,
-    heap: &Heap,
-    plan: &Plan,
-    gathered: &[u64],
+    copied: &Copied<'_>,
+    from: usize,
+    to: usize,
 ) -> Result<Vec<Vec<u32>>, AllocError>
-    requires plan { IsPlanOf heap.now plan.now }
-    requires gathered { gathered.now ≡ to_space_words heap.now plan.now.survivors }
-    ensures { IfOk result (λ v. map (λ s. s.items) v.items ≡ cards_by_region heap.now (copied_slots heap.now plan.now.survivors)) }
+    requires plan { IsPlanOf copied.now.heap.now copied.now.plan.now }
+    requires gathered { copied.now.gathered.now ≡ to_space_words copied.now.heap.now copied.now.plan.now.survivors }
+    requires order { from ≤ to }
+    requires there { to ≤ length copied.now.plan.now.runs }
+    ensures { let h = copied.now.heap.now in let l = copied.now.plan.now.survivors in IfOk result (λ v. map (λ s. s.items) v.items ≡ cards_by_region h (copied_between h l (laid_before h l from) (laid_before h l to))) }
 {
+    let Copied {
+        heap,
+        plan,
+        gathered,
+    } = *copied;
     let geometry = heap.geometry();
     let region_words = geometry.region_words() as usize;
     let runs = plan.runs();
     let mut lists = no_cards(alloc, geometry.regions())?;
-    for number in 0..runs.len() {
+    for number in from..to {
         let first = geometry.words_of(number as u64) as usize;
         let words = &gathered[first..first + region_words];
         add_run(heap, plan, &runs[number], words, &mut lists)?;
     }
     Ok(lists)
+}
+
+/// The runs of a plan, in parts of this many.
+#[derive(Drop)]
+struct Parts<'a> {
+    copied: &'a Copied<'a>,
+    size: usize,
+}
+
+impl Make for Parts<'_> {
+    type Made = Vec<Vec<u32>>;
+
+    ghost ready = { λ s j. IsPlanOf s.copied.now.heap.now s.copied.now.plan.now × (s.copied.now.gathered.now ≡ to_space_words s.copied.now.heap.now s.copied.now.plan.now.survivors) × (j * s.size ≤ length s.copied.now.plan.now.runs) };
+
+    ghost makes = { λ s j v. map (λ c. c.items) v.items ≡ part_cards s.copied.now.heap.now s.copied.now.plan.now s.size j };
+
+    fn make(&self, alloc: Global, part: usize) -> Result<Vec<Vec<u32>>, Fault> {
+        let runs = self.copied.plan.runs();
+        let from = part * self.size;
+        let to = from + self.size.min(runs.len() - from);
+        Ok(cards_of_runs(alloc, self.copied, from, to)?)
+    }
+}
+
+/// Adds to each list the cards of another one.
+fn append_each(lists: &mut [Vec<u32>], more: &[Vec<u32>]) -> Result<(), AllocError>
+    requires same { length more.now ≡ length lists.old }
+    ensures { OnOk result ((r : ℕ) → r < length more.now → cards_at (map (λ s. s.items) lists.new) r ≡ cards_at (map (λ s. s.items) lists.old) r ++ cards_at (map (λ s. s.items) more.now) r) }
+{
+    for (r, cards) in more.iter().enumerate() {
+        lists[r].extend_from_slice(cards)?;
+    }
+    Ok(())
+}
+
+/// As `copied_cards`, by this many threads, each with a part of the runs. The parts stand in to-space
+/// one behind the other, and no card is in two of them.
+fn cards_by_threads(
+    rt: &(impl Threads + Sync),
+    alloc: Global,
+    copied: &Copied<'_>,
+    threads: usize,
+) -> Result<Vec<Vec<u32>>, Fault>
+    requires some { 0 < threads }
+    requires plan { IsPlanOf copied.now.heap.now copied.now.plan.now }
+    requires gathered { copied.now.gathered.now ≡ to_space_words copied.now.heap.now copied.now.plan.now.survivors }
+    ensures ok { IfOk result (λ v. map (λ s. s.items) v.items ≡ cards_by_region copied.now.heap.now (copied_slots copied.now.heap.now copied.now.plan.now.survivors)) }
+    ensures memory { IfErr result (λ e. e ≡ Memory) }
+{
+    let runs = copied.plan.runs().len();
+    let size = runs.div_ceil(threads).max(1);
+    let parts = Parts { copied, size };
+    let made = make_each(rt, alloc, threads, runs.div_ceil(size), &parts)?;
+    let mut lists = no_cards(alloc, copied.heap.geometry().regions())?;
+    for part in &made {
+        append_each(&mut lists, part)?;
+    }
+    Ok(lists)
+}
+
+/// For each region the cards, rising, of those slots of the survivors, at their places, that lead into
+/// it from another region, read from the words of to-space by this many workers at most. One if it is
+/// 0. Linear in the slots of the survivors and, for each thread, the regions.
+///
+/// # Errors
+///
+/// `Fault::Memory` alone.
+pub(crate) fn copied_cards(
+    rt: &(impl Threads + Sync),
+    alloc: Global,
+    heap: &Heap,
+    plan: &Plan,
+    gathered: &[u64],
+    workers: u64,
+) -> Result<Vec<Vec<u32>>, Fault>
+    requires plan { IsPlanOf heap.now plan.now }
+    requires gathered { gathered.now ≡ to_space_words heap.now plan.now.survivors }
+    ensures ok { IfOk result (λ v. map (λ s. s.items) v.items ≡ cards_by_region heap.now (copied_slots heap.now plan.now.survivors)) }
+    ensures memory { IfErr result (λ e. e ≡ Memory) }
+{
+    let copied = Copied {
+        heap,
+        plan,
+        gathered,
+    };
+    // Each thread has a list for each region, so it has more words if there are many regions.
+    let least = LISTED_WORDS_A_THREAD.max(4 * heap.geometry().regions() as usize);
+    match threads_for(workers, gathered.len(), least) {
+        1 => Ok(cards_of_runs(alloc, &copied, 0, plan.runs().len())?),
+        threads => cards_by_threads(rt, alloc, &copied, threads),
+    }
 }

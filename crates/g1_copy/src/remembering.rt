@@ -157,7 +157,7 @@ pub(crate) fn remembered_by_fate(
 {
     let heap = image(tracked).heap();
     let outer = cards_by_region(alloc, heap, changes.patches)?;
-    let inner = copied_cards(alloc, heap, changes.plan, changes.gathered)?;
+    let inner = copied_cards(rt, alloc, heap, changes.plan, changes.gathered, workers)?;
     let joining = Joining {
         heap,
         fates: changes.fates,

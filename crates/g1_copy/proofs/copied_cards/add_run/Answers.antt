@@ -1,9 +1,7 @@
-use Rattle.std.proofs.Common.{◌≡◌, ◌-◌, ◌*◌, ◌∙◌, length, slice_index, arith, ap, sym}
-use Rattle.std.proofs.lemmas.List.{length-map}
-use Rattle.std.proofs.lemmas.List.FromFn.{length-map-range_with_len}
+use Rattle.std.proofs.Common.{◌≡◌, ◌≤◌, ◌-◌, ◌*◌, ◌∙◌, length, slice_index, arith, ap}
 use Rattle.g1_words.specs.Geometry.{Geometry}
-use Rattle.g1_copy.specs.Links.{cards_by_region}
-use Rattle.g1_copy.proofs.CopiedWords.{first_copied, in_places, index_small, not_below, run_order, slots_below, slots_inside, slots_lower, slots_more, slots_named, slots_within}
+use Rattle.g1_copy.specs.Links.{cards_by_region, copied_between}
+use Rattle.g1_copy.proofs.CopiedWords.{in_places, index_small, not_below, run_order, slots_below, slots_inside, slots_lower, slots_more, slots_named, slots_within}
 use Rattle.g1_copy.proofs.copied_cards.add_run.Goals as goal
 
 pub offset_bounds-places-i : goal.offset_bounds-places-i
@@ -51,30 +49,30 @@ add_object-requires-clause-named c =
     (slice_index c.places.result.now c.loop-i.i) (ap (λ xs. slice_index xs c.loop-i.i) c.places.ensures)
     c.args.words.now (slice_index c.places.result.now c.loop-i.i - c.start-start.result) c.requires.words (ap (λ z. slice_index c.places.result.now c.loop-i.i - z) start)
 
-pub add_object-requires-clause-one_each : goal.add_object-requires-clause-one_each
-add_object-requires-clause-one_each c = sym (length-map c.loop-i.lists (λ s. s.items)) ∙ ap length c.loop-i.invariant ∙ length-map-range_with_len _ 0 c.args.heap.now.geometry.n
+pub loop-i-init : goal.loop-i-init
+loop-i-init c = λ b le e. e
 
 pub loop-i-preserved : goal.loop-i-preserved
-loop-i-preserved c =
+loop-i-preserved c = λ b le e.
     let h = c.args.heap.now in
     let l = c.args.plan.now.survivors in
     let start : c.start-start.result ≡ c.args.run.now.region * c.args.heap.now.geometry.w = c.start-start.ensures.value ∙ ap (λ (g : Geometry). c.args.run.now.region * g.w) c.geometry.ensures.same in
-    c.in_ok-add_object.ensures (first_copied h l c.loop-i.i)
+    let low : b ≤ c.loop-i.i = omega (arith, le, c.loop-i.auto.i) in
+    c.in_ok-add_object.ensures (copied_between h l b c.loop-i.i)
     (slots_lower c.args.heap.now c.args.plan.now c.requires.plan c.geometry.ensures.valid c.args.run.now c.requires.run c.loop-i.i c.loop-i.auto.i c.loop-i-test.true
     (slice_index c.places.result.now c.loop-i.i) (ap (λ xs. slice_index xs c.loop-i.i) c.places.ensures)
-    c.args.words.now (slice_index c.places.result.now c.loop-i.i - c.start-start.result) c.requires.words (ap (λ z. slice_index c.places.result.now c.loop-i.i - z) start)
-    ) c.loop-i.invariant
+    c.args.words.now (slice_index c.places.result.now c.loop-i.i - c.start-start.result) c.requires.words (ap (λ z. slice_index c.places.result.now c.loop-i.i - z) start) b low)
+    (c.loop-i.invariant b le e)
     ∙ ap (cards_by_region h)
     (slots_more c.args.heap.now c.args.plan.now c.requires.plan c.geometry.ensures.valid c.args.run.now c.requires.run c.loop-i.i c.loop-i.auto.i c.loop-i-test.true
     (slice_index c.places.result.now c.loop-i.i) (ap (λ xs. slice_index xs c.loop-i.i) c.places.ensures)
-    c.args.words.now (slice_index c.places.result.now c.loop-i.i - c.start-start.result) c.requires.words (ap (λ z. slice_index c.places.result.now c.loop-i.i - z) start)
-    )
+    c.args.words.now (slice_index c.places.result.now c.loop-i.i - c.start-start.result) c.requires.words (ap (λ z. slice_index c.places.result.now c.loop-i.i - z) start) b low)
 
 pub returns : goal.returns
-returns c =
+returns c = λ b le e.
     let order = run_order c.args.heap.now c.args.plan.now c.requires.plan c.geometry.ensures.valid c.args.run.now c.requires.run in
     let end : c.loop-i.i ≡ c.args.run.now.to = omega (arith, c.loop-i-test.false, c.loop-i.auto.i-end order) in
-    c.loop-i.invariant ∙ ap (λ i. cards_by_region c.args.heap.now (first_copied c.args.heap.now c.args.plan.now.survivors i)) end
+    c.loop-i.invariant b le e ∙ ap (λ i. cards_by_region c.args.heap.now (copied_between c.args.heap.now c.args.plan.now.survivors b i)) end
 
 pub loop-i-smaller : goal.loop-i-smaller
 loop-i-smaller c = omega (arith, c.loop-i-test.true)

@@ -1,7 +1,7 @@
-use Rattle.std.proofs.Common.{◌≡◌, map}
-use Rattle.g1_copy.specs.Links.{cards_by_region}
-use Rattle.g1_copy.proofs.CopiedWords.{first_copied}
+use Rattle.std.proofs.Common.{◌≡◌, ◌≤◌, ℕ, map}
+use Rattle.g1_copy.specs.Links.{cards_by_region, copied_between}
 use Rattle.g1_copy.proofs.copied_cards.add_run.Given as goal
 
 abbrev pub invariant-loop-i : goal.invariant-loop-i
-invariant-loop-i l = map (λ s. s.items) l.lists ≡ cards_by_region l.heap (first_copied l.heap l.plan.survivors l.i)
+invariant-loop-i l = (b : ℕ) → b ≤ l.run.from → map (λ s. s.items) l.initial.lists ≡ cards_by_region l.heap (copied_between l.heap l.plan.survivors b l.run.from)
+    → map (λ s. s.items) l.lists ≡ cards_by_region l.heap (copied_between l.heap l.plan.survivors b l.i)

@@ -29,7 +29,7 @@ join_all-requires-after_bounds g c κs within =
     let b = (goal.at.join_all-requires-after_bounds g c).After-heap-heap in
     let h = c.heap-heap.result.now in
     let outer = cards_lent h c.args.changes.now.patches.now c.deref.result.now c.in_ok-outer.outer.items c.deref.ensures.value c.in_ok-outer.ensures in
-    let inner = cards_lent h (copied_slots h c.args.changes.now.plan.now.survivors) c.deref-2.result.now c.in_ok-inner.inner.items c.deref-2.ensures.value c.in_ok-inner.ensures in
+    let inner = cards_lent h (copied_slots h c.args.changes.now.plan.now.survivors) c.deref-2.result.now c.in_ok-inner.inner.items c.deref-2.ensures.value c.in_ok-inner.ensures.ok in
     paused_sources c.args.tracked.now c.args.changes.now.plan.now.set c.args.changes.now.plan.now (the_image g b) c.requires.plan h (the_heap g b)
     c.args.changes.now.patches.now c.requires.patches c.args.changes.now.fates.now c.requires.fates
     (map (λ s. s.items) c.args.remembered.now) (map (λ s. s.items) c.deref.result.now) (map (λ s. s.items) c.deref-2.result.now) c.requires.remembered outer inner
@@ -39,7 +39,7 @@ returns-clause-ok g c =
     let b = (goal.at.returns-clause-ok g c).After-heap-heap in
     let h = c.heap-heap.result.now in
     let outer = cards_lent h c.args.changes.now.patches.now c.deref.result.now c.in_ok-outer.outer.items c.deref.ensures.value c.in_ok-outer.ensures in
-    let inner = cards_lent h (copied_slots h c.args.changes.now.plan.now.survivors) c.deref-2.result.now c.in_ok-inner.inner.items c.deref-2.ensures.value c.in_ok-inner.ensures in
+    let inner = cards_lent h (copied_slots h c.args.changes.now.plan.now.survivors) c.deref-2.result.now c.in_ok-inner.inner.items c.deref-2.ensures.value c.in_ok-inner.ensures.ok in
     paused_remembered c.args.tracked.now c.args.changes.now.plan.now.set c.args.changes.now.plan.now (the_image g b) c.requires.plan h (the_heap g b)
     c.args.changes.now.patches.now c.requires.patches c.args.changes.now.fates.now c.requires.fates
     (map (λ s. s.items) c.args.remembered.now) (map (λ s. s.items) c.deref.result.now) (map (λ s. s.items) c.deref-2.result.now) c.requires.remembered outer inner
