@@ -31,7 +31,7 @@ earlier_trans a b k m r s (inl e) (inr d) = inl (omega (arith, e, d.0))
 earlier_trans a b k m r s (inr e) (inl d) = inl (omega (arith, e.0, d))
 earlier_trans a b k m r s (inr e) (inr d) = inr (omega (arith, e.0, d.0), omega (arith, e.1, d.1))
 
-none_between : (a b k m : ℕ) → IsEarlier k m a b → IsEarlier a b k (m + 1) → ⊥
+pub none_between : (a b k m : ℕ) → IsEarlier k m a b → IsEarlier a b k (m + 1) → ⊥
 none_between a b k m (inl e) (inl d) = absurd (omega (arith, e, d))
 none_between a b k m (inl e) (inr d) = absurd (omega (arith, e, d.0))
 none_between a b k m (inr e) (inl d) = absurd (omega (arith, e.0, d))
@@ -92,11 +92,11 @@ between_kept_by : (g h : Heap) (w v : Walk) (f m k n : ℕ) → HasGrown w v →
 between_kept_by g h w v f m k n grown within links i j x y from to way =
     linked_more w v grown i j x y (links i j x y from to (way_less g h w v grown i j x y (within i j to) way))
 
-upto : (k n l i j : ℕ) → k ≤ l → IsEarlier i j k n → i ≤ l
+pub upto : (k n l i j : ℕ) → k ≤ l → IsEarlier i j k n → i ≤ l
 upto k n l i j le (inl e) = omega (arith, e, le)
 upto k n l i j le (inr e) = omega (arith, e.0, le)
 
-upto_row : (k l i j : ℕ) → k ≤ l + 1 → IsEarlier i j k 0 → i ≤ l
+pub upto_row : (k l i j : ℕ) → k ≤ l + 1 → IsEarlier i j k 0 → i ≤ l
 upto_row k l i j le (inl e) = omega (arith, e, le)
 upto_row k l i j le (inr e) = absurd (omega (arith, e.1))
 
@@ -123,7 +123,7 @@ between_less g h w f m k n r s links within i j x y from to way = links i j x y 
 
 -- ---- from the first way on
 
-never_first : (i j : ℕ) → IsEarlier i j 0 0 → ⊥
+pub never_first : (i j : ℕ) → IsEarlier i j 0 0 → ⊥
 never_first i j (inl e) = absurd (omega (arith, e))
 never_first i j (inr e) = absurd (omega (arith, e.1))
 

@@ -1,5 +1,5 @@
 -- Where a walk ends, no difference comes before.
-use Rattle.std.proofs.Common.{◌≡◌, ◌≢◌, ℕ, zero, suc, ◌+◌, ◌<◌, ◌≤◌, ◌/◌, ◌%◌, ◌^◌, ◌++◌, ◌⊎◌, inl, inr, List, [], ◌∷◌, Vec, Global, length, refl, sym, ap, subst, ◌∙◌, arith, slice_index}
+use Rattle.std.proofs.Common.{◌≡◌, ◌≢◌, ℕ, zero, suc, ◌+◌, ◌<◌, ◌≤◌, ◌/◌, ◌%◌, ◌^◌, ◌++◌, ◌⊎◌, inl, inr, List, [], ◌∷◌, Vec, Global, length, Contains, refl, sym, ap, subst, ◌∙◌, arith, slice_index}
 use Rattle.std.proofs.lemmas.Bool.{cases_lt}
 use Rattle.std.proofs.lemmas.List.{length_push}
 use Rattle.g1_words.specs.Heap.{Heap, word, object_at}
@@ -10,7 +10,8 @@ use Rattle.g1_same.specs.declared.difference.How.TheVariants.{NullBefore, NullAf
 use Rattle.g1_same.specs.declared.difference.Difference.TheVariants.{At}
 use Rattle.g1_same.specs.Path.{Leads, LeadsTo, Together, Lower, Before}
 use Rattle.g1_same.specs.Same.{IsClash, ClashAt, rank, IsFirstDifference}
-use Rattle.g1_same.specs.Walk.{AreAlike, IsWay, IsWalk, IsEarlier, IsLinked, IsNew, IsLeast, IsRoute, root, slot}
+use Rattle.g1_same.specs.Stale.{LeadsToStale}
+use Rattle.g1_same.specs.Walk.{AreAlike, IsWay, IsWalkOf, IsWalk, IsEarlier, IsLinked, IsNew, IsLeast, IsRoute, root, slot}
 use Rattle.g1_same.proofs.Linked.{Stop, IsStop, LinksTo}
 use Rattle.g1_same.proofs.Excludes.{leads_to_one}
 use Rattle.g1_same.proofs.Tables.{index_apart}
@@ -61,7 +62,7 @@ not_after_push p q s (inr b) = inr (before_push p q s s b)
 
 -- ---- the last step of a path
 
-last_of : (k : ℕ) (p : List ℕ) → (p ≡ []) ⊎ ((q : List ℕ) × (s : ℕ) × (k ∷ p ≡ (k ∷ q) ++ s ∷ []))
+pub last_of : (k : ℕ) (p : List ℕ) → (p ≡ []) ⊎ ((q : List ℕ) × (s : ℕ) × (k ∷ p ≡ (k ∷ q) ++ s ∷ []))
 last_of k [] = inl refl
 last_of k (x ∷ p) = elim (last_of x p) [
   | inl e ↦ inr ([], x, ap (λ z. k ∷ x ∷ z) e)
@@ -74,9 +75,13 @@ leads_last h [] s (suc a) y l = (a, refl, l.0, l.1)
 leads_last h (n ∷ ss) s zero y l = absurd l
 leads_last h (n ∷ ss) s (suc b) y l = let r = leads_last h ss s (word h (b + 1 + n)) y l.1 in (r.0, (l.0, r.1), r.2, r.3)
 
-leads_to_last : (h : Heap) (p : List ℕ) (s y : ℕ) → 0 < length p → LeadsTo h (p ++ s ∷ []) y → (a : ℕ) × LeadsTo h p (suc a) × (s < (object_at h a).refs) × (word h (a + 1 + s) ≡ y)
+pub leads_to_last : (h : Heap) (p : List ℕ) (s y : ℕ) → 0 < length p → LeadsTo h (p ++ s ∷ []) y → (a : ℕ) × LeadsTo h p (suc a) × (s < (object_at h a).refs) × (word h (a + 1 + s) ≡ y)
 leads_to_last h [] s y lt l = absurd (omega (arith, lt))
 leads_to_last h (k ∷ ss) s y lt l = let r = leads_last h ss s (slice_index h.roots k) y l.1 in (r.0, (l.0, r.1), r.2, r.3)
+
+pub leads_some : (h : Heap) (p : List ℕ) (y : ℕ) → LeadsTo h p y → 0 < length p
+leads_some h [] y l = absurd l
+leads_some h (k ∷ p) y l = omega arith
 
 pub way_cases : (f m k n : ℕ) → IsEarlier f m k n ⊎ (((f ≡ k) × (m ≡ n)) ⊎ IsEarlier k n f m)
 way_cases f m k n = elim (cases_lt f k) [
@@ -92,13 +97,17 @@ way_cases f m k n = elim (cases_lt f k) [
   ]
 ]
 
-module _ (g h : Heap) (left : IsValid g) (right : IsValid h) (w : Walk) (walk : IsWalk g h w) (f n : ℕ) (p : List ℕ) (links : LinksTo g h w f n) (at : IsRoute w f n p) where
-  abbrev IsFound : List ℕ → ℕ → ℕ → Type 0
-  IsFound q x y =
-      ((x ≡ 0) × (y ≡ 0))
-      ⊎ ((i : ℕ) × (i < length w.before.items) × (x ≡ suc (slice_index w.before.items i)) × (y ≡ suc (slice_index w.after.items i))
-      × (c : List ℕ) × IsRoute w (slice_index w.from.items i) (slice_index w.number.items i) c × NotAfter c q)
+-- all ways before this one are linked
+abbrev pub LinksEarlier : Heap → Heap → Walk → ℕ → ℕ → Type 0
+LinksEarlier g h w f n = (k m x y : ℕ) → IsEarlier k m f n → IsWay g h w.before.items w.after.items k m x y → IsLinked w k m x y
 
+-- all pairs that were found by ways before this one are alike
+abbrev pub AlikeEarlier : Heap → Heap → Walk → ℕ → ℕ → Type 0
+AlikeEarlier g h w f n =
+    (i : ℕ) → i < length w.before.items → IsEarlier (slice_index w.from.items i) (slice_index w.number.items i) f n
+    → AreAlike g h (slice_index w.before.items i) (slice_index w.after.items i)
+
+module _ (g h : Heap) (w : Walk) (n : ℕ) where
   way_linked : (f k m x y : ℕ) → LinksTo g h w f n → IsEarlier k m f n → IsWay g h w.before.items w.after.items k m x y → IsLinked w k m x y
   way_linked zero zero m x y links (inl e) way = absurd (omega (arith, e))
   way_linked zero zero m x y links (inr e) way = subst (λ z. IsLinked w 0 m z y) way.2 (subst (λ z. IsLinked w 0 m (slice_index g.roots m) z) way.3 (links m e.1))
@@ -111,6 +120,14 @@ module _ (g h : Heap) (left : IsValid g) (right : IsValid h) (w : Walk) (walk : 
       let same : j ≡ i = omega (arith, e.0) in
       let l = subst (λ z. IsLinked w (suc z) m (word g (slice_index w.before.items z + 1 + m)) (word h (slice_index w.after.items z + 1 + m))) same (links.2 m e.1) in
       subst (λ z. IsLinked w (suc i) m z y) way.3 (subst (λ z. IsLinked w (suc i) m (word g (slice_index w.before.items i + 1 + m)) z) way.4 l)
+
+module _ {R : ℕ → ℕ → Type 0} (g h : Heap) (left : IsValid g) (right : IsValid h) (w : Walk) (walk : IsWalkOf R g h w) (f n : ℕ) (p : List ℕ) (links : LinksEarlier g h w f n) (at : IsRoute w f n p)
+    (alike : AlikeEarlier g h w f n) where
+  abbrev IsFound : List ℕ → ℕ → ℕ → Type 0
+  IsFound q x y =
+      ((x ≡ 0) × (y ≡ 0))
+      ⊎ ((i : ℕ) × (i < length w.before.items) × (x ≡ suc (slice_index w.before.items i)) × (y ≡ suc (slice_index w.after.items i))
+      × (c : List ℕ) × IsRoute w (slice_index w.from.items i) (slice_index w.number.items i) c × NotAfter c q)
 
   -- the way of an earlier path is an earlier way
   earlier_of : (k m : ℕ) (q : List ℕ) → IsRoute w k m q → Before q p → IsEarlier k m f n
@@ -157,7 +174,7 @@ module _ (g h : Heap) (left : IsValid g) (right : IsValid h) (w : Walk) (walk : 
     | inl e ↦
         let v : Together g h (k ∷ []) x y = subst (λ z. Together g h (k ∷ z) x y) e u in
         let c : Before (k ∷ []) p = subst (λ z. Before (k ∷ z) p) e b in
-        let l = way_linked f 0 k x y links (earlier_of 0 k (k ∷ []) (root k) c) (v.0.0, v.1.0, v.0.1, v.1.1) in
+        let l = links 0 k x y (earlier_of 0 k (k ∷ []) (root k) c) (v.0.0, v.1.0, v.0.1, v.1.1) in
         subst (λ z. IsFound (k ∷ z) x y) (sym e) (found_by 0 k (k ∷ []) x y (root k) l)
     | inr r ↦
         let q : List ℕ = k ∷ r.0 in
@@ -187,7 +204,7 @@ module _ (g h : Heap) (left : IsValid g) (right : IsValid h) (w : Walk) (walk : 
             subst (λ z. word g (z + 1 + s) ≡ x) ea eg,
             subst (λ z. word h (z + 1 + s) ≡ y) eb eh,
           ) in
-          let l = way_linked f (suc i.0) s x y links (earlier_of (suc i.0) s (i.4 ++ s ∷ []) r (not_after_before (i.4 ++ s ∷ []) (q ++ s ∷ []) p near c)) way in
+          let l = links (suc i.0) s x y (earlier_of (suc i.0) s (i.4 ++ s ∷ []) r (not_after_before (i.4 ++ s ∷ []) (q ++ s ∷ []) p near c)) way in
           weaken (found_by (suc i.0) s (i.4 ++ s ∷ []) x y r l) near
         where
           weaken : IsFound (i.4 ++ s ∷ []) x y → NotAfter (i.4 ++ s ∷ []) (q ++ s ∷ []) → IsFound (q ++ s ∷ []) x y
@@ -195,12 +212,20 @@ module _ (g h : Heap) (left : IsValid g) (right : IsValid h) (w : Walk) (walk : 
           weaken (inr j) near = inr (j.0, j.1, j.2, j.3, j.4, j.5, not_after_trans j.4 (i.4 ++ s ∷ []) (q ++ s ∷ []) j.6 near)
 
   -- the place of what an earlier path leads to
-  placed : (q : List ℕ) (a b : ℕ) → Before q p → Together g h q (suc a) (suc b) → (i : ℕ) × (i < length w.before.items) × (a ≡ slice_index w.before.items i) × (b ≡ slice_index w.after.items i)
+  placed : (q : List ℕ) (a b : ℕ) → Before q p → Together g h q (suc a) (suc b)
+      → (i : ℕ) × (i < length w.before.items) × (a ≡ slice_index w.before.items i) × (b ≡ slice_index w.after.items i) × IsEarlier (slice_index w.from.items i) (slice_index w.number.items i) f n
   placed q a b c u = go (found_at (length q) q (suc a) (suc b) (omega arith) c u)
     where
-      go : IsFound q (suc a) (suc b) → (i : ℕ) × (i < length w.before.items) × (a ≡ slice_index w.before.items i) × (b ≡ slice_index w.after.items i)
+      go : IsFound q (suc a) (suc b)
+          → (i : ℕ) × (i < length w.before.items) × (a ≡ slice_index w.before.items i) × (b ≡ slice_index w.after.items i) × IsEarlier (slice_index w.from.items i) (slice_index w.number.items i) f n
       go (inl e) = absurd (omega (arith, e.0))
-      go (inr i) = (i.0, i.1, omega (arith, i.2), omega (arith, i.3))
+      go (inr i) = (
+        i.0,
+        i.1,
+        omega (arith, i.2),
+        omega (arith, i.3),
+        earlier_of (slice_index w.from.items i.0) (slice_index w.number.items i.0) i.4 i.5 (not_after_before i.4 q p i.6 c),
+      )
 
   one_old : (q r : List ℕ) (a m k : ℕ) → Before q p → Before r p → Together g h q (suc a) (suc m) → Together g h r (suc a) (suc k) → m ≡ k
   one_old q r a m k bq br u v =
@@ -221,7 +246,7 @@ module _ (g h : Heap) (left : IsValid g) (right : IsValid h) (w : Walk) (walk : 
   alike_at q x y a b c u ex ey =
       let v : Together g h q (suc a) (suc b) = subst (λ z. Together g h q z (suc b)) ex (subst (λ z. Together g h q x z) ey u) in
       let i = placed q a b c v in
-      subst (λ z. AreAlike g h z b) (sym i.2) (subst (λ z. AreAlike g h (slice_index w.before.items i.0) z) (sym i.3) (walk.alike i.0 i.1))
+      subst (λ z. AreAlike g h z b) (sym i.2) (subst (λ z. AreAlike g h (slice_index w.before.items i.0) z) (sym i.3) (alike i.0 i.1 i.4))
 
   null_both : (q : List ℕ) (x y : ℕ) → Before q p → Together g h q x y → ((x ≡ 0) × (y ≡ 0)) ⊎ ((x ≢ 0) × (y ≢ 0))
   null_both q x y c u = go (found_at (length q) q x y (omega arith) c u)
@@ -248,6 +273,42 @@ module _ (g h : Heap) (left : IsValid g) (right : IsValid h) (w : Walk) (walk : 
   none_earlier q (Data m) c k =
       let a = alike_at q k.0 k.1 k.3.0 k.3.1 c k.2 k.3.2 k.3.3 in
       k.3.6 (a.data_words m k.3.5)
+
+  -- an earlier path ends at no stale word
+  module _ (roots slots : List (ℕ × ℕ)) (no_root : (k x z : ℕ) → IsEarlier 0 k f n → IsWay g h w.before.items w.after.items 0 k x 0 → Contains roots (k, z) → ⊥)
+      (no_slot : (i m x z : ℕ) → IsEarlier (suc i) m f n → IsWay g h w.before.items w.after.items (suc i) m x 0 → Contains slots (slice_index w.after.items i + 1 + m, z) → ⊥) where
+    stale_root : (k x z : ℕ) → Before (k ∷ []) p → Together g h (k ∷ []) x 0 → Contains roots (k, z) → ⊥
+    stale_root k x z b t c = no_root k x z (earlier_of 0 k (k ∷ []) (root k) b) (t.0.0, t.1.0, t.0.1, t.1.1) c
+
+    stale_slot : (q : List ℕ) (a m x z : ℕ) → Before (q ++ m ∷ []) p → Together g h (q ++ m ∷ []) x 0 → LeadsTo h q (suc a) → Contains slots (a + 1 + m, z) → ⊥
+    stale_slot q a m x z b t leads c =
+        let some : 0 < length q = leads_some h q (suc a) leads in
+        let o = leads_to_last g q m x some t.0 in
+        let d = leads_to_last h q m 0 some t.1 in
+        let short : Before q (q ++ m ∷ []) = inl (omega (arith, length_push q m)) in
+        let same : suc d.0 ≡ suc a = leads_to_one h q (suc d.0) (suc a) d.1 leads in
+        go o.0 d.0 o.2 d.2 o.3 d.3 (omega (arith, same)) (found_at (length q) q (suc o.0) (suc d.0) (omega arith) (before_trans q (q ++ m ∷ []) p short b) (o.1, d.1))
+      where
+        go : (u v : ℕ) → m < (object_at g u).refs → m < (object_at h v).refs → word g (u + 1 + m) ≡ x → word h (v + 1 + m) ≡ 0 → v ≡ a → IsFound q (suc u) (suc v) → ⊥
+        go u v lg lh eg eh same (inl e) = absurd (omega (arith, e.0))
+        go u v lg lh eg eh same (inr i) =
+            let eu : u ≡ slice_index w.before.items i.0 = omega (arith, i.2) in
+            let ev : v ≡ slice_index w.after.items i.0 = omega (arith, i.3) in
+            let r : IsRoute w (suc i.0) m (i.4 ++ m ∷ []) = slot i.0 m i.4 i.1 i.5 in
+            let near : NotAfter (i.4 ++ m ∷ []) (q ++ m ∷ []) = not_after_push i.4 q m i.6 in
+            let way : IsWay g h w.before.items w.after.items (suc i.0) m x 0 = (
+              i.1,
+              subst (λ z. m < (object_at g z).refs) eu lg,
+              subst (λ z. m < (object_at h z).refs) ev lh,
+              subst (λ z. word g (z + 1 + m) ≡ x) eu eg,
+              subst (λ z. word h (z + 1 + m) ≡ 0) ev eh,
+            ) in
+            no_slot i.0 m x z (earlier_of (suc i.0) m (i.4 ++ m ∷ []) r (not_after_before (i.4 ++ m ∷ []) (q ++ m ∷ []) p near b)) way
+            (subst (λ y. Contains slots (y + 1 + m, z)) (sym same ∙ ev) c)
+
+    pub none_stale : (q : List ℕ) (x z : ℕ) → Before q p → LeadsToStale g h roots slots q x z → ⊥
+    none_stale q x z b (t, inl e) = stale_root e.0 x z (subst (λ r. Before r p) e.1 b) (subst (λ r. Together g h r x 0) e.1 t) e.2
+    none_stale q x z b (t, inr e) = stale_slot e.0 e.1 e.2 x z (subst (λ r. Before r p) e.3 b) (subst (λ r. Together g h r x 0) e.3 t) e.4 e.5
 
   new_old : (x a m : ℕ) (q : List ℕ) → IsNew w.before.items a → Before q p → Together g h q (suc a) (suc m) → ⊥
   new_old x a m q new c u = let i = placed q a m c u in new i.0 i.1 (sym i.2)
@@ -296,17 +357,19 @@ module _ (g h : Heap) (left : IsValid g) (right : IsValid h) (w : Walk) (walk : 
   first s k ss count links stop at =
       let p : List ℕ = k ∷ ss.items in
       let here : ClashAt g h p s.how = stopped g h w walk s p stop at in
+      let linked : LinksEarlier g h w s.way.from s.way.number = λ k m x y e way. way_linked g h w s.way.number s.way.from k m x y links e way in
+      let alike : AlikeEarlier g h w s.way.from s.way.number = λ i lt e. walk.alike i lt in
       record {
         is = here;
         earliest = (
           count,
-          none_earlier g h left right w walk s.way.from s.way.number p links at,
+          none_earlier g h left right w walk s.way.from s.way.number p linked at alike,
           λ other lt c.
               let there : Together g h p stop.0 stop.1 = route_leads g h w walk s.way.from s.way.number p at stop.0 stop.1 stop.2 in
               let clash : IsClash g h p s.how stop.0 stop.1 = seen_clash g h w walk s.way.from s.way.number stop.0 stop.1 p s.how stop.4 at stop.3 in
               let ex : c.0 ≡ stop.0 = leads_to_one g p c.0 stop.0 c.2.0 there.0 in
               let ey : c.1 ≡ stop.1 = leads_to_one h p c.1 stop.1 c.2.1 there.1 in
               let d : IsClash g h p other stop.0 stop.1 = subst (λ z. IsClash g h p other z stop.1) ex (subst (λ z. IsClash g h p other c.0 z) ey c.3) in
-              none_lower g h left right w walk s.way.from s.way.number p links at stop.0 stop.1 s.how other clash stop.5 lt d,
+              none_lower g h left right w walk s.way.from s.way.number p linked at alike stop.0 stop.1 s.how other clash stop.5 lt d,
         );
       }

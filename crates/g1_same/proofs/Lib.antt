@@ -12,6 +12,9 @@ pub mod Steps
 pub mod OneFirst
 pub mod First
 pub mod Between
+pub mod Passing
+pub mod Unreached
+pub mod StaleEnds
 pub mod Behind
 pub mod Made
 pub mod Meets

@@ -1,6 +1,7 @@
 -- What lies behind a difference: which places a walk over two heaps compares, and where it goes on.
-use Rattle.std.specs.Prelude.{◌≡◌, ◌<◌, ◌≤◌, ℕ, zero, suc, List, ◌+◌, length, slice_index, Contains}
+use Rattle.std.specs.Prelude.{◌≡◌, ◌<◌, ◌≤◌, ℕ, zero, suc, List, ◌+◌, length, slice_index, AllPairs, Contains}
 use Rattle.g1_words.specs.Heap.{Heap}
+use Rattle.g1_image.specs.Stale.{HasLowerPlace}
 use Rattle.g1_same.specs.declared.walk.Walk.{Walk}
 use Rattle.g1_same.specs.declared.stale.StaleWords.{StaleWords}
 use Rattle.g1_same.specs.declared.walk.What.{What}
@@ -15,6 +16,15 @@ use Rattle.g1_same.specs.Walk.{AreAlike, IsWay, IsEarlier, IsLinked, IsBelow, Is
 abbrev pub IsStaleAt : StaleWords → Walk → ℕ → ℕ → ℕ → Type 0
 IsStaleAt s w zero n z = Contains s.roots.now (n, z)
 IsStaleAt s w (suc j) n z = Contains s.slots.now (slice_index w.after.items j + 1 + n, z)
+
+-- both lists of stale words rise by place
+pub record AreByPlace (s : StaleWords) : Type 0 where
+  pub roots : AllPairs HasLowerPlace s.roots.now
+  pub slots : AllPairs HasLowerPlace s.slots.now
+
+-- a list that rises by place has no word of a null one at this place
+abbrev pub HasNoneAt : List (ℕ × ℕ) → ℕ → ℕ → Type 0
+HasNoneAt l place word = AllPairs HasLowerPlace l → word ≡ 0 → (z : ℕ) → Contains l (place, z) → ⊥
 
 -- two words differ like this: the one after is this stale word, or they disagree by what was found
 abbrev pub Differs : Heap → Heap → Walk → (ℕ → Type 0) → What → ℕ → ℕ → Type 0
@@ -36,6 +46,20 @@ LinksBetween g h w f m k n =
 abbrev pub IsNext : Heap → Heap → Walk → ℕ → ℕ → Found → Type 0
 IsNext g h w f m d =
     (IsEarlier d.place.way.from d.place.way.number f m → ⊥) × LinksBetween g h w f m d.place.way.from d.place.way.number
+
+-- no place from the first way on and before the second one has a stale word: lists that rise by place have none where the word after is null
+abbrev pub PassesNoStale : Heap → Heap → StaleWords → Walk → ℕ → ℕ → ℕ → ℕ → Type 0
+PassesNoStale g h s w f m k n =
+    AreByPlace s → (i j x z : ℕ) → (IsEarlier i j f m → ⊥) → IsEarlier i j k n → IsWay g h w.before.items w.after.items i j x 0 → IsStaleAt s w i j z → ⊥
+
+-- how far a walk has looked for stale words that returns a difference in a row: to before a stale word, or to behind another difference
+abbrev pub looked_to : What → ℕ → ℕ
+looked_to (what.Stale z) n = n
+looked_to (what.How how) n = n + 1
+
+-- no place from the way on and before the difference has a stale word, nor has its own place if it is another difference
+abbrev pub IsNextStale : Heap → Heap → StaleWords → Walk → ℕ → ℕ → Found → Type 0
+IsNextStale g h s w f m d = PassesNoStale g h s w f m d.place.way.from (looked_to d.what d.place.way.number)
 
 -- the pairs that the second walk has and the first one has not are alike
 abbrev pub FindsAlike : Heap → Heap → Walk → Walk → Type 0

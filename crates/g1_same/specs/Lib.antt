@@ -1,5 +1,7 @@
 pub mod Path
 pub mod Same
+pub mod Stale
+pub mod Earliest
 pub mod Walk
 pub mod Behind
 pub mod Underway

@@ -27,8 +27,8 @@ pub struct Differences<'a> {
 }
 
 impl<'a> Differences<'a> {
-    ghost use Rattle.g1_same.specs.Walk.{HasGrown};
-    ghost use Rattle.g1_same.specs.Behind.{FindsAlike, IsNext, IsPassed, IsThere, LinksBetween, ShowsAt};
+    ghost use Rattle.g1_same.specs.Walk.{HasGrown, IsRoute};
+    ghost use Rattle.g1_same.specs.Behind.{FindsAlike, IsNext, IsNextStale, IsPassed, IsThere, LinksBetween, PassesNoStale, ShowsAt};
     ghost use Rattle.g1_same.specs.Underway.{IsUnderway, FindsAlikeUntil};
     ghost use Rattle.std.specs.Prelude.{◌≡◌, ◌+◌, ◌∷◌, [], length, IfSome, IfNone, IfOk, IfErr, OnOk};
     ghost use Rattle.g1_words.specs.declared.fault.Fault.TheVariants.{Memory};
@@ -76,6 +76,8 @@ impl<'a> Differences<'a> {
         ensures on { IfOk result (λ o. IfSome o (λ f. (self.new.way.from ≡ f.place.way.from) × (self.new.way.number ≡ f.place.way.number + 1))) }
         ensures none_left { IfOk result (λ o. IfNone o (LinksBetween self.old.before.now self.old.after.now self.new.walk self.old.way.from self.old.way.number (length self.new.walk.before.items + 1) 0)) }
         ensures none_differs { IfOk result (λ o. IfNone o (FindsAlike self.old.before.now self.old.after.now self.old.walk self.new.walk)) }
+        ensures no_stale { IfOk result (λ o. IfSome o (λ f. IsNextStale self.old.before.now self.old.after.now self.old.stale self.new.walk self.old.way.from self.old.way.number f)) }
+        ensures no_stale_left { IfOk result (λ o. IfNone o (PassesNoStale self.old.before.now self.old.after.now self.old.stale self.new.walk self.old.way.from self.old.way.number (length self.new.walk.before.items + 1) 0)) }
         ensures ended { IfOk result (λ o. IfNone o (self.new.way.from ≡ length self.new.walk.before.items + 1)) }
         ensures memory { IfErr result (λ e. e ≡ Memory) }
     {
@@ -107,6 +109,7 @@ impl<'a> Differences<'a> {
     pub fn path_to(&self, alloc: Global, found: &Found) -> Result<Path, Fault>
         requires underway { IsUnderway self.now }
         requires there { IsThere self.now.before.now self.now.after.now self.now.walk found.now }
+        ensures route { IfOk result (λ p. IsRoute self.now.walk found.now.place.way.from found.now.place.way.number (p.root ∷ p.slots.items)) }
         ensures shows { IfOk result (λ p. ShowsAt self.now.before.now self.now.after.now (p.root ∷ p.slots.items) found.now) }
         ensures memory { IfErr result (λ e. e ≡ Memory) }
     {

@@ -20,7 +20,9 @@
 //! 5. If no slot is left, the pairs are the renaming.
 //! 6. `Differences` returns one difference after another, by the same search. It goes on behind two objects
 //!    whose data words alone differ, as a pair, and behind no other difference. Words of the second heap
-//!    that reference no object may be lent to it: they are null in the heap, and are differences, too.
+//!    that reference no object may be lent to it: they are null in the heap, and are differences, too. It passes over none
+//!    that a path leads to.
+//! 7. `compare_stale` returns the first of these differences, with its path.
 //!
 //! `ends_of` follows the path to a difference in both heaps: the words that it leads to, and of two data
 //! words that differ their values. `ends_at` says so of what `Differences` returned.
@@ -30,6 +32,7 @@
 #![tactic(auto)]
 
 mod comparing;
+mod comparing_stale;
 mod difference;
 mod differences;
 mod ending;
@@ -42,6 +45,7 @@ mod stale;
 mod walk;
 
 pub use comparing::compare;
+pub use comparing_stale::{Earliest, StaleEnd, compare_stale};
 pub use difference::{Difference, How};
 pub use differences::Differences;
 pub use ending::{Ends, ends_at, ends_of};

@@ -1,6 +1,6 @@
 ghost use Rattle.std.specs.Prelude.{◌≡◌, ◌≤◌, ◌<◌, ◌+◌, length, IfSome, IfNone, IfOk, OnOk};
 ghost use Rattle.g1_same.specs.Walk.{IsTour, IsBelow, HasGrown};
-ghost use Rattle.g1_same.specs.Behind.{IsFound, IsNext, LinksBetween, FindsAlike};
+ghost use Rattle.g1_same.specs.Behind.{IsFound, IsNext, IsNextStale, LinksBetween, FindsAlike, PassesNoStale};
 
 use crate::meeting::link;
 use crate::stale::{StaleWords, stale_word};
@@ -39,6 +39,8 @@ fn link_roots(
     ensures linked { IfOk result (λ o. IfNone o (LinksBetween before.now after.now walk.new 0 first 1 0)) }
     ensures found { IfOk result (λ o. IfSome o (λ f. IsFound before.now after.now stale.now walk.new f)) }
     ensures until { IfOk result (λ o. IfSome o (λ f. IsNext before.now after.now walk.new 0 first f)) }
+    ensures no_stale { IfOk result (λ o. IfSome o (λ f. IsNextStale before.now after.now stale.now walk.new 0 first f)) }
+    ensures no_stale_left { IfOk result (λ o. IfNone o (PassesNoStale before.now after.now stale.now walk.new 0 first 1 0)) }
 {
     g1_words::laws::valid(before);
     g1_words::laws::valid(after);
@@ -81,6 +83,8 @@ fn link_slots(
     ensures linked { IfOk result (λ o. IfNone o (LinksBetween before.now after.now walk.new first.from first.number (first.from + 1) 0)) }
     ensures found { IfOk result (λ o. IfSome o (λ f. IsFound before.now after.now stale.now walk.new f)) }
     ensures until { IfOk result (λ o. IfSome o (λ f. IsNext before.now after.now walk.new first.from first.number f)) }
+    ensures no_stale { IfOk result (λ o. IfSome o (λ f. IsNextStale before.now after.now stale.now walk.new first.from first.number f)) }
+    ensures no_stale_left { IfOk result (λ o. IfNone o (PassesNoStale before.now after.now stale.now walk.new first.from first.number (first.from + 1) 0)) }
 {
     g1_words::laws::valid(before);
     g1_words::laws::valid(after);
@@ -124,6 +128,8 @@ fn link_pairs(
     ensures linked { IfOk result (λ o. IfNone o (LinksBetween before.now after.now walk.new first.from first.number (length walk.new.before.items + 1) 0)) }
     ensures found { IfOk result (λ o. IfSome o (λ f. IsFound before.now after.now stale.now walk.new f)) }
     ensures until { IfOk result (λ o. IfSome o (λ f. IsNext before.now after.now walk.new first.from first.number f)) }
+    ensures no_stale { IfOk result (λ o. IfSome o (λ f. IsNextStale before.now after.now stale.now walk.new first.from first.number f)) }
+    ensures no_stale_left { IfOk result (λ o. IfNone o (PassesNoStale before.now after.now stale.now walk.new first.from first.number (length walk.new.before.items + 1) 0)) }
 {
     g1_words::laws::valid(before);
     g1_words::laws::valid(after);
@@ -156,6 +162,8 @@ pub fn search(
     ensures linked { IfOk result (λ o. IfNone o (LinksBetween before.now after.now walk.new first.from first.number (length walk.new.before.items + 1) 0)) }
     ensures found { IfOk result (λ o. IfSome o (λ f. IsFound before.now after.now stale.now walk.new f)) }
     ensures until { IfOk result (λ o. IfSome o (λ f. IsNext before.now after.now walk.new first.from first.number f)) }
+    ensures no_stale { IfOk result (λ o. IfSome o (λ f. IsNextStale before.now after.now stale.now walk.new first.from first.number f)) }
+    ensures no_stale_left { IfOk result (λ o. IfNone o (PassesNoStale before.now after.now stale.now walk.new first.from first.number (length walk.new.before.items + 1) 0)) }
 {
     if first.from > 0 {
         return link_pairs(before, after, stale, walk, first);

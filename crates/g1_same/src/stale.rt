@@ -1,5 +1,6 @@
 //! Words of the second heap that reference no object, and are null in it.
-ghost use Rattle.std.specs.Prelude.{◌≡◌, Contains, IfSome};
+ghost use Rattle.std.specs.Prelude.{◌≡◌, Contains, IfNone, IfSome};
+ghost use Rattle.g1_same.specs.Behind.{HasNoneAt};
 
 /// The words of a file that reference no object and are null in its heap, each with its place. Both lists rise by place.
 #[derive(Clone, Copy, Drop)]
@@ -14,6 +15,7 @@ pub struct StaleWords<'a> {
 pub fn stale_word(list: &[(u64, u64)], place: u64, word: u64) -> Option<u64>
     ensures there { IfSome result (λ stale. Contains list.now (place, stale)) }
     ensures null { IfSome result (λ _. word ≡ 0) }
+    ensures none { IfNone result (HasNoneAt list.now place word) }
 {
     if word != 0 || list.is_empty() {
         return None;

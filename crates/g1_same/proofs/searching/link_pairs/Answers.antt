@@ -3,10 +3,11 @@ use Rattle.g1_words.specs.Heap.{Heap}
 use Rattle.g1_same.specs.declared.walk.Walk.{Walk}
 use Rattle.g1_same.specs.declared.walk.Found.{Found}
 use Rattle.g1_same.specs.Walk.{HasGrown}
-use Rattle.g1_same.specs.Behind.{IsFound, IsNext, LinksBetween}
+use Rattle.g1_same.specs.Behind.{IsFound, IsNext, IsNextStale, LinksBetween, PassesNoStale, looked_to}
 use Rattle.g1_same.proofs.Adding.{few_pairs, pairs_fit, grown_same, grown_more}
 use Rattle.g1_same.proofs.Steps.{none_then, some_then}
 use Rattle.g1_same.proofs.Between.{between_none, between_kept, between_trans, between_less, alike_none, alike_more, later_row, later_way, never_same, row_within}
+use Rattle.g1_same.proofs.Passing.{passes_none, passes_kept, passes_trans, passes_less}
 use Rattle.g1_same.proofs.searching.link_pairs.Goals as goal
 
 pub loop-way-init : goal.loop-way-init
@@ -15,6 +16,7 @@ loop-way-init c = record {
   grown = grown_same c.args.walk.now;
   alike = alike_none c.args.before.now c.args.after.now c.args.walk.now;
   linked = between_none c.args.before.now c.args.after.now c.args.walk.now c.args.first.from c.args.first.number;
+  passed = passes_none c.args.before.now c.args.after.now c.args.stale.now c.args.walk.now c.args.first.from c.args.first.number;
   below = c.requires.below;
   some = c.requires.some;
   on = never_same c.args.first.from c.args.first.number;
@@ -45,12 +47,15 @@ loop-way-preserved c =
     let le : f ≤ length w.before.items = omega (arith, c.loop-way-test.true, c.len.ensures, c.loop-way.walk.before.ok) in
     let grown : HasGrown w v = c.in_ok-found.ensures.grown in
     let l = none_then (LinksBetween g h v f n (f + 1) 0) c.in_ok-found.field-0 c.in_default.not-Some c.in_ok-found.ensures.linked in
+    let left = none_then (PassesNoStale g h c.args.stale.now v f n (f + 1) 0) c.in_ok-found.field-0 c.in_default.not-Some c.in_ok-found.ensures.no_stale_left in
     record {
       walk = c.in_ok-found.ensures.walk;
       grown = grown_more c.args.walk.now w v c.loop-way.invariant.grown grown;
       alike = alike_more g h c.args.walk.now w v c.loop-way.invariant.alike c.in_ok-found.ensures.alike grown;
       linked = between_trans g h v c.args.first.from c.args.first.number f n (f + 1) 0
           (between_kept g h w v c.args.first.from c.args.first.number f n grown le c.loop-way.invariant.linked) l;
+      passed = passes_trans g h c.args.stale.now v c.args.first.from c.args.first.number f n (f + 1) 0
+          (passes_kept g h c.args.stale.now w v c.args.first.from c.args.first.number f n grown le c.loop-way.invariant.passed) left;
       below = c.in_ok-found.ensures.below;
       some = omega arith;
       on = later_row f n c.args.first.from c.args.first.number c.loop-way.invariant.on;
@@ -87,4 +92,25 @@ pub returns-clause-linked : goal.returns-clause-linked
 returns-clause-linked c =
     between_less c.args.before.now c.args.after.now c.loop-way.walk c.args.first.from c.args.first.number c.loop-way.way.from c.loop-way.way.number
     (length c.loop-way.walk.before.items + 1) 0 c.loop-way.invariant.linked
+    (row_within (length c.loop-way.walk.before.items) c.loop-way.way.from c.loop-way.way.number (omega (arith, c.loop-way-test.false, c.len.ensures, c.loop-way.walk.before.ok)))
+
+pub returns-in-Some-clause-no_stale : goal.returns-in-Some-clause-no_stale
+returns-in-Some-clause-no_stale c =
+    let g : Heap = c.args.before.now in
+    let h : Heap = c.args.after.now in
+    let s = c.args.stale.now in
+    let w : Walk = c.loop-way.walk in
+    let v : Walk = c.link_slots.new.walk in
+    let f : ℕ = c.loop-way.way.from in
+    let n : ℕ = c.loop-way.way.number in
+    let d : Found = c.in-Some.found in
+    let le : f ≤ length w.before.items = omega (arith, c.loop-way-test.true, c.len.ensures, c.loop-way.walk.before.ok) in
+    let u = some_then (λ (d : Found). IsNextStale g h s v f n d) c.in_ok-found.field-0 d c.in-Some.is c.in_ok-found.ensures.no_stale in
+    passes_trans g h s v c.args.first.from c.args.first.number f n d.place.way.from (looked_to d.what d.place.way.number)
+    (passes_kept g h s w v c.args.first.from c.args.first.number f n c.in_ok-found.ensures.grown le c.loop-way.invariant.passed) u
+
+pub returns-clause-no_stale_left : goal.returns-clause-no_stale_left
+returns-clause-no_stale_left c =
+    passes_less c.args.before.now c.args.after.now c.args.stale.now c.loop-way.walk c.args.first.from c.args.first.number c.loop-way.way.from c.loop-way.way.number
+    (length c.loop-way.walk.before.items + 1) 0 c.loop-way.invariant.passed
     (row_within (length c.loop-way.walk.before.items) c.loop-way.way.from c.loop-way.way.number (omega (arith, c.loop-way-test.false, c.len.ensures, c.loop-way.walk.before.ok)))

@@ -4,11 +4,12 @@ use Rattle.g1_words.specs.Valid.{IsReference}
 use Rattle.g1_same.specs.declared.walk.Walk.{Walk}
 use Rattle.g1_same.specs.declared.difference.How.{How}
 use Rattle.g1_same.specs.Walk.{IsEarlier, IsLinked, IsWay, IsBelow, IsSeen, IsLeast}
-use Rattle.g1_same.specs.Behind.{IsFound, IsNext}
+use Rattle.g1_same.specs.Behind.{HasNoneAt, IsFound, IsNext, IsNextStale}
 use Rattle.g1_same.proofs.Heaps.{root_names}
 use Rattle.g1_same.proofs.Adding.{grown_same, grown_more}
 use Rattle.g1_same.proofs.Steps.{none_then, some_then}
 use Rattle.g1_same.proofs.Between.{between_none, between_step, between_row, between_kept, alike_none, alike_more, not_before}
+use Rattle.g1_same.proofs.Passing.{passes_none, passes_step, passes_row, passes_kept, plain_root}
 use Rattle.g1_same.proofs.searching.link_roots.Goals as goal
 
 earlier_root : (p q n : ℕ) → IsEarlier p q 0 n → IsEarlier p q 1 0
@@ -69,6 +70,9 @@ loop-number-preserved c =
       grown = grown_more c.args.walk.now w v c.loop-number.invariant.grown grown;
       alike = alike_more g h c.args.walk.now w v c.loop-number.invariant.alike c.in_ok-how.ensures.alike grown;
       linked = between_step g h v 0 c.args.first 0 n x y (between_kept g h w v 0 c.args.first 0 n grown (omega arith) c.loop-number.invariant.linked) way l;
+      passed = passes_step g h c.args.stale.now v 0 c.args.first 0 n x y
+          (passes_kept g h c.args.stale.now w v 0 c.args.first 0 n grown (omega arith) c.loop-number.invariant.passed) way
+          (plain_root c.args.stale.now v n y (none_then (HasNoneAt c.args.stale.now.roots.now n y) c.stale_word.result c.in_default.not-Some c.stale_word.ensures.none));
       below = c.in_ok-how.ensures.below;
       on = omega (arith, c.loop-number.invariant.on);
     }
@@ -79,6 +83,7 @@ loop-number-init c = record {
   grown = grown_same c.args.walk.now;
   alike = alike_none c.args.before.now c.args.after.now c.args.walk.now;
   linked = between_none c.args.before.now c.args.after.now c.args.walk.now 0 c.args.first;
+  passed = passes_none c.args.before.now c.args.after.now c.args.stale.now c.args.walk.now 0 c.args.first;
   below = c.requires.below;
   on = omega arith;
 }
@@ -204,3 +209,37 @@ returns-in-Some-2-clause-found c =
       below = k.1;
       differs = (k.0, k.2);
     })
+
+pub returns-in-Some-clause-no_stale : goal.returns-in-Some-clause-no_stale
+returns-in-Some-clause-no_stale c =
+    subst (IsNextStale c.args.before.now c.args.after.now c.args.stale.now c.loop-number.walk 0 c.args.first) (sym c.found_at.ensures) c.loop-number.invariant.passed
+
+pub returns-in-Some-2-clause-no_stale : goal.returns-in-Some-2-clause-no_stale
+returns-in-Some-2-clause-no_stale c =
+    let g : Heap = c.args.before.now in
+    let h : Heap = c.args.after.now in
+    let w : Walk = c.loop-number.walk in
+    let v : Walk = c.link.new.walk in
+    let n : ℕ = c.loop-number.number in
+    let x : ℕ = slice_index c.roots-roots.result.now n in
+    let y : ℕ = slice_index c.roots-others.result.now n in
+    let roots = ap length c.roots-roots.ensures in
+    let others = ap length c.roots-others.ensures in
+    let way : IsWay g h v.before.items v.after.items 0 n x y = (
+      omega (arith, c.loop-number-test.true, c.min-end.ensures, roots),
+      omega (arith, c.loop-number-test.true, c.min-end.ensures, others),
+      ap (λ l. slice_index l n) (sym c.roots-roots.ensures),
+      ap (λ l. slice_index l n) (sym c.roots-others.ensures),
+    ) in
+    subst (IsNextStale g h c.args.stale.now v 0 c.args.first) (sym c.found_at-in-Some-2.ensures) (
+    passes_step g h c.args.stale.now v 0 c.args.first 0 n x y
+    (passes_kept g h c.args.stale.now w v 0 c.args.first 0 n c.in_ok-how.ensures.grown (omega arith) c.loop-number.invariant.passed) way
+    (plain_root c.args.stale.now v n y (none_then (HasNoneAt c.args.stale.now.roots.now n y) c.stale_word.result c.in_default.not-Some c.stale_word.ensures.none))
+    )
+
+pub returns-clause-no_stale_left : goal.returns-clause-no_stale_left
+returns-clause-no_stale_left c =
+    let roots = ap length c.roots-roots.ensures in
+    let others = ap length c.roots-others.ensures in
+    passes_row c.args.before.now c.args.after.now c.args.stale.now c.loop-number.walk 0 c.args.first 0 c.loop-number.number c.loop-number.invariant.passed
+    (λ j x y way. omega (arith, way.0, way.1, c.loop-number-test.false, c.min-end.ensures, roots, others))

@@ -1,6 +1,6 @@
 use Rattle.std.proofs.Common.{◌≤◌}
 use Rattle.g1_same.specs.Walk.{IsTour, IsBelow, HasGrown}
-use Rattle.g1_same.specs.Behind.{LinksBetween, FindsAlike}
+use Rattle.g1_same.specs.Behind.{LinksBetween, FindsAlike, PassesNoStale}
 use Rattle.g1_same.proofs.searching.link_roots.Given as goal
 
 abbrev pub invariant-loop-number : goal.invariant-loop-number
@@ -9,6 +9,7 @@ invariant-loop-number l = record {
   grown : HasGrown l.initial.walk l.walk;
   alike : FindsAlike l.before l.after l.initial.walk l.walk;
   linked : LinksBetween l.before l.after l.walk 0 l.first 0 l.number;
+  passed : PassesNoStale l.before l.after l.stale l.walk 0 l.first 0 l.number;
   below : IsBelow l.walk 0 l.number;
   on : l.first ≤ l.number;
 }

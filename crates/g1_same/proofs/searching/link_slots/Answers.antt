@@ -7,11 +7,12 @@ use Rattle.g1_same.specs.declared.walk.Walk.{Walk}
 use Rattle.g1_same.specs.declared.difference.How.{How}
 use Rattle.g1_same.specs.declared.stale.StaleWords.{StaleWords}
 use Rattle.g1_same.specs.Walk.{IsEarlier, IsLinked, IsWay, IsBelow, IsSeen, IsLeast, HasGrown}
-use Rattle.g1_same.specs.Behind.{IsFound, IsNext, IsStaleAt}
+use Rattle.g1_same.specs.Behind.{HasNoneAt, IsFound, IsNext, IsNextStale, IsStaleAt}
 use Rattle.g1_same.proofs.Heaps.{slot_names}
 use Rattle.g1_same.proofs.Adding.{grown_more, grown_same}
 use Rattle.g1_same.proofs.Steps.{none_then, some_then, slot_way, has_slots, pair_read}
 use Rattle.g1_same.proofs.Between.{between_none, between_step, between_row, between_kept, alike_none, alike_more, not_before}
+use Rattle.g1_same.proofs.Passing.{IsPlain, passes_none, passes_step, passes_row, passes_kept, plain_slot}
 use Rattle.g1_same.proofs.searching.link_slots.Goals as goal
 
 earlier_row : (p q f n : ℕ) → IsEarlier p q f n → IsEarlier p q (f + 1) 0
@@ -137,6 +138,10 @@ loop-number-preserved c =
     let way : IsWay g h v.before.items v.after.items f n x y = subst (λ z. IsWay g h v.before.items v.after.items z n x y) one
     (slot_way g h v.before.items v.after.items (f - 1) n a b x y (omega (arith, pair.place, more.more)) (more.olds (f - 1) pair.place ∙ pair.before)
     (more.news (f - 1) pair.place ∙ pair.after) n_old n_new (sym x_is) (sym y_is)) in
+    let at : c.object-new.result.at ≡ b = ap (λ o. o.at) c.object-new.ensures.value in
+    let none = none_then (HasNoneAt c.args.stale.now.slots.now (c.object-new.result.at + 1 + n) y) c.stale_word.result c.in_default.not-Some c.stale_word.ensures.none in
+    let plain : IsPlain c.args.stale.now v f n y = plain_slot c.args.stale.now v f n b y c.requires.some (more.news (f - 1) pair.place ∙ pair.after)
+    (subst (λ q. HasNoneAt c.args.stale.now.slots.now (q + 1 + n) y) at none) in
     let l : IsLinked v f n x y = none_then (IsLinked v f n x y) c.in_ok-how.field-0 c.in_default-2.not-Some c.in_ok-how.ensures.linked in
     record {
       walk = c.in_ok-how.ensures.walk;
@@ -144,6 +149,8 @@ loop-number-preserved c =
       alike = alike_more g h c.args.walk.now w v c.loop-number.invariant.alike c.in_ok-how.ensures.alike step;
       linked = between_step g h v f c.args.first.number f n x y
           (between_kept g h w v f c.args.first.number f n step (omega (arith, c.requires.pair, c.loop-number.invariant.grown.more)) c.loop-number.invariant.linked) way l;
+      passed = passes_step g h c.args.stale.now v f c.args.first.number f n x y
+          (passes_kept g h c.args.stale.now w v f c.args.first.number f n step (omega (arith, c.requires.pair, c.loop-number.invariant.grown.more)) c.loop-number.invariant.passed) way plain;
       below = c.in_ok-how.ensures.below;
       on = omega (arith, c.loop-number.invariant.on);
     }
@@ -154,6 +161,7 @@ loop-number-init c = record {
   grown = grown_same c.args.walk.now;
   alike = alike_none c.args.before.now c.args.after.now c.args.walk.now;
   linked = between_none c.args.before.now c.args.after.now c.args.walk.now c.args.first.from c.args.first.number;
+  passed = passes_none c.args.before.now c.args.after.now c.args.stale.now c.args.walk.now c.args.first.from c.args.first.number;
   below = c.requires.below;
   on = omega arith;
 }
@@ -350,3 +358,57 @@ returns-in-Some-2-clause-found c =
       below = k.1;
       differs = (k.0, k.2);
     })
+
+pub returns-in-Some-clause-no_stale : goal.returns-in-Some-clause-no_stale
+returns-in-Some-clause-no_stale c =
+    subst (IsNextStale c.args.before.now c.args.after.now c.args.stale.now c.loop-number.walk c.args.first.from c.args.first.number) (sym c.found_at.ensures) c.loop-number.invariant.passed
+
+pub returns-in-Some-2-clause-no_stale : goal.returns-in-Some-2-clause-no_stale
+returns-in-Some-2-clause-no_stale c =
+    let place : c.args.first.from - 1 < length c.args.walk.now.before.items = omega (arith, c.requires.some, c.requires.pair) in
+    let pair = pair_read c.args.before.now c.args.after.now c.args.walk.now (c.args.first.from - 1)
+    c.index.result.now c.index-2.result.now c.requires.walk place c.index.ensures c.index-2.ensures in
+    let here = has_slots c.args.before.now c.index.result.now c.object-old.result c.args.before.now.words
+    c.slots-here.result.now c.object-old.ensures.value refl c.slots-here.ensures.count c.slots-here.ensures.each in
+    let there = has_slots c.args.after.now c.index-2.result.now c.object-new.result c.args.after.now.words
+    c.slots-there.result.now c.object-new.ensures.value refl c.slots-there.ensures.count c.slots-there.ensures.each in
+    let g : Heap = c.args.before.now in
+    let h : Heap = c.args.after.now in
+    let w : Walk = c.loop-number.walk in
+    let f : ℕ = c.args.first.from in
+    let n : ℕ = c.loop-number.number in
+    let a : ℕ = c.index.result.now in
+    let b : ℕ = c.index-2.result.now in
+    let x : ℕ = slice_index c.slots-here.result.now n in
+    let y : ℕ = slice_index c.slots-there.result.now n in
+    let one : f - 1 + 1 ≡ f = omega (arith, c.requires.some) in
+    let n_old : n < (object_at g a).refs = omega (arith, c.loop-number-test.true, here.count) in
+    let n_new : n < (object_at h b).refs = omega (arith, n_old, pair.refs) in
+    let x_is = here.each n c.loop-number-test.true in
+    let y_is = there.each n (omega (arith, n_new, there.count)) in
+    let v : Walk = c.link.new.walk in
+    let step : HasGrown w v = c.in_ok-how.ensures.grown in
+    let more : HasGrown c.args.walk.now v = grown_more c.args.walk.now w v c.loop-number.invariant.grown step in
+    let way : IsWay g h v.before.items v.after.items f n x y = subst (λ z. IsWay g h v.before.items v.after.items z n x y) one
+    (slot_way g h v.before.items v.after.items (f - 1) n a b x y (omega (arith, pair.place, more.more)) (more.olds (f - 1) pair.place ∙ pair.before)
+    (more.news (f - 1) pair.place ∙ pair.after) n_old n_new (sym x_is) (sym y_is)) in
+    let at : c.object-new.result.at ≡ b = ap (λ o. o.at) c.object-new.ensures.value in
+    let none = none_then (HasNoneAt c.args.stale.now.slots.now (c.object-new.result.at + 1 + n) y) c.stale_word.result c.in_default.not-Some c.stale_word.ensures.none in
+    let plain : IsPlain c.args.stale.now v f n y = plain_slot c.args.stale.now v f n b y c.requires.some (more.news (f - 1) pair.place ∙ pair.after)
+    (subst (λ q. HasNoneAt c.args.stale.now.slots.now (q + 1 + n) y) at none) in
+    subst (IsNextStale g h c.args.stale.now v f c.args.first.number) (sym c.found_at-in-Some-2.ensures) (
+    passes_step g h c.args.stale.now v f c.args.first.number f n x y
+    (passes_kept g h c.args.stale.now w v f c.args.first.number f n step (omega (arith, c.requires.pair, c.loop-number.invariant.grown.more)) c.loop-number.invariant.passed) way plain
+    )
+
+pub returns-clause-no_stale_left : goal.returns-clause-no_stale_left
+returns-clause-no_stale_left c =
+    let place : c.args.first.from - 1 < length c.args.walk.now.before.items = omega (arith, c.requires.some, c.requires.pair) in
+    let pair = pair_read c.args.before.now c.args.after.now c.args.walk.now (c.args.first.from - 1)
+    c.index.result.now c.index-2.result.now c.requires.walk place c.index.ensures c.index-2.ensures in
+    let here = has_slots c.args.before.now c.index.result.now c.object-old.result c.args.before.now.words
+    c.slots-here.result.now c.object-old.ensures.value refl c.slots-here.ensures.count c.slots-here.ensures.each in
+    let grown = c.loop-number.invariant.grown in
+    passes_row c.args.before.now c.args.after.now c.args.stale.now c.loop-number.walk c.args.first.from c.args.first.number c.args.first.from c.loop-number.number c.loop-number.invariant.passed
+    (λ j x y way. let lt = slot_below c.args.before.now c.args.after.now c.loop-number.walk c.args.first.from j x y c.index.result.now c.requires.some
+    (grown.olds (c.args.first.from - 1) pair.place ∙ pair.before) way in omega (arith, lt, c.loop-number-test.false, here.count))

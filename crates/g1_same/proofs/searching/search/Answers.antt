@@ -3,10 +3,12 @@ use Rattle.g1_words.specs.Heap.{Heap}
 use Rattle.g1_same.specs.declared.walk.Walk.{Walk}
 use Rattle.g1_same.specs.declared.walk.Found.{Found}
 use Rattle.g1_same.specs.Walk.{IsBelow, HasGrown}
-use Rattle.g1_same.specs.Behind.{FindsAlike, IsNext, LinksBetween}
+use Rattle.g1_same.specs.declared.stale.StaleWords.{StaleWords}
+use Rattle.g1_same.specs.Behind.{FindsAlike, IsNext, IsNextStale, LinksBetween, PassesNoStale, looked_to}
 use Rattle.g1_same.proofs.Adding.{grown_more}
 use Rattle.g1_same.proofs.Steps.{none_then, on_ok, both_ok, some_map, none_map}
 use Rattle.g1_same.proofs.Between.{between_kept_row, between_trans, alike_more, later_way, row_not_first}
+use Rattle.g1_same.proofs.Passing.{passes_kept_row, passes_trans}
 use Rattle.g1_same.proofs.searching.search.Goals as goal
 
 pub returns-clause-grown : goal.returns-clause-grown
@@ -61,3 +63,37 @@ pub link_roots-requires-clause-below : goal.link_roots-requires-clause-below
 link_roots-requires-clause-below c =
     let zero : c.args.first.from ≡ 0 = omega (arith, c.if-first-gt0.false) in
     subst (λ z. IsBelow c.args.walk.now z c.args.first.number) zero c.requires.below
+
+pub returns-clause-no_stale : goal.returns-clause-no_stale
+returns-clause-no_stale c =
+    let g : Heap = c.args.before.now in
+    let h : Heap = c.args.after.now in
+    let s : StaleWords = c.args.stale.now in
+    let u : Walk = c.link_roots.new.walk in
+    let v : Walk = c.link_pairs-2.new.walk in
+    let f : ℕ = c.args.first.from in
+    let n : ℕ = c.args.first.number in
+    let zero : 0 ≡ f = omega (arith, c.if-first-gt0.false) in
+    let l = none_then (PassesNoStale g h s u 0 n 1 0) c.in_ok-found.field-0 c.in_default.not-Some c.in_ok-found.ensures.no_stale_left in
+    both_ok c.link_pairs-2.result (HasGrown u v) (λ (o : Option Found). IfSome o (λ d. IsNextStale g h s v 1 0 d)) (λ (o : Option Found). IfSome o (λ d. IsNextStale g h s v f n d))
+    (λ o more some. some_map o (λ d. IsNextStale g h s v 1 0 d) (λ d. IsNextStale g h s v f n d)
+    (λ d next. subst (λ z. IsNextStale g h s v z n d) zero
+    (passes_trans g h s v 0 n 1 0 d.place.way.from (looked_to d.what d.place.way.number) (passes_kept_row g h s u v 0 n 1 more (omega arith) l) next)) some)
+    c.link_pairs-2.ensures.grown c.link_pairs-2.ensures.no_stale
+
+pub returns-clause-no_stale_left : goal.returns-clause-no_stale_left
+returns-clause-no_stale_left c =
+    let g : Heap = c.args.before.now in
+    let h : Heap = c.args.after.now in
+    let s : StaleWords = c.args.stale.now in
+    let u : Walk = c.link_roots.new.walk in
+    let v : Walk = c.link_pairs-2.new.walk in
+    let f : ℕ = c.args.first.from in
+    let n : ℕ = c.args.first.number in
+    let end : ℕ = length v.before.items + 1 in
+    let zero : 0 ≡ f = omega (arith, c.if-first-gt0.false) in
+    let l = none_then (PassesNoStale g h s u 0 n 1 0) c.in_ok-found.field-0 c.in_default.not-Some c.in_ok-found.ensures.no_stale_left in
+    both_ok c.link_pairs-2.result (HasGrown u v) (λ (o : Option Found). IfNone o (PassesNoStale g h s v 1 0 end 0)) (λ (o : Option Found). IfNone o (PassesNoStale g h s v f n end 0))
+    (λ o more none. none_map o (PassesNoStale g h s v 1 0 end 0) (PassesNoStale g h s v f n end 0)
+    (λ rest. subst (λ z. PassesNoStale g h s v z n end 0) zero (passes_trans g h s v 0 n 1 0 end 0 (passes_kept_row g h s u v 0 n 1 more (omega arith) l) rest)) none)
+    c.link_pairs-2.ensures.grown c.link_pairs-2.ensures.no_stale_left

@@ -2,10 +2,11 @@ use Rattle.std.proofs.Common.{arith, ℕ}
 use Rattle.g1_words.specs.Heap.{Heap}
 use Rattle.g1_same.specs.declared.walk.Walk.{Walk}
 use Rattle.g1_same.specs.declared.walk.Found.{Found}
-use Rattle.g1_same.specs.Behind.{IsFound, IsNext}
+use Rattle.g1_same.specs.Behind.{IsFound, IsNext, IsNextStale, looked_to}
 use Rattle.g1_same.proofs.Steps.{some_then}
 use Rattle.g1_same.proofs.Adding.{pairs_fit}
 use Rattle.g1_same.proofs.Between.{is_there, between_kept, way_within, until_more}
+use Rattle.g1_same.proofs.Passing.{passes_kept}
 use Rattle.g1_same.proofs.differences.Differences.next.Goals as goal
 
 pub overflow_cast-from : goal.overflow_cast-from
@@ -46,3 +47,17 @@ returns-in_ok-self-in-Some-clause-alike c =
     let f : Found = c.in-Some.found in
     until_more c.args.self.now.before.now c.args.self.now.after.now c.args.self.now.walk c.search.new.walk c.go_behind.new.walk f.place.way.from f.place.way.number
     c.in_ok-met.ensures.alike c.in_ok-self-in-Some.ensures.one c.in_ok-self-in-Some.ensures.grown
+
+pub returns-in_ok-self-in-Some-clause-no_stale : goal.returns-in_ok-self-in-Some-clause-no_stale
+returns-in_ok-self-in-Some-clause-no_stale c =
+    let g : Heap = c.args.self.now.before.now in
+    let h : Heap = c.args.self.now.after.now in
+    let u : Walk = c.search.new.walk in
+    let v : Walk = c.go_behind.new.walk in
+    let k : ℕ = c.args.self.now.way.from in
+    let n : ℕ = c.args.self.now.way.number in
+    let f : Found = c.in-Some.found in
+    let found = some_then (λ (f : Found). IsFound g h c.args.self.now.stale u f) c.in_ok-met.met f c.in-Some.is c.in_ok-met.ensures.found in
+    passes_kept g h c.args.self.now.stale u v k n f.place.way.from (looked_to f.what f.place.way.number) c.in_ok-self-in-Some.ensures.grown
+    (way_within g h u f.place.way.from f.place.way.number f.place.before f.place.after found.way)
+    (some_then (λ (f : Found). IsNextStale g h c.args.self.now.stale u k n f) c.in_ok-met.met f c.in-Some.is c.in_ok-met.ensures.no_stale)
