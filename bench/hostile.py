@@ -11,10 +11,7 @@ import array
 import random
 import sys
 
-from images import CONTINUATION, FIRST, FREE, ORDINARY, write_image
-
-MOST_WORDS = 1 << 24
-MOST_REGIONS = 4096
+from images import CONTINUATION, FIRST, FREE, MOST_REGIONS, ORDINARY, write_image
 
 
 class Hostile:

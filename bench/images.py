@@ -7,7 +7,11 @@ slot is null, or references an object of its own region, or, more seldom, any ob
 objects, so many are dead. A remembered set has exactly the cards outside its region that aren't dirty and hold a slot
 that references an object of the region. The same arguments give the same bytes. Sizes that no image has are refused.
 """
-import argparse, array, random, struct, sys
+import argparse, array, pathlib, random, struct, sys
+
+sys.path.insert(0, str(pathlib.Path(__file__).resolve().parent.parent / "tools" / "lib"))
+
+from heap_image import MOST_REGIONS, SPECIFICATION  # noqa: E402 (it is in tools/lib/)
 
 FREE, ORDINARY, FIRST, CONTINUATION = range(4)
 ROOTS = 1000  # at most; one for each 2^14 words of a small heap
@@ -166,11 +170,11 @@ def is_power(number, least, most):
 
 def wrong_sizes(width, card_words, count):
     """Why no image has these sizes, or None."""
-    if not is_power(width, 16, 65536):
-        return f"W is {width}, and not a power of two from 16 to 65536"
+    if not is_power(width, 16, SPECIFICATION.region_words):
+        return f"W is {width}, and not a power of two from 16 to {SPECIFICATION.region_words}"
     if not is_power(card_words, 4, min(64, width)):
         return f"K is {card_words}, and not a power of two from 4 to {min(64, width)}"
-    most = min(1 << 24, 4096 * width)
+    most = min(SPECIFICATION.words, MOST_REGIONS * width)
     if not width <= count <= most:
         return f"COUNT is {count}, and with regions of {width} words it is from {width} to {most}"
     return None
@@ -181,7 +185,7 @@ def main():
     parser.add_argument("region_words", type=int, metavar="W")
     parser.add_argument("file", metavar="FILE")
     parser.add_argument("--card", type=int, default=64, metavar="K")
-    parser.add_argument("--words", type=int, default=1 << 24, metavar="COUNT")
+    parser.add_argument("--words", type=int, default=SPECIFICATION.words, metavar="COUNT")
     parser.add_argument("--free", type=float, default=0.30, metavar="SHARE", help="the share of free regions (0.3)")
     parser.add_argument("--seed", type=int, default=1, metavar="S")
     options = parser.parse_args()

@@ -37,8 +37,9 @@
 #define G1W_FREE(block) free(block)
 #endif
 
-/* The limits of an image. */
-#define G1W_MOST_WORDS 0x1000000u /* words of the heap, and so of an object */
+/* The limits of an image: those of g1heap and of the judge. (g1pause takes regions of 65,536 words and 2^24 words.) */
+#define G1W_MOST_REGION_WORDS 0x400000u
+#define G1W_MOST_WORDS 0x10000000u /* words of the heap, and so of an object */
 #define G1W_MOST_REGIONS 4096u
 #define G1W_MOST_ROOTS 65536u
 
@@ -46,9 +47,9 @@
 enum {
   G1W_GOOD = 0,
   G1W_MEMORY,       /* a request for memory was refused */
-  G1W_REGION_WORDS, /* the words of a region are no power of two from 16 to 65,536 */
+  G1W_REGION_WORDS, /* the words of a region are no power of two from 16 to 2^22 */
   G1W_ROOTS,        /* more roots than an image has */
-  G1W_WORDS,        /* more words or regions than an image has; larger regions may help, up to 2^24 words in all */
+  G1W_WORDS,        /* more words or regions than an image has; larger regions may help, up to 2^28 words in all */
   G1W_NULL_OBJECT,  /* an object with the pointer 0 */
   G1W_TWICE,        /* two objects with the pointer `pointer` */
   G1W_NOTHING,      /* `pointer` is no object's: slot `slot` of the object `holder` has it, or root `slot` if `holder` is 0 */
@@ -82,12 +83,13 @@ typedef struct g1_writer {
   g1w_region *table;     /* from the end on, with one more behind the last */
   uint32_t *places;      /* while pointers are looked up: 1 more than an object's address, by its pointer */
   uint64_t place_count;
+  uint32_t address_bits; /* of an entry of `places`; the others are a mark of the pointer */
   size_t front;          /* the words before those of the objects */
 } g1_writer;
 
 static inline const char *g1w_text(int fault) {
   static const char *const texts[] = {"no fault", "a request for memory was refused",
-                                      "the words of a region are no power of two from 16 to 65,536", "more than 65,536 roots",
+                                      "the words of a region are no power of two from 16 to 2^22", "more than 65,536 roots",
                                       "more words or regions than an image has", "an object with the pointer 0",
                                       "two objects with one pointer", "a pointer that is no object's", "a call after the end"};
   return fault >= 0 && fault <= G1W_ENDED ? texts[fault] : "no such fault";
@@ -98,11 +100,12 @@ static inline int g1w_fails(g1_writer *w, int fault) {
   return w->fault;
 }
 
-/* Begins an image with regions of so many words. Anything does; 4,096 and more leave room for the largest heaps. */
+/* Begins an image with regions of so many words. Anything does; 65,536 and more leave room for the largest heaps. */
 static inline int g1w_begin(g1_writer *w, uint32_t region_words) {
   memset(w, 0, sizeof *w);
   w->region_words = region_words;
-  if (region_words < 16 || region_words > 65536 || (region_words & (region_words - 1))) return g1w_fails(w, G1W_REGION_WORDS);
+  if (region_words < 16 || region_words > G1W_MOST_REGION_WORDS || (region_words & (region_words - 1)))
+    return g1w_fails(w, G1W_REGION_WORDS);
   while (1u << w->shift < region_words) w->shift++;
   return G1W_GOOD;
 }
@@ -150,7 +153,7 @@ static inline void *g1w_exactly(g1_writer *w, void *block, size_t count, size_t 
 /* Whether so many regions more are within the limits. */
 static inline int g1w_fits(const g1_writer *w, size_t more) {
   size_t all = w->regions + w->run_regions + more;
-  return all <= G1W_MOST_REGIONS && all * w->region_words <= G1W_MOST_WORDS;
+  return all <= G1W_MOST_REGIONS && (uint64_t)all * w->region_words <= G1W_MOST_WORDS;
 }
 
 /* The next root: a pointer, or 0. */
@@ -272,8 +275,8 @@ static inline uint64_t *g1w_place(const g1_writer *w, uint64_t address) {
   return w->small.words + w->front + w->table[address >> w->shift].start + (address & (w->region_words - 1));
 }
 
-/* The search for a pointer: the place where it is now, and the seven bits that its entry has beside the address. They
-   spare most looks at the words of other objects. */
+/* The search for a pointer: the place where it is now, and the bits that its entry has beside the address, three or more
+   of them. They spare most looks at the words of other objects. */
 typedef struct g1w_search {
   uint64_t at;
   uint32_t mark;
@@ -281,16 +284,16 @@ typedef struct g1w_search {
 
 static inline g1w_search g1w_begin_search(const g1_writer *w, uint64_t pointer) {
   uint64_t hash = pointer * 0x9E3779B97F4A7C15u;
-  g1w_search search = {(hash >> 32) * w->place_count >> 32, (uint32_t)(hash >> 7) << 25};
+  g1w_search search = {(hash >> 32) * w->place_count >> 32, (uint32_t)(hash >> 3) << w->address_bits};
   return search;
 }
 
 /* Goes on to the pointer's entry, and returns 1 more than the address there; or to the first empty place, and returns 0. */
 static inline uint64_t g1w_find(const g1_writer *w, g1w_search *search, uint64_t pointer) {
   for (;; search->at = search->at + 1 == w->place_count ? 0 : search->at + 1) {
-    uint32_t entry = w->places[search->at], address = entry & 0x1ffffff;
+    uint32_t entry = w->places[search->at], address = entry & ((1u << w->address_bits) - 1);
     if (!entry) return 0;
-    if ((entry ^ search->mark) >> 25 == 0 && *g1w_place(w, address - 1) == pointer) return address;
+    if ((entry ^ search->mark) >> w->address_bits == 0 && *g1w_place(w, address - 1) == pointer) return address;
   }
 }
 
@@ -346,6 +349,7 @@ static inline int g1w_enter_all(g1_writer *w) {
   uint32_t region = 0;
   size_t i;
   w->place_count = count + count / 2 + 1;
+  for (w->address_bits = 1; ((uint64_t)w->regions + w->run_regions) * w->region_words >> w->address_bits;) w->address_bits++;
   w->places = (uint32_t *)g1w_exactly(w, NULL, w->place_count, sizeof *w->places);
   if (w->fault) return w->fault;
   memset(w->places, 0, w->place_count * sizeof *w->places);

@@ -109,7 +109,7 @@ uint32_t g1_version(void);
    G1_NO_IMAGE: a fault of the first bytes, else of the second.
    G1_MEMORY.
    It takes time in the length of both images, and memory of 4 bytes for each word of both heaps, and 24 for each reached
-   object, beside the heaps themselves. 2^24 words are the most that a heap can have. */
+   object, beside the heaps themselves. 2^28 words are the most that a heap can have. */
 uint32_t g1_same(const uint8_t *before, size_t before_length, const uint8_t *after, size_t after_length, uint64_t *path,
                  size_t path_length, g1_answer *answer);
 

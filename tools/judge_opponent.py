@@ -1,5 +1,5 @@
 #!/usr/bin/env python3
-"""judge_opponent.py G1HEAP [--g1pause FILE] [--cases N] [--seed S]
+"""judge_opponent.py G1HEAP [--g1pause FILE] [--cases N] [--seed S] [--large]
 
 Draws N small heaps (1000) and sets, evacuates each set as tools/opponent.py does, and asks of the image after that
 `same --covered --set R ..` finds it the same, kept and covered, with the numbers of objects and words that are
@@ -12,7 +12,8 @@ and `same --all`, is compared with a judge of this script's own, which walks bot
 heaps are compared as lines of objects by name, too. `same --set` has to find it wherever roots or objects outside the set
 lead to it, or a region is not as a pause of the set leaves it, with `--fill` and without, and `same --covered` wherever
 a slot is not covered. Some heaps have more than 256 roots, and some have an object outside the set that is equal to one
-of the set. Before all, `same --all` lists a chain of which all data words differ.
+of the set. Before all, `same --all` lists a chain of which all data words differ. With --large all heaps have regions
+of 131,072 words and more, and not every error finds a place.
 The last line is 'N passed, M failed', after a count for each kind of error. With 20 cases or more each kind has to be
 planted: one that never was counts as failed.
 """
@@ -32,7 +33,7 @@ from heap_image import FREE, NULL, ORDINARY, from_bytes  # noqa: E402
 from opponent import NoRoom, Opponent  # noqa: E402
 from plant_errors import ERRORS, MORE_ERRORS, Planter  # noqa: E402
 from programs import add_program, program  # noqa: E402
-from random_heaps import drawn  # noqa: E402
+from random_heaps import drawn, large_regions  # noqa: E402
 
 KINDS = ("free", "ordinary", "humongous", "continuation")
 ENOUGH = 20  # so many cases plant each kind of error, whatever the seed
@@ -56,9 +57,10 @@ def difference(before, after, x, y, forth, back, called=(str, str)):
         was, now = length(before, a), length(after, b)
         if was != now:
             return kind, f"; {kind} {was} before, {now} after"
-    for number, (p, q) in enumerate(zip(before.content(a), after.content(b))):
-        if before.words[p] != after.words[q]:
-            return "data", f"; data word {number} is {before.words[p]} before, {after.words[q]} after"
+    was, now = (image.words[place.start:place.stop] for image, place in ((before, before.content(a)), (after, after.content(b))))
+    if was != now:
+        number = next(number for number, (p, q) in enumerate(zip(was, now)) if p != q)
+        return "data", f"; data word {number} is {was[number]} before, {now[number]} after"
     return None
 
 
@@ -243,7 +245,7 @@ class Judge:
 
     def case(self, name, rng):
         """One heap and one set. False if there is no set, or no room."""
-        before = drawn(rng)
+        before = drawn(rng, profile=large_regions if self.options.large else None)
         ordinary = [r for r in range(before.regions) if before.kinds[r] == ORDINARY and not before.pinned[r]]
         if not ordinary:
             return False
@@ -382,7 +384,8 @@ class Judge:
 
     def end(self):
         """Prints the counts and what was never planted, and returns the status."""
-        missed = [error for error in ERRORS + MORE_ERRORS if not self.counts[error] and self.options.cases >= ENOUGH]
+        enough = self.options.cases >= ENOUGH and not self.options.large
+        missed = [error for error in ERRORS + MORE_ERRORS if enough and not self.counts[error]]
         lines = [f"{kind}: {count}" for kind, count in sorted(self.counts.items())]
         print("\n".join([*lines, *(f"never planted: {error}" for error in missed)]))
         failed = self.failed + len(missed)
@@ -394,9 +397,12 @@ def main():
     parser = argparse.ArgumentParser(description=__doc__, formatter_class=argparse.RawDescriptionHelpFormatter)
     add_program(parser, "g1heap")
     parser.add_argument("--g1pause", type=program)
+    parser.add_argument("--large", action="store_true", help="heaps with regions of 131,072 words and more")
     parser.add_argument("--cases", type=int, default=1000, metavar="N")
     parser.add_argument("--seed", type=int, default=1, metavar="S")
     options = parser.parse_args()
+    if options.large and options.g1pause:
+        parser.error("g1pause takes no regions of more than 65,536 words: --large excludes --g1pause")
     rng = random.Random(options.seed)
     cases = 0
     progress.show("cases", lambda: cases, options.cases)

@@ -1,5 +1,5 @@
 #!/usr/bin/env python3
-"""limits.py G1PAUSE G1HEAP
+"""limits.py [--archive FILE] [--only narrow | wide] G1PAUSE G1HEAP
 
 Asks both programs of images in which a number is at its limit, or one more than what 16 bits hold: roots, dirty cards,
 cards of a set, objects and words of a region, regions, and candidates. What they have to print is written here by hand
@@ -9,7 +9,13 @@ and takes at most 20 times the processor time of the pause.
 One heap has much of everything at once: 5,000 survivors in a chain, 300 cards that lead into the set, a humongous object of
 ten regions that is freed, one that the last survivor keeps, 1,100 candidates, an object of 1,500 slots, a set of 70,000 cards. The lines of `explain`, the
 paths of `why`, the summary, the image after, and what `same` reports of an error planted in it, are those that this script
-computes from the heap. The last line is 'N passed, M failed'.
+computes from the heap.
+
+With --only wide it does what follows alone, and with --only narrow all else. At the limits of g1heap are an object of 2^22
+words in a region, heaps of 2^28 words in regions of 2^22 and of 2^16, 2^26 objects, and 65,536 roots. Each number is refused if
+it is one more, and by g1pause and by `--limits specification` if it is one more than theirs. The judge for C and the writer of
+g1image.h are asked, too, if the archive is there (judge/out/libg1judge.a) and a C compiler. Each case says how much memory it
+takes, and is left out if less is free. The last line is 'N passed, M failed'.
 """
 import argparse
 import pathlib
@@ -25,9 +31,10 @@ from explained import Choice, Pause, explained  # noqa: E402
 from heap_image import CONTINUATION, FIRST, FREE, NULL, ORDINARY, Image  # noqa: E402
 from judge_opponent import judged  # noqa: E402
 from print_make import lines_of  # noqa: E402
-from programs import add_program  # noqa: E402
+from programs import TOP, add_program  # noqa: E402
 from refusing import Judge  # noqa: E402
 from why_paths import Heap  # noqa: E402
+from wide_limits import Wide  # noqa: E402
 
 MANY = 1 << 16
 
@@ -368,15 +375,20 @@ def main():
     parser = argparse.ArgumentParser(description=__doc__, formatter_class=argparse.RawDescriptionHelpFormatter)
     add_program(parser, "g1pause")
     add_program(parser, "g1heap")
+    parser.add_argument("--archive", type=pathlib.Path, default=TOP / "judge/out/libg1judge.a", help="the judge for C")
+    parser.add_argument("--only", choices=("narrow", "wide"), help="a part alone")
     options = parser.parse_args()
     limits = Limits(options.g1pause, options.g1heap)
     progress.show("tried", lambda: limits.passed)
     with tempfile.TemporaryDirectory() as room:
-        for made, rows in ROWS:
-            limits.image(made.__name__, made(), rows, pathlib.Path(room))
-        limits.large(pathlib.Path(room))
-    limits.explained()
-    limits.beyond()
+        if options.only != "wide":
+            for made, rows in ROWS:
+                limits.image(made.__name__, made(), rows, pathlib.Path(room))
+            limits.large(pathlib.Path(room))
+            limits.explained()
+            limits.beyond()
+        if options.only != "narrow":
+            Wide(limits, room, options.archive.resolve()).all()
     return limits.end()
 
 

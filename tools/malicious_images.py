@@ -4,8 +4,9 @@
 Makes COUNT images (default 50,000) from a seed (default 1), most of them broken on purpose, and asks the built program
 for each: `show --repack`, or `check` for one in three. What has to come follows from image_text.py, an independent
 reading of docs/IMAGE.md: for an image its text of version 2, else the fault of the first stage that finds one. Every
-tenth broken image is also given to `g1heap print`: it has to report the same fault, with a second line that says what
-breaks which rule, and to mark that in the lines that it prints, if it prints any.
+tenth broken image is also given to `g1heap print --limits specification`: it has to report the same fault, with a second
+line that says what breaks which rule, and to mark that in the lines that it prints, if it prints any. So it is without
+that option, except that the wider limits of g1heap hold.
 
 A good image is made first, of ordinary regions, runs of humongous objects, references, roots, remembered cards and
 dirty cards. Then none, one, two or three of the wrongs below are done to it, each at a random place: a number of the
@@ -27,6 +28,7 @@ from concurrent.futures import ThreadPoolExecutor
 sys.path.insert(0, str(pathlib.Path(__file__).resolve().parent / "lib"))
 
 import progress  # noqa: E402
+from heap_image import SPECIFICATION, WIDE  # noqa: E402
 from image_text import FIRST, FREE, MAGIC, NEXT, ORDINARY, fault_of, header, in_version_two  # noqa: E402
 from programs import add_program, find, program  # noqa: E402
 
@@ -318,17 +320,17 @@ def answer(binary, data, cover):
     return done.stdout, done.stderr, done.returncode
 
 
-def wanted(data, cover):
-    fault = fault_of(data, cover)
+def wanted(data, cover, limits=SPECIFICATION):
+    fault = fault_of(data, cover, limits)
     if fault is None:
         return (b"covered\n" if cover else in_version_two(data)), b"", 0
     status = 4 if fault.startswith("9:") else 3
     return b"", f"g1pause: fault {fault}\n".encode(), status
 
 
-def is_marked(heap, data, wanted):
+def is_marked(heap, data, wanted, words=()):
     """Whether g1heap prints a broken image, and marks the place that it reports."""
-    done = subprocess.run([heap, "print"], input=data, capture_output=True, timeout=60)
+    done = subprocess.run([heap, "print", *words], input=data, capture_output=True, timeout=60)
     first, rule, *more = done.stderr.split(b"\n")
     marks = [line for line in done.stdout.split(b"\n") if line.startswith(b"broken ")]
     is_told = first + b"\n" == wanted[1].replace(b"g1pause: ", b"g1heap: -: ") and rule.startswith(b"g1heap: ") and more == [b""]
@@ -362,7 +364,9 @@ def main():
         want = wanted(data, cover)
         good = answer(binary, data, cover) == want
         if number % 10 == 0 and want[2] == 3:
-            good = good and is_marked(options.heap, data, want)
+            wide = wanted(data, False, WIDE)
+            good = good and is_marked(options.heap, data, want, ["--limits", "specification"])
+            good = good and (wide[2] != 3 or is_marked(options.heap, data, wide))
         return number, cover, want, good
 
     with ThreadPoolExecutor(4) as pool:

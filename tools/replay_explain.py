@@ -1,5 +1,5 @@
 #!/usr/bin/env python3
-"""replay_explain.py G1HEAP G1PAUSE [--random N] [--seed S] [IMAGE ..]
+"""replay_explain.py G1HEAP G1PAUSE [--random N] [--large N] [--seed S] [IMAGE ..]
 
 Replays what `g1heap explain` reports, by docs/EXPLAIN.md alone, on each image (default: examples/*.img) and on N
 random ones (2000), under random choices: budgets with random costs, sets, and sets that can't be collected. Of each
@@ -12,6 +12,8 @@ it is asked that
   humongous object, gaps, live bytes, candidates and totals are computed again here, from the image and from what
   `g1pause choose` prints;
 - `--map` prints the survivors' old and new addresses and sizes; with `-o` the same lines are in the file.
+
+So it is with N (4) images that have regions of 131,072 words and more, except that `g1heap` pauses and chooses there, too.
 
 The last line is 'N passed, M failed'.
 """
@@ -30,6 +32,7 @@ from covered import draw_choice, draw_image  # noqa: E402
 from heap_image import CONTINUATION, FIRST, FREE, NULL, ORDINARY, from_bytes  # noqa: E402
 from image_text import in_version_two  # noqa: E402
 from programs import add_program  # noqa: E402
+from random_heaps import large_regions  # noqa: E402
 
 EXAMPLES = pathlib.Path(__file__).resolve().parent.parent / "examples"
 N, LIST = r"(\d+)", r"(-|\d+(?: \d+)*)"
@@ -204,7 +207,7 @@ def demand_same(what, found, expected):
     demand(found == expected, f"{what}: {found}, and not {expected}")
 
 
-def check_choice(options, data, image, facts, truth, words):
+def check_choice(program, data, image, facts, truth, words):
     """The lines of a choice by a budget."""
     by = {name: [fact[1:] for fact in facts if fact[0] == name] for name in ("budget", "live", "excluded", "candidate")}
     if "--budget" not in words:
@@ -229,7 +232,7 @@ def check_choice(options, data, image, facts, truth, words):
         if kind != ORDINARY or image.pinned[region] or 8 * image.tops[region] == live[region]:
             excluded.append((region, reason))
     demand_same("excluded", by["excluded"], excluded)
-    chosen = subprocess.run([options.g1pause, "choose", *words], input=data, capture_output=True, check=True)
+    chosen = subprocess.run([program, "choose", *words], input=data, capture_output=True, check=True)
     expected, total = [], base
     for line in chosen.stdout.decode().splitlines()[:-1]:
         _, region, _, cost, _, garbage, word = line.split()
@@ -293,6 +296,7 @@ class Tries:
         return subprocess.run([program, *words], input=data, capture_output=True, check=False)
 
     def one(self, name, data, words, pause_words):
+        """An image, by the words of a choice for g1heap and for g1pause; g1heap pauses it if there are none for g1pause."""
         try:
             self.explanation(data, words, pause_words)
             self.passed += 1
@@ -306,7 +310,8 @@ class Tries:
             demand_same("status", done.returncode, 2)
             demand(b"a region is given twice" in done.stderr and not done.stdout, done.stderr.decode())
             return
-        pause = self.run(self.options.g1pause, ["pause", *pause_words], data)
+        program = self.options.g1heap if pause_words is None else self.options.g1pause
+        pause = self.run(program, ["pause", *(words if pause_words is None else pause_words)], data)
         demand_same("status", done.returncode, pause.returncode)
         demand(not done.stderr, done.stderr.decode())
         facts = parse(done.stdout.decode())
@@ -314,14 +319,16 @@ class Tries:
         image = from_bytes(data)
         refused = [fact[1] for fact in facts if fact[0] == "refused"]
         if pause.returncode:
-            demand_same("refusal", [f"g1pause: {text}\n" for text in refused], [pause.stderr.decode()])
+            told = pause.stderr.decode().splitlines(keepends=True)[:1]  # the second one of g1heap says where the rule is broken
+            name = "g1heap: -:" if pause_words is None else "g1pause:"
+            demand_same("refusal", [f"{name} {text}\n" for text in refused], told)
         else:
             demand(not refused, "refused, and g1pause does not")
             demand(replay(image, facts).to_bytes() == pause.stdout, "the replay gives other bytes than g1pause pause")
         chosen = [fact[1] for fact in facts if fact[0] == "set"]
         if chosen:
             truth = Truth(image, chosen[0])
-            check_choice(self.options, data, image, facts, truth, pause_words)
+            check_choice(program, data, image, facts, truth, words if pause_words is None else pause_words)
             check_facts(image, facts, truth, bool(refused))
 
     def other_outputs(self, data, words, done, facts):
@@ -348,6 +355,7 @@ def main():
     add_program(parser, "g1heap")
     add_program(parser, "g1pause")
     parser.add_argument("--random", type=int, default=2000, metavar="N")
+    parser.add_argument("--large", type=int, default=4, metavar="N")
     parser.add_argument("--seed", type=int, default=1, metavar="S")
     parser.add_argument("images", nargs="*", metavar="IMAGE")
     options = parser.parse_intermixed_args()
@@ -363,6 +371,10 @@ def main():
         for number in progress.over(range(options.random), "random images"):
             image = draw_image(rng)
             tries.one(f"random image {number}", image.to_bytes(), *draw_choice(rng, image))
+        for number in progress.over(range(options.large), "large random images"):
+            image = draw_image(rng, large_regions)
+            for _ in range(4):
+                tries.one(f"large random image {number}", image.to_bytes(), draw_choice(rng, image)[0], None)
     print(f"{tries.passed} passed, {tries.failed} failed")
     return 1 if tries.failed or not tries.passed else 0
 

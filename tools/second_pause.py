@@ -1,5 +1,6 @@
 #!/usr/bin/env python3
 """second_pause.py BINARY [IMAGE ..]
+second_pause.py --large N [--seed S] G1HEAP
 
 Runs `pause` on each image (default: examples/*.img) and then `pause` again on each answer, with several choices
 the first and the second time: no region, budgets from nothing to everything, and up to four ordinary regions that are
@@ -13,18 +14,23 @@ reading of the text (image_text.py):
 - that as many live bytes are counted as before;
 - that 4 workers at other chunk sizes give the same answer.
 
+With --large G1HEAP is asked the same of N random images with regions of 131,072 words and more.
+
 And some pauses have to move something, some to free something, and some to free a humongous object. The last line is
 'N passed, M failed'.
 """
 import argparse
 import pathlib
+import random
 import sys
 
 sys.path.insert(0, str(pathlib.Path(__file__).resolve().parent / "lib"))
 
 import progress  # noqa: E402
 from image_text import FIRST, ORDINARY, fault_of, free_regions, graph, named_humongous, read  # noqa: E402
+from heap_image import SPECIFICATION, WIDE  # noqa: E402
 from programs import add_program  # noqa: E402
+from random_heaps import large_regions  # noqa: E402
 from refusing import Judge, run  # noqa: E402
 
 BUDGETS = ["0", "1000", "1000000", "18446744073709551615"]
@@ -32,13 +38,20 @@ REGIONS = 4  # at most so many ordinary regions are tried alone
 
 
 class Tries(Judge):
-    def __init__(self, binary):
+    def __init__(self, binary, is_g1heap=False):
         super().__init__()
-        self.binary = binary
+        self.binary, self.is_g1heap, self.limits = binary, is_g1heap, WIDE if is_g1heap else SPECIFICATION
         self.moved = self.freed = self.humongous = 0
 
     def run(self, words, data):
-        return run([self.binary, *words], data)
+        """The answer to words of g1pause. What g1heap reports is told as g1pause would."""
+        if not self.is_g1heap:
+            return run([self.binary, *words], data)
+        command, *regions = words
+        if command == "pause" and regions[-1:] and regions[-1].isdigit() and regions[-2:-1] not in (["--budget"], ["--chunk"]):
+            words = [command, *regions[:-1], "--set", regions[-1]]
+        out, errors, status = run([self.binary, *words], data)
+        return out, errors.replace(b"g1heap: -: ", b"g1pause: "), status
 
     def choices(self, data):
         ordinary = [str(r) for r, (kind, _, flags) in enumerate(read(data)[3]) if kind == ORDINARY and not flags]
@@ -55,7 +68,7 @@ class Tries(Judge):
         room = status == 5 and errors.startswith(b"g1pause: fault 11: room") and not out
         if not self.judge(name, room or (status == 0 and not errors)) or room:
             return None
-        if not self.judge(f"{name}, an image that is covered", fault_of(out, True) is None):
+        if not self.judge(f"{name}, an image that is covered", fault_of(out, True, self.limits) is None):
             return None
         self.judge(f"{name}, checked", self.run(["check"], out) == (b"covered\n", b"", 0))
         self.judge(f"{name}, packed again", self.run(["show", "--repack"], out) == (out, b"", 0))
@@ -100,6 +113,8 @@ class Tries(Judge):
 
 def main():
     parser = argparse.ArgumentParser(description=__doc__, formatter_class=argparse.RawDescriptionHelpFormatter)
+    parser.add_argument("--large", type=int, default=0, metavar="N", help="random images with large regions, for g1heap")
+    parser.add_argument("--seed", type=int, default=1, metavar="S")
     add_program(parser, "binary", "g1pause")
     parser.add_argument("images", metavar="IMAGE", nargs="*", type=pathlib.Path, default=[])
     parser.add_argument("--first", action="store_true", help="end at the first failure")
@@ -107,7 +122,12 @@ def main():
     binary = options.binary
     examples = pathlib.Path(__file__).resolve().parent.parent / "examples"
     images = options.images or sorted(examples.glob("*.img"))
-    tries = Tries(binary)
+    tries = Tries(binary, bool(options.large))
+    if options.large:
+        rng = random.Random(options.seed)
+        for number in progress.over(range(options.large), "large random images"):
+            tries.pauses(f"large random image {number}", large_regions(rng).to_bytes())
+        return tries.end()
     for image in progress.over(images, "images"):
         tries.pauses(image.name, image.read_bytes())
     return tries.end()

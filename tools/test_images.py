@@ -26,6 +26,7 @@ sys.path[:0] = [str(TOP / "tools"), str(TOP / "tools" / "lib")]
 import heap_image  # noqa: E402
 import hprof2image  # noqa: E402
 import image_text  # noqa: E402
+import random_heaps  # noqa: E402
 import opponent  # noqa: E402
 import programs  # noqa: E402
 import stepping  # noqa: E402
@@ -86,10 +87,10 @@ def header(size, slots):
 
 # The image of Maker.heap with W 16, K 4, N 6, by hand.
 WORDS = [
-    [header(6, 4), 0, 0, 0, 0, OBJECT, header(8, 5), 1, 0, 0, 0, 23, A, 0x05000000],
-    [header(6, 4), 1, 0, 0, 0, ARRAY, header(4, 1), 27, A, 0x07000000, header(5, 3), 23, 0, 0, ARRAY],
+    [header(6, 4), 0, 0, 0, 0, OBJECT, header(8, 5), 1, 0, 0, 0, 23, A, 5],
+    [header(6, 4), 1, 0, 0, 0, ARRAY, header(4, 1), 27, A, 7, header(5, 3), 23, 0, 0, ARRAY],
     [header(3, 0), BYTE << 32 | 3, 0x030201, header(4, 1), 49, A, 0xFFFFFFFF],
-    [header(14, 0), LONG << 32 | 12, *(i << 56 for i in range(12))],
+    [header(14, 0), LONG << 32 | 12, *range(12)],
 ]
 TABLE = [(1, 14), (1, 15), (1, 7), (2, 14), (0, 0), (0, 0)]
 ROOT_WORDS = [7 if tag == 5 else 23 for tag in ROOTS] + [1, 17]
@@ -156,9 +157,10 @@ class Dumps(unittest.TestCase):
         self.assertEqual(self.made_of(make.objects(0x100, ARRAY, *[0] * 11))[0][:4], [(1, 12), (1, 6), (2, 13), (0, 0)])
 
     def test_a_blank_image_has_labels_and_no_data(self):
-        words = [word for part in WORDS for word in part]
-        data = {0x05000000, 0x07000000, 0x030201, 0xFFFFFFFF, *(i << 56 for i in range(12))}
-        blank = b"".join(struct.pack("<Q", 0 if word in data else word) for word in words)
+        words = [part[:] for part in WORDS]
+        for region, place in ((0, 13), (1, 9), (2, 2), (2, 6), *((3, 2 + i) for i in range(12))):
+            words[region][place] = 0
+        blank = b"".join(struct.pack("<Q", word) for part in words for word in part)
         self.assertEqual(converted(Maker(8).heap(), blank=True)[0], by_hand()[:-len(blank)] + blank)
 
     def test_every_cut_is_refused(self):
@@ -193,7 +195,7 @@ class Dumps(unittest.TestCase):
 
     def test_no_heap_at_all_is_told(self):
         self.assertIn("W 4096 with N from 4096 to 4096", str(hprof2image.too_many([(8192, 2048)], 16, 9, 512 * 2048)))
-        self.assertIn("no heap holds them", str(hprof2image.too_many([(1 << 20, 17)], 4096, 9, 17 * 256)))
+        self.assertIn("no heap holds them", str(hprof2image.too_many([(1 << 23, 33)], 4096, 9, 33 * 2048)))
 
     def test_a_dump_in_one_record_needs_no_end(self):
         make = Maker(8)
@@ -639,6 +641,31 @@ class Heaps(unittest.TestCase):
                            *((whole[:end], "it is cut short") for end in range(8, len(whole)))):
             with self.assertRaisesRegex(ValueError, text):
                 heap_image.from_bytes(data)
+
+    def test_both_limits_are_those_of_the_page(self):
+        """By hand: W and N*W at their limits, and one step beyond. No bytes are wanted but those of the heading."""
+        for limits, width, words in ((heap_image.SPECIFICATION, 1 << 16, 1 << 24), (heap_image.WIDE, 1 << 22, 1 << 28)):
+            for w, n, fault in ((width, 1, "3: short"), (2 * width, 1, "2: geometry"), (width, words // width, "3: short"),
+                                (width, words // width + 1, "2: geometry"), (words // 4096, 4096, "3: short"), (16, 4097, "2: geometry")):
+                data = b"G1IMAGE2" + struct.pack("<6I", w, 64 if w > 32 else 16, n, 0, 0, n)
+                self.assertEqual(image_text.fault_of(data, True, limits), fault, (w, n))
+        data = heap_image.Image(1 << 17, 64, 2).to_bytes()
+        self.assertEqual(heap_image.from_bytes(data).region_words, 1 << 17)
+        with self.assertRaisesRegex(ValueError, "no image: 2 regions of 131072 words"):
+            heap_image.from_bytes(data, heap_image.SPECIFICATION)
+        with self.assertRaisesRegex(ValueError, "the objects take 1 regions of 131072 words"):
+            heap_image.laid_out([], {0: ([], [])}, 1 << 17, limits=heap_image.SPECIFICATION)
+
+    def test_heaps_with_large_regions_are_images_with_much_behind_65536(self):
+        tops, sizes, slots = [], [], []
+        for seed in range(12):
+            image = random_heaps.large_regions(random.Random(seed))
+            self.assertIsNone(image_text.fault_of(image.to_bytes(), True))
+            self.assertEqual(image.kinds[-1], heap_image.FREE)
+            tops += image.tops
+            sizes += [image.size(at) for at in image.objects()]
+            slots += [slot % image.region_words for at in image.objects() for slot in image.slots(at) if image.words[slot]]
+        self.assertTrue(max(tops) > 1 << 16 and max(sizes) > 1 << 16 and max(slots) > 1 << 16)
 
     def test_what_no_pause_collects_is_refused(self):
         self.image.kinds[3:], self.image.tops[3:] = [2, 3], [16, 4]

@@ -50,7 +50,7 @@ import image_text  # noqa: E402
 import losses  # noqa: E402
 import progress  # noqa: E402
 import release  # noqa: E402
-from heap_image import FIRST, CONTINUATION, FREE, NULL, ORDINARY, Image, from_bytes  # noqa: E402
+from heap_image import FIRST, CONTINUATION, FREE, MOST_REGIONS, NULL, ORDINARY, Image, from_bytes  # noqa: E402
 from opponent import NoRoom, Opponent, refused  # noqa: E402
 from plant_errors import ERRORS as COLLECTOR_ERRORS, MORE_ERRORS, Planter  # noqa: E402
 from programs import OUT, program  # noqa: E402
@@ -148,9 +148,6 @@ def refused_after(heap, after):
 def of_loss(loss):
     kind, *three = loss
     return [1] + answer(kind=kind, first=three[0], second=three[1], third=three[2])
-
-
-MOST_REGIONS = 4096  # of an image
 
 
 def by_rule(before, after, chosen):
@@ -842,7 +839,7 @@ def check_graphs(tally, programs, options):
     wrong, wrong_maps, texts, made = 0, 0, [], []
     for i in range(options.graphs):
         graph = Graph(rng, rng.choice((0, 1, 2, 5, rng.randint(0, 60))), rng.choice((3, 12, 70)))
-        width = rng.choice((16, 32, 64, 256))
+        width = rng.choice((16, 32, 64, 256, 1 << 17)) if i % 50 else 1 << 22
         texts.append(graph.lines(rng, width, f"w{i}"))
         made.append((graph, width))
     lines = programs.lines(tally, "test_checked", "write", text="".join(texts))
@@ -878,7 +875,7 @@ def is_map(graph, image, line):
 
 REFUSALS = (  # the lines of an image, and what its end says: fault, pointer, holder, slot
     ("image 0\nroot 0\n", (2, 0, 0, 0)), ("image 8\n", (2, 0, 0, 0)), ("image 48\n", (2, 0, 0, 0)),
-    ("image 131072\n", (2, 0, 0, 0)),
+    ("image 8388608\n", (2, 0, 0, 0)), ("image 4194304\nobject 0 0 0\n", (5, 0, 0, 0)),
     ("image 16\n" + "root 0\n" * 65537, (3, 0, 0, 0)),
     ("image 16\nobject 0 0 0\n", (5, 0, 0, 0)),
     ("image 16\nobject 7 0 0\nobject 9 0 0\nobject 7 0 0\n", (6, 7, 0, 0)),
@@ -892,7 +889,7 @@ def check_refusals(tally, programs):
     for text, wanted in REFUSALS:
         lines = programs.lines(tally, "test_checked", "write", text=f"{text}end refused\n")
         tally.expect(f"writer: {text[:40]!r}", lines, ["fault {} pointer {} holder {} slot {}".format(*wanted)])
-    # 4,096 regions of 16 words, and one more; and one word more than 2^24
+    # 4,096 regions of 16 words, and one more (tools/limits.py has 2^28 words, and one more)
     object_of = lambda p, words: f"object {p} 0 {8 * (words - 1)} " + "0 " * (words - 1) + "\n"
     full = "image 16\n" + "".join(object_of(p, 9) for p in range(1, 4097))
     for words in (0, 1, 7, 8, 13):

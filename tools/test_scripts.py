@@ -4,7 +4,9 @@
 Tests the scripts beside it: each has to fail a program that is broken in one way. BINARY is the built g1pause, DRIVER
 the built g1_rows, for the scripts that take it. The broken programs run the real one, and change what it says; they
 are written in C, since they run while memory is refused, and take none. It needs a C compiler. The super-user runs
-the scripts and their programs as nobody. The last line is 'N passed, M failed'.
+the scripts and their programs as nobody. And examples/runtimes/judge.py has to fail adapters that write a bad heap, with one
+line for each bad file, by the g1heap that is built beside g1pause.
+The last line is 'N passed, M failed'.
 """
 import argparse
 import os
@@ -105,6 +107,43 @@ DRIVERS = {
 IDLE = (f'void *volatile sign = malloc({BEGIN}); free(sign); sign = malloc({END}); free(sign);'
         'say("ok: It is so.\\n1 ok, 0 failed\\n", 29, "", 0);')
 
+# An adapter of a runtime that writes these files, and the lines of a good one. Node 3 is 5 after the collection, and 1 is 2.
+ADAPTER = """import sys
+for name, text in {files}.items():
+    open(f"{{sys.argv[1]}}/{{name}}", "w").write(text)
+print("before\\ncollection minor\\nplanted torn data judged.left Node key\\nagain")
+"""
+GRAPH = 'graph\nroot {0} as judged\nobject {0} 4/2 {1} - "Node"\nobject {1} 3/0 "Node" {2}\n'
+FILES = {"before.txt": GRAPH.format(1, 3, 7), "minor.txt": GRAPH.format(2, 5, 7), "torn.txt": GRAPH.format(2, 5, 8),
+         "again.txt": GRAPH.format(2, 5, 7), "names": 'type Node slots left right data class key\nlabel "Node" Node\n'}
+# What is wrong in which file, and the lines of the script that say so: each has to be there as it is.
+ADAPTERS = {
+    "a good adapter": ({}, ["program minor: same objects 2 words 7, 2 moved",
+                            "program planted torn: differ data at judged.left: object 5 (Node) before, object 5 (Node) after; "
+                            "data word 1, key, is 7 (0x7) before, 8 (0x8) after", "4 passed, 0 failed"]),
+    "a heap that changes under the walk": ({"before.txt": GRAPH.format(1, 3, 7).replace("4/2 3", "4/2 4")},
+                                           ["program minor: g1heap: before.txt: line 3: expected '-' or the name of an object in slot 0, 0 moved  FAILED"]),
+    "a slot with an old address": ({"minor.txt": GRAPH.format(2, 5, 7).replace("4/2 5", "4/2 3")},
+                                   ["program minor: differ stale at judged.left: object 3 (Node) before; the word still is 3, which no object after has, "
+                                    "0 moved  FAILED"]),
+    "a heap that changed after its last collection": ({"again.txt": GRAPH.format(2, 5, 9)},
+                                                      ["program again: differ data at judged.left: object 5 (Node) before, object 5 (Node) after; "
+                                                       "data word 1, key, is 7 (0x7) before, 9 (0x9) after, 0 moved  FAILED"]),
+    "a name with a space": ({"minor.txt": GRAPH.format("my 2", 5, 7)},
+                            ["program minor: g1heap: minor.txt: line 2: expected '-' or the name of an object, 0 moved  FAILED"]),
+    "a text with a space": ({"minor.txt": GRAPH.format(2, 5, '"a text"')},
+                            ["program minor: g1heap: minor.txt: line 4: expected 0 slots and 2 data words, 0 moved  FAILED"]),
+    "a type with a space": ({"names": 'type My Node slots data class\n'},
+                            ["program minor: g1heap: names: line 1: expected 'type TYPE slots NAME .. data NAME ..', 0 moved  FAILED"]),
+    "an object that is written twice": ({"minor.txt": GRAPH.format(2, 5, 7) + 'object 5 1/0\n'},
+                                        ["program minor: g1heap: minor.txt: line 5: expected a name that no object above has, 0 moved  FAILED"]),
+    "two texts of one hash": ({"before.txt": GRAPH.format(1, 3, '"8yn0iYCKYHlIj4-BwPqk"'), "minor.txt": GRAPH.format(2, 5, '"GReLUrM4wMqfg9yzV3KQ"')},
+                              ['program minor: g1heap: minor.txt: "GReLUrM4wMqfg9yzV3KQ" has the hash of "8yn0iYCKYHlIj4-BwPqk", which is in the '
+                               "other file: write it in another way, 0 moved  FAILED"]),
+    "an error that is not in the file": ({"torn.txt": GRAPH.format(2, 5, 7)}, ["program planted torn: same objects 2 words 7  FAILED"]),
+    "collections that move nothing": ({"before.txt": GRAPH.format(2, 5, 7)}, ["program 1 collections, 0 moves: judged nothing  FAILED"]),
+}
+
 # A script ends with the first answer that it fails.
 FIRST = {script: ["--first"] for script in ("refuse_memory.py", "second_pause.py", "refuse_calls.py", "count_threads.py")}
 
@@ -144,6 +183,21 @@ def try_drivers(judge, folder, driver):
     judge.judge("count_threads.py fails a driver that starts no thread", not passes(folder, "count_threads.py", idle))
 
 
+def try_runtimes(judge, folder, binary):
+    """The judge of runtimes on adapters that write these files. All lines but those that are expected have to pass."""
+    script = TOOLS.parent / "examples" / "runtimes" / "judge.py"
+    environment = dict(os.environ, PATH=f"{pathlib.Path(binary).resolve().parent}:{os.environ['PATH']}")
+    for name, (files, lines) in ADAPTERS.items():
+        (folder / "adapter.py").write_text(ADAPTER.format(files={**FILES, **files}))
+        words = [sys.executable, script, "--program", f"{sys.executable} {folder / 'adapter.py'}"]
+        done = subprocess.run(words, capture_output=True, text=True, env=environment, timeout=60, check=False)
+        said = done.stdout.splitlines()
+        good = name == "a good adapter"
+        as_expected = all(line in said for line in lines) and done.stderr == "" and done.returncode == (0 if good else 1)
+        if not judge.judge(f"runtimes/judge.py: {name}", as_expected):
+            print("\n".join(said), done.stderr)
+
+
 def main():
     parser = argparse.ArgumentParser(description=__doc__, formatter_class=argparse.RawDescriptionHelpFormatter)
     add_program(parser, "binary", "g1pause")
@@ -158,6 +212,7 @@ def main():
     progress.show("tried", lambda: judge.passed)
     with tempfile.TemporaryDirectory() as room:
         let_in(pathlib.Path(room))
+        try_runtimes(judge, pathlib.Path(room), options.binary)
         try_programs(judge, pathlib.Path(room), options.binary)
         if options.driver:
             try_drivers(judge, pathlib.Path(room), options.driver)

@@ -302,7 +302,7 @@ class JavaHeaps(unittest.TestCase):
     def test_words_that_no_heap_has_are_one_line(self):
         for words, line in (("many 4096 64 9", "SIZE is 'many', and has to be a number of entries, at most 999999"),
                             ("1000000 4096 64 9", "SIZE is '1000000', and has to be a number of entries, at most 999999"),
-                            ("10 4000 64 9", "hprof2image: W is 4000: a power of two from 16 to 65536 is wanted"),
+                            ("10 4000 64 9", "hprof2image: W is 4000: a power of two from 16 to 4194304 is wanted"),
                             ("10 4096 3 9", "hprof2image: K is 3: a power of two from 4 to 64, and at most W, is wanted"),
                             ("10 4096 64 9999", "hprof2image: N is 9999: from 1 to 4096 is wanted where W is 4096")):
             done = subprocess.run([TOP / "examples/java/run.sh", "TreeAndIndex", *words.split()], capture_output=True, text=True,
@@ -378,32 +378,40 @@ class Runtimes(unittest.TestCase):
 
     RUBY = """#!{python}
 import sys
-room = sys.argv[2]
+room = sys.argv[-2]
 for step, names in {steps}:
     open(f"{{room}}/{{step}}.txt", "w").write("graph\\n" + "".join(f"object {{name}} 1/0\\n" for name in names))
+for step in {maps}:
+    open(f"{{room}}/{{step}}", "w").close()
 for line in {lines}:
     print(line)
 """
     HEAP = """#!{python}
 import sys
-verdict = {verdicts}.get(sys.argv[3].removesuffix(".txt"), "same objects 2 words 2")
-print(verdict)
-sys.exit(not verdict.startswith("same"))
+before, after = sys.argv[-2:]
+names = [[line.split()[1] for line in open(file) if line.startswith("object")] for file in (before, after)]
+verdict = {verdicts}.get(after.removesuffix(".txt"), "same objects 2 words 2")
+print(verdict, file=sys.stderr if verdict.startswith("g1heap") else sys.stdout)
+if verdict.startswith("same"):
+    print("moved", sum(map(str.__ne__, *names)), "of 2 by name")
+sys.exit(0 if verdict.startswith("same") else 1 if verdict.startswith("differ") else 3)
 """
     STEPS = [("before", "ab"), ("minor", "ac"), ("wrong", "ac"), ("again", "ac")]
-    LINES = ["before", "collection minor", "planted wrong split c", "again"]
-    FOUND = "differ split at root 0: object c before, object a after"
+    LINES = ["before", "collection minor", "planted wrong split judged.left Node", "again"]
+    FOUND = "differ split at judged.left: object c (Node) before, object a (Leaf) after; c before is d after on an earlier path"
+    TORN = "differ data at judged.left: object c (Node) before, object c (Node) after; data word 1, key, is 2 (0x2) before, 3 (0x3) after"
 
-    def judged(self, steps=STEPS, lines=LINES, verdicts=None):
+    def judged(self, steps=STEPS, lines=LINES, verdicts=None, words=("ruby",), maps=("names",)):
         """The status and what is printed."""
         with tempfile.TemporaryDirectory() as room:
-            texts = {"ruby": self.RUBY.format(python=sys.executable, steps=steps, lines=lines),
+            texts = {"ruby": self.RUBY.format(python=sys.executable, steps=steps, lines=lines, maps=maps),
                      "g1heap": self.HEAP.format(python=sys.executable, verdicts={"wrong": self.FOUND} if verdicts is None else verdicts)}
             for name, text in texts.items():
                 (pathlib.Path(room) / name).write_text(text)
                 (pathlib.Path(room) / name).chmod(0o755)
-            done = subprocess.run([TOP / "examples/runtimes/judge.py", "ruby"], capture_output=True, text=True, check=False, timeout=60,
+            done = subprocess.run([TOP / "examples/runtimes/judge.py", *words], capture_output=True, text=True, check=False, timeout=60,
                                   env={**os.environ, "PATH": f"{room}:{os.environ['PATH']}"})
+        self.assertEqual(done.stderr, "")
         return done.returncode, done.stdout.splitlines()
 
     def test_a_good_collector_passes(self):
@@ -411,36 +419,84 @@ sys.exit(not verdict.startswith("same"))
                                              "ruby again: same objects 2 words 2, 0 moved", "ruby 1 collections, 1 moves", "4 passed, 0 failed"]))
 
     def test_a_collection_that_changes_the_heap_fails(self):
-        status, lines = self.judged(verdicts={"minor": "differ null at root 0: null before, object a after", "wrong": self.FOUND})
-        self.assertEqual((status, lines[0], lines[-1]),
-                         (1, "ruby minor: differ null at root 0: null before, object a after, 1 moved  FAILED", "3 passed, 1 failed"))
+        for verdict in ("differ null at judged: null before, object a after", "g1heap: minor.txt: line 3: expected a name", "g1heap: no memory"):
+            status, lines = self.judged(verdicts={"minor": verdict, "wrong": self.FOUND})
+            self.assertEqual((status, lines[0], lines[-1]), (1, f"ruby minor: {verdict}, 0 moved  FAILED", "2 passed, 2 failed"))
 
     def test_an_error_that_is_not_found_or_is_found_elsewhere_fails(self):
-        for verdict in ("same objects 2 words 2", self.FOUND.replace("object c", "object b"), self.FOUND.replace("split", "data")):
+        found = self.FOUND
+        for verdict in ("same objects 2 words 2", found.replace("split at", "data at"), found.replace("judged.left", "judged.right"),
+                        found.replace("judged.left", "judged.left.left"), found.replace("(Node)", "(Leaf)"), found.replace(" (Node)", ""),
+                        "g1heap: wrong.txt: line 3: expected a name"):
             status, lines = self.judged(verdicts={"wrong": verdict})
             self.assertEqual((status, lines[1], lines[-1]), (1, f"ruby planted wrong: {verdict}  FAILED", "3 passed, 1 failed"))
 
+    def test_a_field_is_asked_for_by_its_name(self):
+        lines = [self.LINES[0], self.LINES[1], "planted wrong data judged.left Node key", "again"]
+        self.assertEqual(self.judged(lines=lines, verdicts={"wrong": self.TORN})[0], 0)
+        for verdict in (self.TORN.replace(", key,", ", name,"), self.TORN.replace(", key,", ""), self.TORN.partition(";")[0]):
+            self.assertEqual(self.judged(lines=lines, verdicts={"wrong": verdict})[0], 1)
+
     def test_collections_without_a_move_judge_nothing(self):
-        status, lines = self.judged(steps=[(step, "ab") for step, _ in self.STEPS])
+        still = [(step, "ab") for step, _ in self.STEPS]
+        status, lines = self.judged(steps=still)
         self.assertEqual((status, lines[-2:]), (1, ["ruby 1 collections, 0 moves: judged nothing  FAILED", "3 passed, 1 failed"]))
+        lines = [self.LINES[0], "collection minor 7 freed", *self.LINES[2:]]
+        self.assertEqual(self.judged(steps=still, lines=lines)[0], 1)  # nobody said that it moves nothing
+
+    def test_a_program_may_count_its_moves_itself(self):
+        for moved, status in ((7, 0), (0, 1)):
+            lines = [self.LINES[0], f"collection minor {moved} moved", *self.LINES[2:]]
+            found, said = self.judged(steps=[(step, "ab") for step, _ in self.STEPS], lines=lines)
+            self.assertEqual((found, said[0]), (status, f"ruby minor: same objects 2 words 2, {moved} moved"))
+
+    def test_a_runtime_that_moves_nothing_has_to_free_something(self):
+        words = ["--unmoving", "--program", "ruby -w"]
+        still = [(step, "ab") for step, _ in self.STEPS]
+        for collected, status, end in (("minor 7 freed", 0, "7 freed"), ("minor 0 freed", 1, "0 freed: judged nothing  FAILED"),
+                                       ("minor", 1, "0 freed: judged nothing  FAILED")):
+            lines = [self.LINES[0], f"collection {collected}", *self.LINES[2:]]
+            found, said = self.judged(steps=still, lines=lines, words=words)
+            self.assertEqual((found, said[-2]), (status, f"program 1 collections, {end}"))
+        found, said = self.judged(lines=["before", "collection minor 7 freed", *self.LINES[2:]], words=words)
+        self.assertEqual((found, said[-2]), (1, "program 1 collections, 7 freed: it moved 1 objects, and was to move none  FAILED"))
 
     def test_a_program_that_ends_early_fails(self):
-        self.assertEqual(self.judged(lines=self.LINES[:-1]), (1, ["ruby: its program did not come to its end  FAILED", "0 passed, 1 failed"]))
+        for lines in (self.LINES[:-1], self.LINES[1:], []):
+            self.assertEqual(self.judged(lines=lines), (1, ["ruby: its program did not come to its end  FAILED", "0 passed, 1 failed"]))
         status, lines = self.judged(lines=["a", "b"], steps=3)
         self.assertEqual((status, lines[-1]), (1, "0 passed, 1 failed"))
         self.assertTrue(lines[0].startswith("ruby: ruby: status 1: "), lines)
 
+    def test_a_file_that_is_not_there_fails(self):
+        self.assertEqual(self.judged(maps=())[1][0], "ruby: its program wrote no file names  FAILED")
+        self.assertEqual(self.judged(steps=self.STEPS[:2])[1][0], "ruby: its program wrote no file wrong.txt  FAILED")
+
+    def test_a_line_with_other_words_fails(self):
+        for line in ("planted wrong split judged.left", "planted wrong split judged.left my Node key", "collection minor 7", "collection my minor"):
+            status, lines = self.judged(lines=["before", line, "again"])
+            self.assertEqual((status, lines), (1, [f"ruby: its program's line is not one of docs/RUNTIMES.md: {line}  FAILED", "0 passed, 1 failed"]))
+
     def test_wrong_words_are_usage(self):
-        for words in (["perl"], ["--depth", "2"], ["--depth", "many"]):
+        for words in (["perl"], ["--depth", "2"], ["--depth", "many"], ["--unmoving", "ruby"], ["--program", "no-such-program"],
+                      ["--program", ""], ["--program", "true", "ruby"]):
             done = subprocess.run([TOP / "examples/runtimes/judge.py", *words], capture_output=True, text=True, check=False, timeout=60)
             self.assertEqual((done.returncode, done.stdout), (2, ""), words)
+
+    def test_a_runtime_that_is_not_there_is_one_line(self):
+        with tempfile.TemporaryDirectory() as room:
+            for name in ("env", "python3"):
+                (pathlib.Path(room) / name).symlink_to(shutil.which(name) if name == "env" else sys.executable)
+            done = subprocess.run([TOP / "examples/runtimes/judge.py", "ghc"], capture_output=True, text=True, check=False, timeout=60,
+                                  env={"PATH": room})
+        self.assertEqual((done.returncode, done.stdout, done.stderr.splitlines()[-1]), (2, "", "judge.py: error: ghc needs ghc: Debian's ghc"))
 
 
 class Opponents(unittest.TestCase):
     """The end of tools/judge_opponent.py, of which only the counts are known."""
 
     def ended(self, cases, never):
-        judge = judge_opponent.Judge(argparse.Namespace(seed=1, cases=cases), None)
+        judge = judge_opponent.Judge(argparse.Namespace(seed=1, cases=cases, large=False), None)
         judge.passed = 1
         judge.counts.update({error: 1 for error in judge.counts if error not in never})
         with contextlib.redirect_stdout(io.StringIO()) as out:

@@ -1,14 +1,15 @@
 #!/usr/bin/env python3
-"""why_paths.py G1HEAP [--random N] [--seed S] [IMAGE ..]
+"""why_paths.py G1HEAP [--random N] [--large N] [--seed S] [IMAGE ..]
 
 Compares what `g1heap why` reports, by docs/EXPLAIN.md, with a search of this script's own: for each object of each
 image (default: examples/*.img), and for some addresses of N random ones (2000), among them such where no object
-starts. A path has to be the first of the shortest ones; a card has to be the first that leads there. The words of an
+starts, and of N (4) with regions of 131,072 words and more. A path has to be the first of the shortest ones; a card has to be the first that leads there. The words of an
 image are looked at one by one, so that cards and cover decide nothing here but what is covered.
 
 The last line is 'N passed, M failed'.
 """
 import argparse
+import bisect
 import pathlib
 import random
 import subprocess
@@ -21,6 +22,7 @@ from covered import draw_image  # noqa: E402
 from heap_image import FIRST, FREE, NULL, from_bytes  # noqa: E402
 from image_text import in_version_two  # noqa: E402
 from programs import add_program  # noqa: E402
+from random_heaps import large_regions  # noqa: E402
 
 EXAMPLES = pathlib.Path(__file__).resolve().parent.parent / "examples"
 
@@ -30,9 +32,14 @@ class Heap:
 
     def __init__(self, image):
         self.image = image
-        self.holder = {word: at for at in image.objects() for word in range(at, at + image.size(at))}
+        self.starts = list(image.objects())
         self.slots = [slot for at in image.objects() for slot in image.slots(at) if image.words[slot] != NULL]
         self.live = self.search(list(range(image.regions)), [])
+
+    def holder(self, word):
+        """The object that has a word, or None."""
+        at = self.starts[bisect.bisect_right(self.starts, word) - 1] if self.starts else word + 1
+        return at if at <= word < at + self.image.size(at) else None
 
     def search(self, window, outer):
         """Each object of the window that is found, with the step that found it: the word before it is a root, a slot
@@ -99,7 +106,7 @@ class Heap:
             return [f"garbage {at}", *pinned]
         words, lines = self.path(found, at)
         slot = int(words.split()[3])
-        card, holder = slot // image.card_words, self.holder[slot]
+        card, holder = slot // image.card_words, self.holder(slot)
         why = f"card {card} " + (f"remembered {region}" if card in image.sets[region] else "dirty")
         return [f"kept {at} {words}", why, f"holder {self.numbers(holder)} slot {slot}", *lines, *pinned]
 
@@ -112,11 +119,11 @@ class Heap:
             return f"region {region} is free"
         if at - region * image.region_words >= image.tops[region]:
             return f"it is above the top of region {region}"
-        return f"the object at {self.holder[at]} holds that word"
+        return f"the object at {self.holder(at)} holds that word"
 
     def answer(self, at):
         """The status, the lines, and what is on standard error."""
-        if self.holder.get(at) != at:
+        if self.holder(at) != at:
             return 2, "", f"g1heap: -: no object starts at {at}: {self.missing(at)}\n"
         if at in self.live:
             words, lines = self.path(self.live, at)
@@ -157,6 +164,7 @@ def main():
     parser = argparse.ArgumentParser(description=__doc__, formatter_class=argparse.RawDescriptionHelpFormatter)
     add_program(parser, "g1heap")
     parser.add_argument("--random", type=int, default=2000, metavar="N")
+    parser.add_argument("--large", type=int, default=4, metavar="N")
     parser.add_argument("--seed", type=int, default=1, metavar="S")
     parser.add_argument("images", nargs="*", metavar="IMAGE")
     options = parser.parse_intermixed_args()
@@ -173,6 +181,8 @@ def main():
         tries.image(path.name, in_version_two(path.read_bytes()), all_objects)
     for number in progress.over(range(options.random), "random images"):
         tries.image(f"random image {number}", draw_image(rng).to_bytes(), some)
+    for number in progress.over(range(options.large), "large random images"):
+        tries.image(f"large random image {number}", draw_image(rng, large_regions).to_bytes(), some)
     print(", ".join(f"{count} {word}" for word, count in sorted(tries.words.items())))
     print(f"{tries.passed} passed, {tries.failed} failed")
     return 1 if tries.failed or not tries.passed else 0

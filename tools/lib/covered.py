@@ -22,9 +22,9 @@ def draw_cover(rng, image):
     image.log = rng.sample(sorted(log), len(log))
 
 
-def draw_image(rng):
+def draw_image(rng, profile=None):
     """An image that is covered, mostly; with a current region, sometimes."""
-    image = drawn(rng, covered=True)
+    image = drawn(rng, True, profile)
     draw_cover(rng, image)
     if rng.random() < 0.05:
         image.log = image.log[1:]

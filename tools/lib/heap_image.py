@@ -15,12 +15,18 @@ docs/IMAGE.md has the format, and docs/PYTHON.md a debugger's script. An address
 more than an address. It stands apart from the programs that the scripts here try, and checks only what it needs: `g1heap
 print --summary FILE` says whether a file is an image in all. Images at random are in random_heaps.py.
 """
+import collections
 import struct
 
 FREE, ORDINARY, FIRST, CONTINUATION = range(4)
 MAGIC, OLD_MAGIC = b"G1IMAGE2", b"G1IMAGE1"
-MOST_REGIONS, MOST_WORDS, MOST_NUMBER = 4096, 1 << 24, (1 << 64) - 1
+MOST_REGIONS, MOST_ROOTS, MOST_NUMBER = 4096, 65536, (1 << 64) - 1
 NULL = 0
+
+# The most words of a region and of a heap: those that g1pause and traces take, and those that g1heap, the judge for C and
+# this file take. All else is the same for both.
+Limits = collections.namedtuple("Limits", "region_words words")
+SPECIFICATION, WIDE = Limits(1 << 16, 1 << 24), Limits(1 << 22, 1 << 28)
 
 
 class Image:
@@ -118,12 +124,13 @@ class Image:
         return b"".join(out)
 
 
-def from_bytes(data):
-    """The image of these bytes, in version 1 or 2. It is a ValueError if they are not one by their beginning or length."""
+def from_bytes(data, limits=WIDE):
+    """The image of these bytes, in version 1 or 2. It is a ValueError if they are not one by their beginning, sizes or
+    length."""
     if data[:len(MAGIC)] not in (MAGIC, OLD_MAGIC):
         raise ValueError(f"no image: it begins with {bytes(data[:len(MAGIC)])!r}")
     try:
-        image, end = read(data)
+        image, end = read(data, limits)
     except struct.error:
         raise ValueError("no image: it is cut short") from None
     if end != len(data):
@@ -131,7 +138,7 @@ def from_bytes(data):
     return image
 
 
-def read(data):
+def read(data, limits=WIDE):
     """The image of well-formed bytes, and where it ends."""
     at = len(MAGIC)
 
@@ -142,11 +149,11 @@ def read(data):
         return list(numbers)
 
     region_words, card_words, regions, roots, dirty, current = take(6, "I")
-    if region_words * regions > MOST_WORDS:
+    if region_words > limits.region_words or region_words * regions > limits.words:
         raise ValueError(f"no image: {regions} regions of {region_words} words")
-    image = Image(region_words, card_words, regions)
     numbers = 3 if data.startswith(MAGIC) else 2
     table = take(numbers * regions, "I")
+    image = Image(region_words, card_words, regions)
     image.kinds, image.tops = table[::numbers], table[1::numbers]
     if numbers == 3:
         image.pinned = [flags == 1 for flags in table[2::3]]
@@ -164,7 +171,7 @@ def header(size, slots):
     return size << 32 | slots
 
 
-def laid_out(roots, objects, region_words=4096, card_words=64, stale=False):
+def laid_out(roots, objects, region_words=4096, card_words=64, stale=False, limits=WIDE):
     """An image of a program's objects, and the address of each by its name.
 
     `objects` has the slots and the data words of each object, and `roots` and slots have names or None. The objects lie
@@ -174,7 +181,7 @@ def laid_out(roots, objects, region_words=4096, card_words=64, stale=False):
     """
     sizes = {name: 1 + len(slots) + len(data) for name, (slots, data) in objects.items()}
     large = dict.fromkeys(name for name in objects if 4 * sizes[name] > 3 * region_words)
-    image, places = with_places(sizes, large, region_words, card_words)
+    image, places = with_places(sizes, large, region_words, card_words, limits)
     strays = {}
 
     def reference(name):
@@ -192,7 +199,7 @@ def laid_out(roots, objects, region_words=4096, card_words=64, stale=False):
     return image, places
 
 
-def with_places(sizes, large, region_words, card_words):
+def with_places(sizes, large, region_words, card_words, limits=WIDE):
     """An image with room for objects of these sizes, and the place of each."""
     places, tops = {}, []
     for name, size in sizes.items():
@@ -207,7 +214,7 @@ def with_places(sizes, large, region_words, card_words):
         run = [min(region_words, sizes[name] - at) for at in range(0, sizes[name], region_words)]
         kinds += [FIRST] + [CONTINUATION] * (len(run) - 1)
         tops += run
-    if len(tops) > MOST_REGIONS or len(tops) * region_words > MOST_WORDS:
+    if len(tops) > MOST_REGIONS or region_words > limits.region_words or len(tops) * region_words > limits.words:
         raise ValueError(f"the objects take {len(tops)} regions of {region_words} words, and no image has them")
     image = Image(region_words, card_words, max(1, len(tops)))
     if tops:

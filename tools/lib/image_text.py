@@ -1,13 +1,14 @@
 """An independent reading of docs/IMAGE.md, for the scripts beside it.
 
 `fault_of` returns what has to be said of a text, `read` its parts, `graph` what can be read from its roots.
-Nothing here looks at how the program reads.
+Nothing here looks at how the program reads. Without other limits an image may be as large as g1heap takes it.
 """
 import struct
 
+from heap_image import MOST_REGIONS, MOST_ROOTS, WIDE
+
 MAGIC = b"G1IMAGE"  # and the version's digit
 FREE, ORDINARY, FIRST, NEXT = range(4)
-MOST_WORDS = 1 << 24
 
 
 class Refused(Exception):
@@ -55,14 +56,14 @@ def in_version_two(data):
     return MAGIC + b"2" + data[8:32] + table + data[end:]
 
 
-def read(data):
+def read(data, limits=WIDE):
     """The image of a text: its sizes, regions (kind, top, flags), roots, log, sets and words by address."""
     numbers = 1 + version(data)
     if len(data) < 32:
         refuse(3, "short")
     w, k, n, roots, dirty, current = struct.unpack("<6I", data[8:32])
-    sizes = is_power(w, 16, 65536) and is_power(k, 4, 64) and k <= w and 1 <= n <= 4096 and n * w <= MOST_WORDS
-    if not sizes or roots > 65536 or current > n:
+    sizes = is_power(w, 16, limits.region_words) and is_power(k, 4, 64) and k <= w and 1 <= n <= MOST_REGIONS
+    if not sizes or n * w > limits.words or roots > MOST_ROOTS or current > n:
         refuse(2, "geometry")
     parts = Parts(data[32:])
     table = parts.take(numbers * n, "I")
@@ -147,10 +148,10 @@ def judge_cover(w, k, log, sets, slots):
             refuse(9, f"uncovered slot {slot}")
 
 
-def fault_of(data, cover):
+def fault_of(data, cover, limits=WIDE):
     """None where the bytes are an image's text (and it is covered), else the fault."""
     try:
-        w, k, n, regions, named, log, sets, used, current = read(data)
+        w, k, n, regions, named, log, sets, used, current = read(data, limits)
         for r, (kind, _, _) in enumerate(regions):
             if kind > 3:
                 refuse(5, f"kind of region {r}")
@@ -182,8 +183,14 @@ def graph(data):
     are found, and of each such object its size, its slots as such numbers, and its data words. A null is None."""
     w, _, _, regions, named, _, _, used, _ = read(data)
     shapes = {at + 1: (size, refs) for at, size, refs in objects(w, regions, used)}
-    words = {r * w + i: word for r, part in enumerate(used) for i, word in enumerate(part)}
     numbers, found = {}, []
+
+    def part(start, end):
+        """The words from one address to another, of one object: in a run they lie end to end."""
+        words, first = [], start // w
+        for r in range(first, (end - 1) // w + 1 if end > start else first):
+            words += used[r][max(start - r * w, 0):end - r * w]
+        return words
 
     def number(word):
         if word and word not in numbers:
@@ -194,8 +201,8 @@ def graph(data):
     roots, told = [number(word) for word in named], []
     for word in found:
         size, refs = shapes[word]
-        slots = [number(words[p]) for p in range(word, word + refs)]
-        told.append((size, slots, [words[p] for p in range(word + refs, word - 1 + size)]))
+        slots = [number(target) for target in part(word, word + refs)]
+        told.append((size, slots, part(word + refs, word - 1 + size)))
     return roots, told
 
 

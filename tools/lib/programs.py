@@ -5,9 +5,10 @@ import pathlib
 import re
 import shutil
 
+from heap_image import MOST_REGIONS
+
 TOP = pathlib.Path(__file__).resolve().parent.parent.parent
 OUT = TOP / "out"
-MOST_REGIONS = 4096
 IN_RELEASE = ("share", "doc", "g1pause")  # where a release has these scripts
 BUILD = "tools/build.py --unproved builds out/g1pause and out/g1heap"
 BUILD_DRIVER = "rt run in crates/g1_rows builds crates/g1_rows/out/g1_rows, and so does .ci/run"

@@ -458,9 +458,69 @@ PROFILES = (mixed, chains, trees, wide, run_borders, full_regions, nothing_free,
             many_survivors, equal_objects, unnamed_runs, ends_of_the_heap, crowded_cards, data_like_references)
 
 
-def drawn(rng, covered=False):
-    """A small image, mostly by `mixed`. Unless it has to be covered, cards are taken away and others are added."""
-    image = (mixed if rng.random() < 0.5 else rng.choice(PROFILES))(rng)
+def draw_large(rng, image, region, size, slots):
+    """An object of many words, all of them 0, behind the others of an ordinary region."""
+    at = add(rng, image, region, 1, 0)
+    image.tops[region] += size - 1
+    image.words[at] = size << 32 | slots
+
+
+def draw_large_run(rng, image, region, size, slots):
+    """A humongous object, whose words are 0. The number of its regions."""
+    width = image.region_words
+    tops = [min(width, size - at) for at in range(0, size, width)]
+    image.kinds[region:region + len(tops)] = [FIRST] + [CONTINUATION] * (len(tops) - 1)
+    image.tops[region:region + len(tops)] = tops
+    image.words[region * width] = size << 32 | slots
+    return len(tops)
+
+
+def draw_large_region(rng, image, region):
+    """Large objects with small ones behind them, so that these lie behind the word 65,536, some up to the last word."""
+    if rng.random() < 0.8:
+        draw_large(rng, image, region, rng.choice((65_530, largest(image) - 3)), rng.choice((0, 3, 3, 65_500)))
+    place_ordinary(rng, image, region, SMALL, 0.1)
+    while rng.random() < 0.5 and (left := image.region_words - image.tops[region] - 20) > 0:
+        draw_large(rng, image, region, min(largest(image), left), 1)
+    if image.region_words - image.tops[region] < 100:
+        fill_up(rng, image, region)
+
+
+def large_regions(rng):
+    """Regions of 131,072 words and more, which g1heap alone takes: addresses, tops, sizes and slots behind 65,536. Most are
+    free or filled by one object. (It is none of PROFILES, since such a heap takes megabytes.)"""
+    image, region = Image(rng.choice((1 << 17, 1 << 17, 1 << 18)), rng.choice((16, 64)), rng.randint(5, 8)), 0
+    while region < image.regions - 2:
+        chance = rng.random()
+        size = rng.randint(largest(image) + 1, 2 * image.region_words)
+        if chance < 0.25:
+            region += draw_large_run(rng, image, region, size, rng.choice((2, 2, 70_000, size - 1)))
+        elif chance < 0.75:
+            draw_large_region(rng, image, region)
+            region += 1
+        else:
+            region += 1
+    return finish_large(rng, image)
+
+
+def finish_large(rng, image):
+    """References from a few slots of each object, those at both ends and those at 65,536 among them."""
+    targets = list(image.objects())
+    for address in targets:
+        slots, data = image.slots(address), image.content(address)
+        ends = {*slots[:2], *slots[-2:], *slots[65_534:65_537], *(slots[at] for at in range(0, len(slots), image.region_words))}
+        for slot in sorted(ends):
+            image.words[slot] = NULL if rng.random() < 0.3 else rng.choice(targets) + 1
+        for place in {*data[:1], *data[-1:]}:
+            image.words[place] = rng.choice((1, rng.getrandbits(64)))
+    draw_roots(rng, image)
+    return finish(rng, image)
+
+
+def drawn(rng, covered=False, profile=None):
+    """A small image, mostly by `mixed`, or one of a profile. Unless it has to be covered, cards are taken away and others are
+    added."""
+    image = profile(rng) if profile else (mixed if rng.random() < 0.5 else rng.choice(PROFILES))(rng)
     if not covered:
         disturb(rng, image)
     return image

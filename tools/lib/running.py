@@ -14,7 +14,7 @@ import subprocess
 import threading
 import time
 
-MOST_BYTES = 1 << 26  # of a file that is written: an image of 128 MiB is the largest, and ours are far smaller
+MOST_BYTES = 1 << 26  # of a file that is written: an image may be far larger, and ours are far smaller
 LONGEST_REPLY = 4096
 
 

@@ -1,15 +1,16 @@
 //! What is answered in text.
 use crate::question::Question;
-use g1_image::{FromReader, Image, read_by};
+use g1_image::{FromReader, Image, read_by_within};
 use g1_pause::Settings;
 use g1_rem::{Tracked, verify_by};
 use g1_tables::{candidates, live_lines, table};
-use g1_words::Fault;
+use g1_words::{Fault, Limits};
 use std::alloc::Global;
 use std::io::Read;
 use std::thread::Threads;
 
-/// The lines that answer a question of the image that a reader gives, which is read to its end.
+/// The lines that answer a question of the image that a reader gives, which is within these limits and is read to
+/// its end.
 ///
 /// # Errors
 ///
@@ -18,11 +19,12 @@ use std::thread::Threads;
 pub fn answer<T: Threads + Sync, R: Read>(
     rt: &T,
     alloc: Global,
+    limits: Limits,
     question: Question,
     reader: &mut R,
 ) -> Result<Vec<u8>, Fault> {
     let settings = question.settings()?;
-    let image = read_image(rt, alloc, &settings, reader)?;
+    let image = read_image(rt, alloc, limits, &settings, reader)?;
     match question {
         Question::Regions(_) => table(rt, alloc, &settings, &image),
         Question::Live(_) => live_lines(rt, alloc, &settings, image.heap()),
@@ -40,10 +42,12 @@ pub fn answer<T: Threads + Sync, R: Read>(
 pub(crate) fn read_image<T: Threads + Sync, R: Read>(
     rt: &T,
     alloc: Global,
+    limits: Limits,
     settings: &Settings,
     reader: &mut R,
 ) -> Result<Image, Fault> {
-    read_by(rt, alloc, &mut FromReader::new(reader), settings.workers())
+    let mut source = FromReader::new(reader);
+    read_by_within(rt, alloc, limits, &mut source, settings.workers())
 }
 
 // The image, if it is covered.

@@ -1,7 +1,7 @@
 //! What is in front of the regions: the magic, the heading, and how many bytes there are.
 use crate::rule::{Broken, Look, Part};
 use g1_image::{Entry, Front, Heading, MAGIC, TextParts, Version};
-use g1_words::{Geometry, MOST_ROOTS};
+use g1_words::{Geometry, Limits, MOST_ROOTS};
 
 /// What files of other kinds begin with.
 const BEGINNINGS: [(&[u8], Look); 8] = [
@@ -63,9 +63,9 @@ fn look_of_heading(numbers: &[u8]) -> Look {
     }
 }
 
-/// The number of a heading that is out of its range.
-pub(crate) fn broken_heading(heading: &Heading) -> Option<Broken> {
-    broken_sizes(heading).or(broken_counts(heading))
+/// The number of a heading that is out of its range within these limits.
+pub(crate) fn broken_heading(limits: Limits, heading: &Heading) -> Option<Broken> {
+    broken_sizes(limits, heading).or(broken_counts(heading))
 }
 
 // Sizes with which any good one goes together.
@@ -73,38 +73,40 @@ const SMALLEST_REGION: u64 = 16;
 
 const SMALLEST_CARD: u64 = 4;
 
-const LARGEST_REGION: u64 = 65_536;
-
-fn are_sizes(w: u64, k: u64, n: u64) -> bool {
-    Geometry::new(w, k, n).is_ok()
+fn are_sizes(limits: Limits, w: u64, k: u64, n: u64) -> bool {
+    Geometry::within(limits, w, k, n).is_ok()
 }
 
-fn broken_sizes(heading: &Heading) -> Option<Broken> {
+fn broken_sizes(limits: Limits, heading: &Heading) -> Option<Broken> {
     let (w, k, n) = (
         u64::from(heading.w),
         u64::from(heading.k),
         u64::from(heading.n),
     );
-    if !are_sizes(w, SMALLEST_CARD, 1) {
-        return Some(Broken::RegionWords(heading.w));
+    if !are_sizes(limits, w, SMALLEST_CARD, 1) {
+        return Some(Broken::RegionWords {
+            words: heading.w,
+            most: limits.region_words(),
+        });
     }
-    if !are_sizes(LARGEST_REGION, k, 1) {
+    if !are_sizes(limits, limits.region_words(), k, 1) {
         return Some(Broken::CardWords(heading.k));
     }
-    if !are_sizes(w, k, 1) {
+    if !are_sizes(limits, w, k, 1) {
         return Some(Broken::CardBeyondRegion {
             card: heading.k,
             region: heading.w,
         });
     }
-    if !are_sizes(SMALLEST_REGION, SMALLEST_CARD, n) {
+    if !are_sizes(limits, SMALLEST_REGION, SMALLEST_CARD, n) {
         return Some(Broken::Regions(heading.n));
     }
-    if !are_sizes(w, k, n) {
+    if !are_sizes(limits, w, k, n) {
         return Some(Broken::Words {
             regions: heading.n,
             region_words: heading.w,
             words: w.saturating_mul(n),
+            most: limits.words(),
         });
     }
     None

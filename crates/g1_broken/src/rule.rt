@@ -8,8 +8,11 @@ use thiserror::Error;
 pub enum Broken {
     #[error("{0}")]
     Look(Look),
-    #[error("a region has {0} words: a power of two, 16 to 65536")]
-    RegionWords(u32),
+    #[error("a region has {words} words: a power of two, 16 to {most}")]
+    RegionWords {
+        words: u32,
+        most: u64,
+    },
     #[error("a card has {0} words: a power of two, 4 to 64")]
     CardWords(u32),
     #[error("a card has {card} words, and a region {region}: a card lies in one region")]
@@ -19,11 +22,12 @@ pub enum Broken {
     },
     #[error("the heap has {0} regions: 1 to 4096")]
     Regions(u32),
-    #[error("{regions} regions of {region_words} words have {words} words: at most 16777216")]
+    #[error("{regions} regions of {region_words} words have {words} words: at most {most}")]
     Words {
         regions: u32,
         region_words: u32,
         words: u64,
+        most: u64,
     },
     #[error("the heap has {0} roots: at most 65536")]
     Roots(u32),

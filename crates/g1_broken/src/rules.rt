@@ -7,27 +7,29 @@ use crate::shapes::broken_shape;
 use crate::sketch::Sketch;
 use crate::table::{broken_flags, broken_kind, known_regions};
 use g1_image::{Front, TextParts, parts_of};
-use g1_words::{Fault, Geometry, Place, Stand, Words};
+use g1_words::{Fault, Geometry, Limits, Place, Stand, Words};
 use std::alloc::{AllocError, Global};
 
-/// The rule of an image that bytes break, if it can be found from the fault that `decode` reports of them.
+/// The rule of an image that bytes break, if it can be found from the fault that `decode_within` reports of them
+/// within these limits.
 ///
 /// # Errors
 ///
 /// `AllocError` if a request for memory was refused.
 pub fn rule_of_bytes(
     alloc: Global,
+    limits: Limits,
     bytes: &[u8],
     fault: Fault,
 ) -> Result<Option<Broken>, AllocError> {
     if fault == Fault::Magic {
         return Ok(Some(Broken::Look(look_of(bytes))));
     }
-    let parts = parts_of(alloc, bytes)?;
+    let parts = parts_of(alloc, limits, bytes)?;
     match (&parts, fault) {
         (_, Fault::Short) => Ok(Some(broken_end(bytes, &parts))),
         (_, Fault::Trailing) => Ok(broken_trail(bytes, &parts)),
-        (TextParts::Heading(_, heading, _), Fault::Geometry) => Ok(broken_heading(heading)),
+        (TextParts::Heading(_, heading, _), Fault::Geometry) => Ok(broken_heading(limits, heading)),
         (TextParts::Whole(front, words), _) => rule_of_file(alloc, front, words, fault),
         _ => Ok(None),
     }
@@ -59,10 +61,11 @@ fn rule_of_file(
     }
 }
 
-/// The sizes of a file, if they are within the limits.
+/// The sizes of a file, if they are within the bounds.
 pub fn geometry_of(front: &Front) -> Option<Geometry> {
     let heading = front.heading;
-    Geometry::new(
+    Geometry::within(
+        Limits::Wide,
         u64::from(heading.w),
         u64::from(heading.k),
         u64::from(heading.n),

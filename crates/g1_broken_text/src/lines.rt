@@ -2,10 +2,10 @@
 use g1_broken::{Broken, Sketch, geometry_of, known_regions, rule_of_bytes};
 use g1_image::{Front, Heading, TextParts, parts_of};
 use g1_text::{push_log, push_object, push_remembered, push_root};
-use g1_words::{Fault, Kind, Object, Place, Region, Stand, Words};
+use g1_words::{Fault, Kind, Limits, Object, Place, Region, Stand, Words};
 use std::alloc::{AllocError, Global};
 
-/// The lines of bytes that are no image's because of this fault, as far as they can be read: those of `print`, and a
+/// The lines of bytes that are no image's within these limits because of this fault, as far as they can be read: those of `print`, and a
 /// line `broken` with the rule directly below the line that breaks it. None if no heading is there.
 ///
 /// # Errors
@@ -13,14 +13,15 @@ use std::alloc::{AllocError, Global};
 /// `AllocError` if a request for memory was refused.
 pub fn broken_lines(
     alloc: Global,
+    limits: Limits,
     bytes: &[u8],
     fault: Fault,
 ) -> Result<Option<String>, AllocError> {
-    let Some(rule) = rule_of_bytes(alloc, bytes, fault)? else {
+    let Some(rule) = rule_of_bytes(alloc, limits, bytes, fault)? else {
         return Ok(None);
     };
     let mut text = String::new(alloc);
-    match parts_of(alloc, bytes)? {
+    match parts_of(alloc, limits, bytes)? {
         TextParts::Unknown(_) => return Ok(None),
         TextParts::Heading(_, heading, _) => {
             push_heading(&mut text, &heading)?;

@@ -1,4 +1,5 @@
-ghost use Rattle.std.specs.Prelude.{◌<◌, ◌≤◌, ◌^◌};
+ghost use Rattle.std.specs.Prelude.{◌<◌, ◌≤◌, ◌*◌, ◌^◌};
+ghost use Rattle.g1_words.specs.Geometry.{most_region_words};
 
 use std::cmp::Ordering;
 
@@ -11,7 +12,7 @@ pub struct Candidate {
     // With these bounds the products that two candidates are compared by have 128 bits.
     pub ghost cost_fits: { cost < 2 ^ 97 },
     pub ghost some_garbage: { 0 < garbage },
-    pub ghost garbage_fits: { garbage ≤ 2 ^ 19 },
+    pub ghost garbage_fits: { garbage ≤ 8 * most_region_words },
 }
 
 impl Candidate {

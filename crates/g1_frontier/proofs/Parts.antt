@@ -11,7 +11,7 @@ use Rattle.std.proofs.lemmas.List.Kept.{AllPairs-from_increasing}
 use Rattle.std.proofs.Math.Pow.{pow-lt}
 use Rattle.std.proofs.lemmas.List.Elements.{All-take, All-drop}
 use native.Mathlib.Decide.{ℕ_discrete}
-use Rattle.g1_words.specs.Geometry.{IsWithinLimits, most_words}
+use Rattle.g1_words.specs.Geometry.{IsWithinBounds, most_words}
 use Rattle.g1_words.specs.Heap.{Heap}
 use Rattle.g1_words.specs.Lists.{has}
 use Rattle.g1_words.specs.Marks.{marks_of}
@@ -180,7 +180,7 @@ nothing h = record {
 -- ---- parts
 
 -- the words of four regions are a multiple of 64
-four_regions : (w k n : ℕ) → IsWithinLimits w k n → (m : ℕ) × (4 * w ≡ 64 * m)
+four_regions : (w k n : ℕ) → IsWithinBounds w k n → (m : ℕ) × (4 * w ≡ 64 * m)
 four_regions w k n l =
     let a : ℕ = l.w_power.0 in
     elim (cases_lt l.w_power.0 4) [
@@ -192,7 +192,7 @@ four_regions w k n l =
     ]
 
 -- so are those of four times as many
-whole_words : (w k n c : ℕ) → IsWithinLimits w k n → (m : ℕ) × (c * 4 * w ≡ 64 * m)
+whole_words : (w k n c : ℕ) → IsWithinBounds w k n → (m : ℕ) × (c * 4 * w ≡ 64 * m)
 whole_words w k n c l = let f = four_regions w k n l in (c * f.0, (let e : c * (4 * w) ≡ c * (64 * f.0) = ap (λ x. c * x) f.1 in omega (arith, e)))
 
 -- regions that follow one another in a window rise

@@ -6,18 +6,20 @@ use Rattle.std.proofs.lemmas.List.{length-map}
 use Rattle.std.proofs.lemmas.Grind.{get_or_default_zero}
 use Rattle.g1_words.specs.Heap.{Heap}
 use Rattle.g1_words.specs.Valid.{IsShaped}
+use Rattle.g1_words.proofs.Accepted.{in_bounds}
 use Rattle.g1_words.specs.declared.fault.Fault.{Fault}
 use Rattle.g1_words.specs.declared.fault.Fault.TheVariants as fault
 use Rattle.g1_words.specs.declared.fault.Place.TheVariants as place
 use Rattle.g1_words.specs.declared.fault.Stand.{Stand}
 use Rattle.g1_words.specs.declared.fault.Stand.TheVariants as stand
+use Rattle.g1_words.specs.declared.limits.Limits.{Limits}
 use Rattle.g1_image.specs.declared.cursor.Heading.{Heading}
 use Rattle.g1_image.specs.Text.{File, Entry, Version, file_text, words_of, table_words}
 use Rattle.g1_image.specs.Reading.{IsBytes}
-use Rattle.g1_image.specs.Image.{Image, IsTextOf, heap_of, all_words, region_of_entry}
+use Rattle.g1_image.specs.Image.{Image, IsTextWithin, heap_of, all_words, region_of_entry}
 use Rattle.g1_image.specs.Draft.{IsDraft}
 use Rattle.g1_image.specs.Plain.{plain_file, PlainIs}
-use Rattle.g1_image.specs.Faults.{FileFits, FileFault, FaultOf, AreKnown, TableFault, IsGoodHeap, HeapFault, CardFault}
+use Rattle.g1_image.specs.Faults.{FileFits, FileFault, FaultWithin, AreKnown, TableFault, IsGoodHeap, HeapFault, CardFault}
 use Rattle.g1_image.specs.Faults.{entry, IsKnownKind, HasKnownFlags, IsGoodRoot, IsGoodSlot, IsGoodLogged, LogIsGood, IsGoodSet, SetsAreGood}
 use Rattle.g1_image.proofs.Drafts.{length-laid, bounded_laid}
 use Rattle.g1_image.proofs.Assembled.{is_image, can_tell, file_again}
@@ -69,9 +71,9 @@ told_cards h log sets = elim (first_breach (IsGoodLogged h log) (decided_logged 
 ]
 
 -- a file keeps the rules of every stage, or has a fault
-judged : (f : File) → FileFits f → IsGoodFile f ⊎ ((e : Fault) × FileFault f e)
-judged f fits =
-    let wide : 0 < f.w = omega (arith, fits.limits.sizes.w_least) in
+judged : {limits : Limits} (f : File) → FileFits limits f → IsGoodFile f ⊎ ((e : Fault) × FileFault f e)
+judged {limits = limits} f fits =
+    let wide : 0 < f.w = omega (arith, (in_bounds limits f.w f.k f.n fits.good.sizes).w_least) in
     elim (told_table f.table f.n) [
       | inr x ↦ inr (x.0, of_table f x.0 x.1)
       | inl known ↦ elim (told_heap (heap_of f) wide) [
@@ -93,12 +95,12 @@ current_in c n = by (nat_lt c n) refl where
     | inr ge ↦ (let clash : true ≡ false = sym e ∙ le-ltb c n ge in cc)
   ]
 
-module _ (bytes : List ℕ) (v : Version) (h : Heading) (table : List Entry) (roots log : List ℕ) (remembered : List (List ℕ)) (words : List ℕ)
-    (p : PlainIs bytes v h table roots log remembered words) where
+module _ (limits : Limits) (bytes : List ℕ) (v : Version) (h : Heading) (table : List Entry) (roots log : List ℕ) (remembered : List (List ℕ)) (words : List ℕ)
+    (p : PlainIs limits bytes v h table roots log remembered words) where
   -- the heap of a whole file, its regions and references aside
   draft : IsDraft (heap_of (plain_file v h table roots log remembered words))
   draft = record {
-    limits = p.good.sizes;
+    limits = in_bounds limits h.w h.k h.n p.good.sizes;
     word_count = length-laid h.w table words ∙ ap (λ n. n * h.w) p.fits.table.how_many;
     word_fits = λ i d lt. rw (get_or_default_zero (all_words h.w table (words_of (table_words table) words)) i d lt) (bounded_laid h.w table words p.are_bytes i);
     region_count = length-map table region_of_entry ∙ p.fits.table.how_many;
@@ -107,18 +109,20 @@ module _ (bytes : List ℕ) (v : Version) (h : Heading) (table : List Entry) (ro
   }
 
   -- the image of a file that keeps all rules
-  image_of : IsGoodFile (plain_file v h table roots log remembered words) → (i : Image) × IsTextOf bytes i
+  image_of : IsGoodFile (plain_file v h table roots log remembered words) → (i : Image) × IsTextWithin limits bytes i
   image_of g =
       let f : File = plain_file v h table roots log remembered words in
-      let i : Image = record { heap = heap_of f; remembered = remembered; log = log } in
-      (i, (v, (is_image f p.fits draft g.heap g.known g.log g.remembered, can_tell f p.fits, p.text ∙ ap file_text (sym (file_again f p.fits g.heap.shaped g.known)))))
+      let i : Image = record { heap = heap_of f; remembered = remembered; log = log } in (
+        i,
+        (v, (is_image f p.fits draft g.heap g.known g.log g.remembered, can_tell f p.fits, p.text ∙ ap file_text (sym (file_again _ f p.fits g.heap.shaped g.known))), p.good.sizes),
+      )
 
   -- a whole file is an image's, or its bytes have a fault
-  told_plain : ((i : Image) × IsTextOf bytes i) ⊎ AnyFault bytes
+  told_plain : ((i : Image) × IsTextWithin limits bytes i) ⊎ AnyFault limits bytes
   told_plain =
       let f : File = plain_file v h table roots log remembered words in
       elim (judged f p.fits) [ inl g ↦ inl (image_of g) | inr x ↦ inr (x.0, file_fault bytes f x.0 p.fits p.text x.1) ]
 
 -- bytes are an image's text or have a fault
-pub always_one : (bytes : List ℕ) → IsBytes bytes → ((i : Image) × IsTextOf bytes i) ⊎ ((e : Fault) × FaultOf bytes e)
-always_one bytes b = elim (told_file bytes b) [ inr e ↦ inr e | inl p ↦ told_plain bytes p.0 p.1 p.2 p.3 p.4 p.5 p.6 p.7 ]
+pub always_one : (limits : Limits) (bytes : List ℕ) → IsBytes bytes → ((i : Image) × IsTextWithin limits bytes i) ⊎ ((e : Fault) × FaultWithin limits bytes e)
+always_one limits bytes b = elim (told_file limits bytes b) [ inr e ↦ inr e | inl p ↦ told_plain _ bytes p.0 p.1 p.2 p.3 p.4 p.5 p.6 p.7 ]

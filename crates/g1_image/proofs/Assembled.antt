@@ -14,30 +14,31 @@ use Rattle.g1_words.specs.declared.region.Kind.TheVariants.{Free, Ordinary, Humo
 use Rattle.g1_words.specs.declared.fault.Fault.{Fault}
 use Rattle.g1_words.specs.declared.fault.Fault.TheVariants as fault
 use Rattle.g1_words.specs.declared.fault.Stand.{Stand}
+use Rattle.g1_words.specs.declared.limits.Limits.{Limits}
 use Rattle.g1_image.specs.declared.cursor.Version.TheVariants.{One, Two}
 use Rattle.g1_image.specs.Text.{File, Entry, Version, file_text, table_words}
 use Rattle.g1_words.specs.Kind.{kind_of, kind_number}
 use Rattle.g1_image.specs.Image.{IsImage, CanTell, IsLog, IsUsedCard, flags_of, all_words, used_words, heap_of, file_of, region_of_entry, entry_of}
-use Rattle.g1_image.specs.Faults.{FileFits, EntryFits, MayFail, entry, IsKnownKind, HasKnownFlags, AreKnown, TableFault, IsGoodHeap, HeapFault, LogIsGood, SetsAreGood, CardFault}
+use Rattle.g1_image.specs.Faults.{FileFits, EntryFits, MayFailWithin, entry, IsKnownKind, HasKnownFlags, AreKnown, TableFault, IsGoodHeap, HeapFault, LogIsGood, SetsAreGood, CardFault}
 use Rattle.g1_image.proofs.Stages.{of_table, of_heap, file_fault}
 use Rattle.g1_image.specs.Draft.{IsDraft}
 use Rattle.g1_image.proofs.Words.{table_words-cons}
 
 -- the fault of a whole file's table is the bytes'
-pub table_fault : (bytes : List ℕ) (f : File) (e : Fault) → FileFits f → bytes ≡ file_text f → TableFault f.table f.n e → MayFail bytes e
+pub table_fault : {limits : Limits} (bytes : List ℕ) (f : File) (e : Fault) → FileFits limits f → bytes ≡ file_text f → TableFault f.table f.n e → MayFailWithin limits bytes e
 table_fault bytes f e fits text x = inr (file_fault bytes f e fits text (of_table f e x))
 
 -- the fault of its heap is
-pub heap_fault : (bytes : List ℕ) (f : File) (e : Fault) → FileFits f → bytes ≡ file_text f → AreKnown f.table f.n → HeapFault (heap_of f) e → MayFail bytes e
+pub heap_fault : {limits : Limits} (bytes : List ℕ) (f : File) (e : Fault) → FileFits limits f → bytes ≡ file_text f → AreKnown f.table f.n → HeapFault (heap_of f) e → MayFailWithin limits bytes e
 heap_fault bytes f e fits text known x = inr (file_fault bytes f e fits text (of_heap f e known x))
 
 -- and so is that of its cards, if the heap, the log and the remembered sets that were checked are its own
-pub card_fault : (bytes : List ℕ) (f : File) (h : Heap) (log : List ℕ) (sets : List (List ℕ)) (e : Fault) (s : Stand) → FileFits f → bytes ≡ file_text f → AreKnown f.table f.n →
-    h ≡ heap_of f → log ≡ f.log → sets ≡ f.remembered → IsGoodHeap h → e ≡ fault.Card s → CardFault h log sets s → MayFail bytes e
-card_fault bytes f h log sets e s fits text known same logs own g is x =
+pub card_fault : {limits : Limits} (bytes : List ℕ) (f : File) (h : Heap) (log : List ℕ) (sets : List (List ℕ)) (e : Fault) (s : Stand) → FileFits limits f → bytes ≡ file_text f → AreKnown f.table f.n →
+    h ≡ heap_of f → log ≡ f.log → sets ≡ f.remembered → IsGoodHeap h → e ≡ fault.Card s → CardFault h log sets s → MayFailWithin limits bytes e
+card_fault {limits = limits} bytes f h log sets e s fits text known same logs own g is x =
     let first : CardFault (heap_of f) f.log f.remembered s = subst (λ l. CardFault (heap_of f) f.log l s) own
     (subst (λ l. CardFault (heap_of f) l sets s) logs (subst (λ y. CardFault y log sets s) same x)) in
-    subst (MayFail bytes) (sym is) (inr (f, fits, text, (known, subst IsGoodHeap same g, first)))
+    subst (MayFailWithin limits bytes) (sym is) (inr (f, fits, text, (known, subst IsGoodHeap same g, first)))
 
 -- the log of a file is good if the one that was checked is its own
 pub logs_good : (f : File) (h : Heap) (log : List ℕ) → h ≡ heap_of f → log ≡ f.log → LogIsGood h log → LogIsGood (heap_of f) f.log
@@ -183,7 +184,7 @@ valid_heap h d g pins zeros = record {
   current_in = d.current_in;
 }
 
-module _ (f : File) (fits : FileFits f) (shaped : AllShaped (heap_of f)) where
+module _ (limits : Limits) (f : File) (fits : FileFits limits f) (shaped : AllShaped (heap_of f)) where
   tops : (q : ℕ) → q < length f.table → (slice_index_or f.table q (record { kind = 0; top = 0; flags = 0 })).top ≤ f.w
   tops q lt =
       let s = shaped q (omega (arith, lt, fits.table.how_many)) in
@@ -208,7 +209,7 @@ module _ (f : File) (fits : FileFits f) (shaped : AllShaped (heap_of f)) where
     w = f.w;
     k = f.k;
     n = f.n;
-    current = current_again f.current f.n fits.limits.current t;
+    current = current_again f.current f.n fits.good.current t;
     table = table_again f.table (λ r lt. known.kinds r (omega (arith, lt, fits.table.how_many))) (λ r lt. known.flags r (omega (arith, lt, fits.table.how_many))) t;
     roots = f.roots;
     log = f.log;
@@ -229,7 +230,7 @@ pins_known f known r lt = λ t.
     ap (λ (q : Region). q.kind) (region_is f.table r) ∙ pin_ordinary f.table r (known.flags r lt) (sym (ap (λ (q : Region). q.pinned) (region_is f.table r)) ∙ t)
 
 -- the version of a file can tell what is pinned
-pub can_tell : (f : File) → FileFits f → CanTell f.version (heap_of f)
+pub can_tell : {limits : Limits} (f : File) → FileFits limits f → CanTell f.version (heap_of f)
 can_tell f fits = by f.version fits.table.each where
   by : (v : Version) → ((k : ℕ) (d : Entry) → k < length f.table → EntryFits v (slice_index_or f.table k d)) → CanTell v (heap_of f)
   by One each = λ k d lt.
@@ -238,24 +239,24 @@ can_tell f fits = by f.version fits.table.each where
       subst (λ (q : Region). IsFalse q.pinned) (sym (get_or-map region_of_entry f.table k none d within)) (ap (λ x. x == 1) (each k none within).2)
   by Two each = tt
 
-pub is_image : (f : File) → FileFits f → IsDraft (heap_of f) → IsGoodHeap (heap_of f) → AreKnown f.table f.n → LogIsGood (heap_of f) f.log → SetsAreGood (heap_of f) f.remembered →
+pub is_image : {limits : Limits} (f : File) → FileFits limits f → IsDraft (heap_of f) → IsGoodHeap (heap_of f) → AreKnown f.table f.n → LogIsGood (heap_of f) f.log → SetsAreGood (heap_of f) f.remembered →
     IsImage (record { heap = heap_of f; remembered = f.remembered; log = f.log })
 is_image f fits d g known logged remembered = record {
-  heap = valid_heap (heap_of f) d g (pins_known f known) (zeros f fits g.shaped);
+  heap = valid_heap (heap_of f) d g (pins_known f known) (zeros _ f fits g.shaped);
   one_each = fits.remembered.how_many;
   remembered = remembered;
   log = is_log (heap_of f) f.log fits.heading.dirty logged;
 }
 
 -- an image made of the heap, the remembered sets and the log of a file that keeps all rules
-pub made_image : (f : File) (h : Heap) (remembered : List (List ℕ)) (log : List ℕ) → FileFits f → IsDraft h → h ≡ heap_of f → remembered ≡ f.remembered → log ≡ f.log →
+pub made_image : {limits : Limits} (f : File) (h : Heap) (remembered : List (List ℕ)) (log : List ℕ) → FileFits limits f → IsDraft h → h ≡ heap_of f → remembered ≡ f.remembered → log ≡ f.log →
     IsGoodHeap (heap_of f) → AreKnown f.table f.n → LogIsGood (heap_of f) f.log → SetsAreGood (heap_of f) f.remembered → IsImage (record { heap = h; remembered = remembered; log = log })
 made_image f h remembered log fits d same own logs good known logged sets =
     subst (λ l. IsImage (record { heap = h; remembered = remembered; log = l })) (sym logs)
     (subst (λ l. IsImage (record { heap = h; remembered = l; log = f.log })) (sym own)
     (subst (λ x. IsImage (record { heap = x; remembered = f.remembered; log = f.log })) (sym same) (is_image f fits (subst IsDraft same d) good known logged sets)))
 
-pub made_text : (f : File) (h : Heap) (remembered : List (List ℕ)) (log : List ℕ) → FileFits f → h ≡ heap_of f → remembered ≡ f.remembered → log ≡ f.log →
+pub made_text : {limits : Limits} (f : File) (h : Heap) (remembered : List (List ℕ)) (log : List ℕ) → FileFits limits f → h ≡ heap_of f → remembered ≡ f.remembered → log ≡ f.log →
     IsGoodHeap (heap_of f) → AreKnown f.table f.n → file_text f ≡ file_text (file_of f.version (record { heap = h; remembered = remembered; log = log }))
 made_text f h remembered log fits same own logs good known =
-    ap file_text (sym ((λ t. file_of f.version (record { heap = same t; remembered = own t; log = logs t })) ∙ file_again f fits good.shaped known))
+    ap file_text (sym ((λ t. file_of f.version (record { heap = same t; remembered = own t; log = logs t })) ∙ file_again _ f fits good.shaped known))

@@ -8,10 +8,10 @@ use Rattle.std.proofs.lemmas.List.{get_or_default}
 use Rattle.std.proofs.lemmas.Map.Made.{IsDistinct-from_AllPairs}
 use Rattle.std.proofs.lemmas.Map.Steps.{length-le_from_distinct_below}
 use Rattle.std.proofs.Math.Nat.{mul-le-mul_left}
-use Rattle.g1_words.specs.Geometry.{IsWithinLimits}
+use Rattle.g1_words.specs.Geometry.{IsWithinBounds}
 use Rattle.g1_words.specs.Heap.{Heap}
 use Rattle.g1_words.specs.Lists.{has}
-use Rattle.g1_words.proofs.Members.{In, In-from_contains, Contains-from_in, In-append_left, In-append_right, In-append_cases, has_from_in, in_from_has}
+use Rattle.g1_words.proofs.Members.{In, In-from_contains, Contains-from_in, In-append_right, In-append_cases, has_from_in, in_from_has}
 use Rattle.g1_words.proofs.Ordered.{Ordered, Ordered-from_pairs, pairs_from_ordered}
 use Rattle.g1_words.proofs.Rising.{Ordered-append}
 use Rattle.g1_image.specs.Image.{IsUsedCard, IsLog}
@@ -52,7 +52,7 @@ all_in P xs all x m = let c = Contains-from_in xs x m in subst P c.2 (all c.0 x 
 in_all : (P : ℕ → Type 0) (xs : List ℕ) → ((x : ℕ) → In xs x → P x) → All P xs
 in_all P xs f k d lt = f (get_or xs k d) (In-from_contains xs (get_or xs k d) (k, lt, get_or_default xs k (get_or xs k d) d lt))
 
-module _ (h : Heap) (limits : IsWithinLimits h.geometry.w h.geometry.k h.geometry.n) where
+module _ (h : Heap) (limits : IsWithinBounds h.geometry.w h.geometry.k h.geometry.n) where
   -- distinct cards of a heap are few
   few : (cards : List ℕ) → All (IsUsedCard h) cards → AllPairs (λ c d. c ≢ d) cards → length cards < 2 ^ 32
   few cards used distinct =

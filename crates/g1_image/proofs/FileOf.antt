@@ -7,18 +7,20 @@ use Rattle.std.proofs.lemmas.Grind.{get_or_default_zero}
 use Rattle.std.proofs.lemmas.Bool.{cases_lt, lt-ltb, le-ltb}
 use Rattle.std.proofs.Math.Nat.{mul-le-mul_left}
 use Rattle.std.proofs.Math.Seq.{drop-append_seam, take-append_seam}
+use Rattle.g1_words.specs.Geometry.{IsWithin}
 use Rattle.g1_words.specs.Heap.{Heap, free_region, region, pinned}
 use Rattle.g1_words.specs.Valid.{IsValid, IsReference}
 use Rattle.g1_words.specs.declared.region.Region.{Region}
 use Rattle.g1_words.specs.declared.region.Kind.{Kind}
 use Rattle.g1_words.specs.declared.region.Kind.TheVariants.{Free, Ordinary, HumongousFirst, Continuation}
 use Rattle.g1_words.proofs.Objects.{object_stands, stands_within, region_in_words, tops_fit}
+use Rattle.g1_words.specs.declared.limits.Limits.{Limits}
 use Rattle.g1_image.specs.Text.{Entry, Version, file_text, table_words}
 use Rattle.g1_image.specs.declared.cursor.Version.TheVariants.{One, Two}
 use Rattle.g1_image.specs.Reading.{IsU32, IsU64}
 use Rattle.g1_image.specs.Faults.{FlagsFit, EntryFits, RememberedFits, FileFits}
 use Rattle.g1_words.specs.Kind.{kind_number, kind_of}
-use Rattle.g1_image.specs.Image.{Image, IsImage, CanTell, IsTextIn, IsTextOf, IsUsedCard, region_of_card, remembered_of, flags_of, entry_of, region_of_entry, used_words, all_words, file_of, heap_of}
+use Rattle.g1_image.specs.Image.{Image, IsImage, CanTell, IsTextIn, IsTextWithin, IsUsedCard, region_of_card, remembered_of, flags_of, entry_of, region_of_entry, used_words, all_words, file_of, heap_of}
 use Rattle.g1_image.proofs.Words.{table_words-cons}
 use Rattle.g1_image.proofs.OneFile.{one_file}
 use Rattle.g1_image.proofs.Drafts.{Bounded, bounded_append, bounded_take}
@@ -165,8 +167,8 @@ current_fits n None lt = omega arith
 current_fits n (Some r) lt = omega (arith, lt)
 
 -- every number of an image's file has the bits that its text gives it
-pub file_fits : (v : Version) (i : Image) → IsImage i → CanTell v i.heap → FileFits (file_of v i)
-file_fits v i image tells =
+pub file_fits : (limits : Limits) (v : Version) (i : Image) → IsImage i → CanTell v i.heap → IsWithin limits i.heap.geometry.w i.heap.geometry.k i.heap.geometry.n → FileFits limits (file_of v i)
+file_fits limits v i image tells within =
     let valid : IsValid i.heap = image.heap in
     let tops : All (λ q. q.top ≤ i.heap.geometry.w) i.heap.regions = tops_fit i.heap valid in
     let size : length i.heap.words ≡ length i.heap.regions * i.heap.geometry.w = valid.word_count ∙ ap (λ n. n * i.heap.geometry.w) (sym valid.region_count) in
@@ -196,7 +198,7 @@ file_fits v i image tells =
         dirty = image.log.count;
         current = omega (arith, current, valid.limits.n_most);
       };
-      limits = record { sizes = valid.limits; roots = valid.root_count; current = current };
+      good = record { sizes = within; roots = valid.root_count; current = current };
       table = record { how_many = length-map i.heap.regions entry_of ∙ valid.region_count; each = entry_fits };
       roots = λ k d lt. reference_fits i.heap (slice_index_or i.heap.roots k d) valid (valid.roots k d lt);
       log = cards_fit i.heap (IsUsedCard i.heap) i.log valid image.log.used (λ c u. u);
@@ -215,9 +217,9 @@ file_fits v i image tells =
     }
 
 -- bytes are the text of one image at most
-pub one_image : (bytes : List ℕ) (i j : Image) → IsTextOf bytes i → IsTextOf bytes j → i ≡ j
-one_image bytes i j is it =
-    let file : file_of is.0 i ≡ file_of it.0 j = one_file bytes (file_of is.0 i) (file_of it.0 j) (file_fits is.0 i is.1.0 is.1.1) (file_fits it.0 j it.1.0 it.1.1) is.1.2 it.1.2 in
+pub one_image : (limits : Limits) (bytes : List ℕ) (i j : Image) → IsTextWithin limits bytes i → IsTextWithin limits bytes j → i ≡ j
+one_image limits bytes i j is it =
+    let file : file_of is.0 i ≡ file_of it.0 j = one_file bytes (file_of is.0 i) (file_of it.0 j) (file_fits limits is.0 i is.1.0 is.1.1 is.2) (file_fits limits it.0 j it.1.0 it.1.1 it.2) is.1.2 it.1.2 in
     let heap : i.heap ≡ j.heap = sym (heap_of_file is.0 i is.1.0) ∙ ap heap_of file ∙ heap_of_file it.0 j it.1.0 in
     λ t. record { heap = heap t; remembered = (file t).remembered; log = (file t).log }
 

@@ -9,10 +9,11 @@ use Rattle.g1_words.specs.declared.region.Kind.TheVariants.{Free, Ordinary, Humo
 use Rattle.g1_words.specs.declared.fault.Fault.{Fault}
 use Rattle.g1_words.specs.declared.fault.Stand.{Stand}
 use Rattle.g1_words.specs.declared.fault.Stand.TheVariants as stand
+use Rattle.g1_words.specs.declared.limits.Limits.{Limits}
 use Rattle.g1_image.specs.Text.{File, Version}
 use Rattle.g1_words.specs.Kind.{kind_number}
-use Rattle.g1_image.specs.Image.{Image, IsImage, IsLog, IsTextOf, heap_of, file_of, flags_of, entry_of}
-use Rattle.g1_image.specs.Faults.{FileFault, FaultOf, IsKnownKind, HasKnownFlags, AreKnown, IsGoodRoot, IsGoodSlot, IsGoodHeap, IsGoodLogged, LogIsGood, IsGoodSet, SetsAreGood, CardFault}
+use Rattle.g1_image.specs.Image.{Image, IsImage, IsLog, IsTextWithin, heap_of, file_of, flags_of, entry_of}
+use Rattle.g1_image.specs.Faults.{FileFault, FaultWithin, IsKnownKind, HasKnownFlags, AreKnown, IsGoodRoot, IsGoodSlot, IsGoodHeap, IsGoodLogged, LogIsGood, IsGoodSet, SetsAreGood, CardFault}
 use Rattle.g1_image.proofs.FileOf.{file_fits, heap_of_file}
 use Rattle.g1_image.proofs.Stages.{stage_of}
 use Rattle.g1_image.proofs.OneFault.{no_table_fault, no_heap_fault}
@@ -93,7 +94,7 @@ file_good v i g e = record {
 }
 
 -- an image's text has no fault
-pub no_fault : (bytes : List ℕ) (i : Image) (e : Fault) → IsTextOf bytes i → FaultOf bytes e → ⊥
-no_fault bytes i e t x =
+pub no_fault : (limits : Limits) (bytes : List ℕ) (i : Image) (e : Fault) → IsTextWithin limits bytes i → FaultWithin limits bytes e → ⊥
+no_fault limits bytes i e t x =
     let f : File = file_of t.0 i in
-    good_file f e (file_good t.0 i t.1.0 (heap_of_file t.0 i t.1.0)) (fault_of_whole bytes f e (file_fits t.0 i t.1.0 t.1.1) t.1.2 x)
+    good_file f e (file_good t.0 i t.1.0 (heap_of_file t.0 i t.1.0)) (fault_of_whole bytes f e (file_fits limits t.0 i t.1.0 t.1.1 t.2) t.1.2 x)

@@ -1,13 +1,14 @@
 -- No file's text begins another's.
 use Rattle.std.proofs.Common.{◌≡◌, ℕ, List, [], ◌++◌, refl, sym, ap, ◌∙◌, append_assoc}
 use Rattle.std.proofs.lemmas.List.{append-nil}
+use Rattle.g1_words.specs.declared.limits.Limits.{Limits}
 use Rattle.g1_image.specs.Text.{File, magic, heading_text, heading_of, file_text, table_text, words_text, numbers_text, remembered_texts, entry_text, remembered_text, table_words}
 use Rattle.g1_image.specs.Faults.{EntryFits, RememberedFits, FileFits}
 use Rattle.g1_image.proofs.PrefixFree.{IsPrefixFree, Are-free}
 use Rattle.g1_image.proofs.Parts.{magic_free, entry_free, set_free, heading_free}
 use Rattle.g1_image.proofs.Files.{numbers_free, words_free, are_table, are_roots, are_log, are_remembered, words_as}
 
-pub file_free : IsPrefixFree FileFits file_text
+pub file_free : {limits : Limits} → IsPrefixFree (FileFits limits) file_text
 file_free x y s t fx fy e =
     let flat : (f : File) (r : List ℕ) → file_text f ++ r ≡ magic f.version
     ++ (heading_text (heading_of f) ++ (table_text f.version f.table ++ (words_text f.roots ++ (numbers_text f.log ++ (remembered_texts f.remembered ++ (words_text f.words ++ r)))))) =
@@ -36,5 +37,5 @@ file_free x y s t fx fy e =
       k.1,
     )
 
-pub one_file : (bytes : List ℕ) (f g : File) → FileFits f → FileFits g → bytes ≡ file_text f → bytes ≡ file_text g → f ≡ g
+pub one_file : {limits : Limits} (bytes : List ℕ) (f g : File) → FileFits limits f → FileFits limits g → bytes ≡ file_text f → bytes ≡ file_text g → f ≡ g
 one_file bytes f g ff fg e d = (file_free f g [] [] ff fg (append-nil (file_text f) ∙ sym e ∙ d ∙ sym (append-nil (file_text g)))).0

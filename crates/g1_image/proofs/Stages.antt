@@ -3,9 +3,10 @@ use Rattle.std.proofs.Common.{◌≡◌, ◌⊎◌, ℕ, inl, inr, List, refl}
 use Rattle.g1_words.specs.declared.fault.Fault.{Fault}
 use Rattle.g1_words.specs.declared.fault.Fault.TheVariants as fault
 use Rattle.g1_words.specs.declared.fault.Stand.{Stand}
+use Rattle.g1_words.specs.declared.limits.Limits.{Limits}
 use Rattle.g1_image.specs.Text.{File, file_text}
 use Rattle.g1_image.specs.Image.{heap_of}
-use Rattle.g1_image.specs.Faults.{FileFits, FileFault, FaultOf, AreKnown, TableFault, IsGoodHeap, HeapFault, CardFault}
+use Rattle.g1_image.specs.Faults.{FileFits, FileFault, FaultWithin, AreKnown, TableFault, IsGoodHeap, HeapFault, CardFault}
 
 -- the fault of a whole file's cards
 abbrev pub OfCards : File → Fault → Type 0
@@ -37,7 +38,7 @@ of_heap f (fault.Reference p) known x = (known, x)
 of_heap f _ known x = absurd x
 
 -- the fault of a whole file is its bytes'
-pub file_fault : (bytes : List ℕ) (f : File) (e : Fault) → FileFits f → bytes ≡ file_text f → FileFault f e → FaultOf bytes e
+pub file_fault : {limits : Limits} (bytes : List ℕ) (f : File) (e : Fault) → FileFits limits f → bytes ≡ file_text f → FileFault f e → FaultWithin limits bytes e
 file_fault bytes f fault.Magic fits text x = absurd x
 file_fault bytes f fault.Short fits text x = absurd x
 file_fault bytes f fault.Geometry fits text x = absurd x

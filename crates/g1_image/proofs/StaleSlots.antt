@@ -1,10 +1,10 @@
 -- A walk over all words that finds the stale slots.
-use Rattle.std.proofs.Common.{◌≡◌, ◌≢◌, ◌≤◌, ◌<◌, ℕ, ◌+◌, ◌*◌, ◌^◌, ◌⊎◌, inl, inr, List, [], ◌∷◌, ◌++◌, length, slice_index, arith, refl, sym, ap, subst, ◌∙◌}
+use Rattle.std.proofs.Common.{◌≡◌, ◌≢◌, ◌≤◌, ◌<◌, ℕ, ◌+◌, ◌*◌, ◌^◌, inl, inr, List, [], ◌∷◌, ◌++◌, slice_index, arith, sym, ap, subst, ◌∙◌}
 use Rattle.std.proofs.lemmas.Bool.{cases_lt}
 use Rattle.g1_words.specs.Heap.{Heap}
 use Rattle.g1_words.specs.Valid.{HasObject, IsReference, IsSlotOf}
 use Rattle.g1_words.specs.declared.object.Object.{Object}
-use Rattle.g1_image.specs.Draft.{IsDraft, ShapedBelow}
+use Rattle.g1_image.specs.Draft.{ShapedBelow}
 use Rattle.g1_image.specs.Marks.{StartsAt}
 use Rattle.g1_image.specs.Stale.{IsStaleSlot, IsPut, Lists}
 use Rattle.g1_image.proofs.Rows.{apart, has_header}

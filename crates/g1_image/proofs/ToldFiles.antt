@@ -4,15 +4,17 @@ use Rattle.std.specs.Int.{IsPowerOfTwo}
 use Rattle.std.specs.Int.Count.{ones}
 use Rattle.std.proofs.lemmas.Bool.{cases_lt}
 use Rattle.byteorder.specs.Endian.{little_number}
-use Rattle.g1_words.specs.Geometry.{IsWithinLimits, most_card_words, most_region_words, most_regions, most_roots, most_words}
+use Rattle.g1_words.specs.Geometry.{IsWithin, IsWithinBounds, IsWithinLimits, most_card_words, most_region_words, most_regions, most_roots, most_words, specified_region_words, specified_words}
 use Rattle.g1_words.proofs.Powers.{power_of_ones, ones_of_power}
 use Rattle.g1_words.specs.declared.fault.Fault.{Fault}
 use Rattle.g1_words.specs.declared.fault.Fault.TheVariants as fault
+use Rattle.g1_words.specs.declared.limits.Limits.{Limits}
+use Rattle.g1_words.specs.declared.limits.Limits.TheVariants.{Specified, Wide}
 use Rattle.g1_image.specs.declared.cursor.Heading.{Heading}
 use Rattle.g1_image.specs.declared.cursor.Version.TheVariants.{One, Two}
 use Rattle.g1_image.specs.Text.{Entry, Version, u32, u64, magic, heading_text, table_text, words_text, numbers_text, remembered_texts, entry_text, remembered_text, table_words}
 use Rattle.g1_image.specs.Reading.{IsU64, IsBytes}
-use Rattle.g1_image.specs.Faults.{HeadingFits, IsGoodHeading, EntryFits, RememberedFits, FaultOf}
+use Rattle.g1_image.specs.Faults.{HeadingFits, IsGoodHeading, EntryFits, RememberedFits, FaultWithin}
 use Rattle.g1_image.specs.Plain.{PlainIs}
 use Rattle.g1_image.proofs.Numbers.{u32_read, u64_once}
 use Rattle.g1_image.proofs.Parts.{entry_free, set_free}
@@ -25,13 +27,13 @@ use Rattle.g1_image.proofs.ToldTexts.{told_u64, told_many, told_numbers, told_en
 decided_power : (n : ℕ) → Decided (IsPowerOfTwo n)
 decided_power n = decided_as (ones n ≡ 1) (IsPowerOfTwo n) (power_of_ones (n + 1) n (omega arith)) (λ p. ap ones p.1 ∙ ones_of_power p.0) (decided_eq (ones n) 1)
 
--- sizes within the limits
-pub decided_limits : (w k n : ℕ) → Decided (IsWithinLimits w k n)
-decided_limits w k n =
+-- sizes within the bounds
+decided_bounds : (w k n : ℕ) → Decided (IsWithinBounds w k n)
+decided_bounds w k n =
     let W : Type 0 = IsPowerOfTwo w × ((16 ≤ w) × (w ≤ most_region_words)) in
     let K : Type 0 = IsPowerOfTwo k × ((4 ≤ k) × ((k ≤ most_card_words) × (k ≤ w))) in
     let N : Type 0 = (1 ≤ n) × ((n ≤ most_regions) × (n * w ≤ most_words)) in
-    decided_as (W × (K × N)) (IsWithinLimits w k n)
+    decided_as (W × (K × N)) (IsWithinBounds w k n)
     (λ p. record {
       w_power = p.0.0;
       w_least = p.0.1.0;
@@ -53,13 +55,28 @@ decided_limits w k n =
     (decided_both (1 ≤ n) ((n ≤ most_regions) × (n * w ≤ most_words)) (decided_le 1 n)
     (decided_both (n ≤ most_regions) (n * w ≤ most_words) (decided_le n most_regions) (decided_le (n * w) most_words)))))
 
--- a heading within the limits
-decided_heading : (h : Heading) → Decided (IsGoodHeading h)
-decided_heading h =
-    decided_as (IsWithinLimits h.w h.k h.n × ((h.roots ≤ most_roots) × (h.current ≤ h.n))) (IsGoodHeading h)
+-- sizes within the limits of the specification
+pub decided_limits : (w k n : ℕ) → Decided (IsWithinLimits w k n)
+decided_limits w k n =
+    let P : Type 0 = (w ≤ specified_region_words) × (n * w ≤ specified_words) in
+    decided_as (IsWithinBounds w k n × P) (IsWithinLimits w k n)
+    (λ p. record { bounds = p.0; w_specified = p.1.0; words_specified = p.1.1 })
+    (λ l. (l.bounds, (l.w_specified, l.words_specified)))
+    (decided_both (IsWithinBounds w k n) P (decided_bounds w k n)
+    (decided_both (w ≤ specified_region_words) (n * w ≤ specified_words) (decided_le w specified_region_words) (decided_le (n * w) specified_words)))
+
+-- sizes within these limits
+decided_within : (limits : Limits) (w k n : ℕ) → Decided (IsWithin limits w k n)
+decided_within Specified w k n = decided_limits w k n
+decided_within Wide w k n = decided_bounds w k n
+
+-- a heading within these limits
+decided_heading : (limits : Limits) (h : Heading) → Decided (IsGoodHeading limits h)
+decided_heading limits h =
+    decided_as (IsWithin limits h.w h.k h.n × ((h.roots ≤ most_roots) × (h.current ≤ h.n))) (IsGoodHeading limits h)
     (λ p. record { sizes = p.0; roots = p.1.0; current = p.1.1 })
     (λ g. (g.sizes, (g.roots, g.current)))
-    (decided_both (IsWithinLimits h.w h.k h.n) ((h.roots ≤ most_roots) × (h.current ≤ h.n)) (decided_limits h.w h.k h.n)
+    (decided_both (IsWithin limits h.w h.k h.n) ((h.roots ≤ most_roots) × (h.current ≤ h.n)) (decided_within limits h.w h.k h.n)
     (decided_both (h.roots ≤ most_roots) (h.current ≤ h.n) (decided_le h.roots most_roots) (decided_le h.current h.n)))
 
 -- a number of 32 bits, and the bytes behind it
@@ -112,12 +129,12 @@ heading bytes b le =
     )
 
 -- the bytes have a fault
-abbrev pub AnyFault : List ℕ → Type 0
-AnyFault bytes = (e : Fault) × FaultOf bytes e
+abbrev pub AnyFault : Limits → List ℕ → Type 0
+AnyFault limits bytes = (e : Fault) × FaultWithin limits bytes e
 
--- the bytes begin with the magic and a heading within the limits
-abbrev Opened : List ℕ → Type 0
-Opened bytes = (v : Version) × (h : Heading) × (rest : List ℕ) × HeadingFits h × IsGoodHeading h × (bytes ≡ magic v ++ (heading_text h ++ rest))
+-- the bytes begin with the magic and a heading within these limits
+abbrev Opened : Limits → List ℕ → Type 0
+Opened limits bytes = (v : Version) × (h : Heading) × (rest : List ℕ) × HeadingFits h × IsGoodHeading limits h × (bytes ≡ magic v ++ (heading_text h ++ rest))
 
 -- the byte at a place, if it is there, is the magic's
 abbrev AgreesAt : Version → List ℕ → ℕ → Type 0
@@ -144,34 +161,34 @@ told_magic v bytes =
     ]
 
 -- the heading behind the magic
-told_heading : (v : Version) (bytes rest : List ℕ) → IsBytes bytes → bytes ≡ magic v ++ rest → Opened bytes ⊎ AnyFault bytes
-told_heading v bytes rest b e = elim (cases_lt (length rest) 24) [
+told_heading : (limits : Limits) (v : Version) (bytes rest : List ℕ) → IsBytes bytes → bytes ≡ magic v ++ rest → Opened limits bytes ⊎ AnyFault limits bytes
+told_heading limits v bytes rest b e = elim (cases_lt (length rest) 24) [
   | inl lt ↦ inr (fault.Short, inr (inl (v, rest, e, lt)))
   | inr ge ↦
       let h = heading rest (suffix bytes (magic v) rest e b) ge in
       let text : bytes ≡ magic v ++ (heading_text h.0 ++ h.1) = e ∙ ap (λ l. magic v ++ l) h.3 in
-      elim (decided_heading h.0) [
+      elim (decided_heading limits h.0) [
         | inl good ↦ inl (v, h.0, h.1, h.2, good, text)
         | inr bad ↦ inr (fault.Geometry, (v, h.0, h.1, h.2, text, bad))
       ]
 ]
 
 -- what stands behind bytes that agree with a version's magic
-told_version : (v : Version) (bytes : List ℕ) → IsBytes bytes → ((i : ℕ) → i < 8 → AgreesAt v bytes i) → Opened bytes ⊎ AnyFault bytes
-told_version v bytes b agrees = elim (cases_lt (length bytes) 8) [
+told_version : (limits : Limits) (v : Version) (bytes : List ℕ) → IsBytes bytes → ((i : ℕ) → i < 8 → AgreesAt v bytes i) → Opened limits bytes ⊎ AnyFault limits bytes
+told_version limits v bytes b agrees = elim (cases_lt (length bytes) 8) [
   | inl lt ↦ inr (
     fault.Short,
     inl (v, drop (length bytes) (magic v), agree bytes (magic v) (omega (arith, lt)) (λ i l. agrees i (omega (arith, l, lt)) l), omega (arith, lt, length-drop (length bytes) (magic v))),
   )
-  | inr ge ↦ told_heading v bytes (drop 8 bytes) b (agree (magic v) bytes ge (λ i l. sym (agrees i l (omega (arith, l, ge)))))
+  | inr ge ↦ told_heading limits v bytes (drop 8 bytes) b (agree (magic v) bytes ge (λ i l. sym (agrees i l (omega (arith, l, ge)))))
 ]
 
 -- the magic and the heading
-told_opening : (bytes : List ℕ) → IsBytes bytes → Opened bytes ⊎ AnyFault bytes
-told_opening bytes b = elim (told_magic One bytes) [
-  | inl agrees ↦ told_version One bytes b agrees
+told_opening : (limits : Limits) (bytes : List ℕ) → IsBytes bytes → Opened limits bytes ⊎ AnyFault limits bytes
+told_opening limits bytes b = elim (told_magic One bytes) [
+  | inl agrees ↦ told_version limits One bytes b agrees
   | inr one ↦ elim (told_magic Two bytes) [
-    | inl agrees ↦ told_version Two bytes b agrees
+    | inl agrees ↦ told_version limits Two bytes b agrees
     | inr two ↦ inr (fault.Magic, by one two)
   ]
 ]
@@ -181,37 +198,37 @@ told_opening bytes b = elim (told_magic One bytes) [
     by one two Two = two
 
 -- the bytes are those of a whole file
-abbrev pub IsPlain : List ℕ → Type 0
-IsPlain bytes = (v : Version) × (h : Heading) × (table : List Entry) × (roots : List ℕ) × (log : List ℕ) × (remembered : List (List ℕ))
-    × (words : List ℕ) × PlainIs bytes v h table roots log remembered words
+abbrev pub IsPlain : Limits → List ℕ → Type 0
+IsPlain limits bytes = (v : Version) × (h : Heading) × (table : List Entry) × (roots : List ℕ) × (log : List ℕ) × (remembered : List (List ℕ))
+    × (words : List ℕ) × PlainIs limits bytes v h table roots log remembered words
 
 -- what stands behind the heading
-told_body : (bytes : List ℕ) → IsBytes bytes → Opened bytes → IsPlain bytes ⊎ AnyFault bytes
-told_body bytes b o =
+told_body : (limits : Limits) (bytes : List ℕ) → IsBytes bytes → Opened limits bytes → IsPlain limits bytes ⊎ AnyFault limits bytes
+told_body limits bytes b o =
     let v : Version = o.0 in
     let h : Heading = o.1 in
     let rest : List ℕ = o.2 in
     let b0 : IsBytes rest = suffix (heading_text h ++ rest) (heading_text h) rest refl (suffix bytes (magic v) (heading_text h ++ rest) o.5 b) in
     elim (told_many (EntryFits v) (entry_text v) (entry_free v) (told_entry v) h.n rest b0) [
-      | inr s ↦ inr (fault.Short, short_table bytes rest v h o.3 o.4 o.5 s)
+      | inr s ↦ inr (fault.Short, short_table _ bytes rest v h o.3 o.4 o.5 s)
       | inl t ↦
           let b1 : IsBytes t.1 = suffix rest (table_text v t.0) t.1 t.3 b0 in
           elim (told_many IsU64 u64 (λ x y s t fx fy e. u64_once x y s t fx fy e) told_u64 h.roots t.1 b1) [
-            | inr s ↦ inr (fault.Short, short_roots bytes rest v h o.3 o.4 o.5 t.0 t.1 t.2 t.3 s)
+            | inr s ↦ inr (fault.Short, short_roots _ bytes rest v h o.3 o.4 o.5 t.0 t.1 t.2 t.3 s)
             | inl r ↦
                 let b2 : IsBytes r.1 = suffix t.1 (words_text r.0) r.1 r.3 b1 in
                 elim (told_numbers h.dirty r.1 b2) [
-                  | inr s ↦ inr (fault.Short, short_log bytes rest v h o.3 o.4 o.5 t.0 t.1 t.2 t.3 r.0 r.1 r.2 r.3 s)
+                  | inr s ↦ inr (fault.Short, short_log _ bytes rest v h o.3 o.4 o.5 t.0 t.1 t.2 t.3 r.0 r.1 r.2 r.3 s)
                   | inl l ↦
                       let b3 : IsBytes l.1 = suffix r.1 (numbers_text l.0) l.1 l.3 b2 in
                       elim (told_many RememberedFits remembered_text set_free told_set h.n l.1 b3) [
-                        | inr s ↦ inr (fault.Short, short_remembered bytes rest v h o.3 o.4 o.5 t.0 t.1 t.2 t.3 r.0 r.1 r.2 r.3 l.0 l.1 l.2 l.3 s)
+                        | inr s ↦ inr (fault.Short, short_remembered _ bytes rest v h o.3 o.4 o.5 t.0 t.1 t.2 t.3 r.0 r.1 r.2 r.3 l.0 l.1 l.2 l.3 s)
                         | inl s ↦
                             let b4 : IsBytes s.1 = suffix l.1 (remembered_texts s.0) s.1 s.3 b3 in
                             elim (cases_lt (length s.1) (8 * table_words t.0)) [
-                              | inl lt ↦ inr (fault.Short, short_words bytes rest v h o.3 o.4 o.5 t.0 t.1 t.2 t.3 r.0 r.1 r.2 r.3 l.0 l.1 l.2 l.3 s.0 s.1 s.2 s.3 lt)
+                              | inl lt ↦ inr (fault.Short, short_words _ bytes rest v h o.3 o.4 o.5 t.0 t.1 t.2 t.3 r.0 r.1 r.2 r.3 l.0 l.1 l.2 l.3 s.0 s.1 s.2 s.3 lt)
                               | inr ge ↦ elim (cases_lt (8 * table_words t.0) (length s.1)) [
-                                | inl more ↦ inr (fault.Trailing, trailing bytes rest v h o.3 o.4 o.5 t.0 t.1 t.2 t.3 r.0 r.1 r.2 r.3 l.0 l.1 l.2 l.3 s.0 s.1 s.2 s.3 b4 ge more)
+                                | inl more ↦ inr (fault.Trailing, trailing _ bytes rest v h o.3 o.4 o.5 t.0 t.1 t.2 t.3 r.0 r.1 r.2 r.3 l.0 l.1 l.2 l.3 s.0 s.1 s.2 s.3 b4 ge more)
                                 | inr le ↦ inl (
                                   v,
                                   h,
@@ -220,7 +237,7 @@ told_body bytes b o =
                                   l.0,
                                   s.0,
                                   s.1,
-                                  plain_is bytes rest v h o.3 o.4 o.5 t.0 t.1 t.2 t.3 r.0 r.1 r.2 r.3 l.0 l.1 l.2 l.3 s.0 s.1 s.2 s.3 b4 ge (omega (arith, ge, le)),
+                                  plain_is _ bytes rest v h o.3 o.4 o.5 t.0 t.1 t.2 t.3 r.0 r.1 r.2 r.3 l.0 l.1 l.2 l.3 s.0 s.1 s.2 s.3 b4 ge (omega (arith, ge, le)),
                                 )
                               ]
                             ]
@@ -230,5 +247,5 @@ told_body bytes b o =
     ]
 
 -- bytes are a whole file's text or have a fault
-pub told_file : (bytes : List ℕ) → IsBytes bytes → IsPlain bytes ⊎ AnyFault bytes
-told_file bytes b = elim (told_opening bytes b) [ inr e ↦ inr e | inl o ↦ told_body bytes b o ]
+pub told_file : (limits : Limits) (bytes : List ℕ) → IsBytes bytes → IsPlain limits bytes ⊎ AnyFault limits bytes
+told_file limits bytes b = elim (told_opening limits bytes b) [ inr e ↦ inr e | inl o ↦ told_body limits bytes b o ]

@@ -2,6 +2,7 @@
 use Rattle.std.specs.Prelude.{◌≡◌, ◌<◌, ℕ, Bool, true, List, ◌++◌, length, replicate, min, Option, IfSome, ◌-◌}
 use Rattle.std.specs.Io.KnownBytes.{Consumes, IsAtEnd, prepend_known}
 use Rattle.g1_words.specs.declared.fault.Fault.{Fault}
+use Rattle.g1_words.specs.declared.limits.Limits.{Limits}
 use Rattle.g1_words.specs.declared.fault.Fault.TheVariants as fault
 use Rattle.g1_words.specs.declared.fault.Device.TheVariants as device
 use Rattle.g1_image.specs.declared.ahead.Ahead.{Ahead}
@@ -9,7 +10,7 @@ use Rattle.g1_image.specs.declared.ahead.Ahead.TheVariants.{Whole, Read}
 use Rattle.g1_image.specs.Buffer.{buffered, SeesEnd}
 use Rattle.g1_image.specs.Text.{words_of}
 use Rattle.g1_image.specs.Reading.{IsBytes}
-use Rattle.g1_image.specs.Faults.{FaultOf}
+use Rattle.g1_image.specs.Faults.{FaultWithin}
 use Rattle.g1_image.specs.Source.{HoldsOfLeft}
 
 -- the bytes that wait: all that is left of a text in memory, or those that were read from a source
@@ -40,11 +41,11 @@ TakeFails old_mark new_mark old wanted fault.Short = (new_mark ≡ old_mark) × 
 TakeFails _ _ _ _ _ = ⊥
 
 -- a text isn't read for want of memory, by a read that failed, or for its own fault; the marks are those before and after
-abbrev pub TextFails : Bool → Bool → Option (List ℕ) → Fault → Type 0
-TextFails old_mark new_mark old fault.Memory = new_mark ≡ old_mark
-TextFails old_mark new_mark old (fault.Device device.Input) = new_mark ≡ true
-TextFails old_mark new_mark old (fault.Device device.Output) = ⊥
-TextFails old_mark new_mark old e = (new_mark ≡ old_mark) × HoldsOfLeft old (λ xs. FaultOf xs e)
+abbrev pub TextFails : Limits → Bool → Bool → Option (List ℕ) → Fault → Type 0
+TextFails limits old_mark new_mark old fault.Memory = new_mark ≡ old_mark
+TextFails limits old_mark new_mark old (fault.Device device.Input) = new_mark ≡ true
+TextFails limits old_mark new_mark old (fault.Device device.Output) = ⊥
+TextFails limits old_mark new_mark old e = (new_mark ≡ old_mark) × HoldsOfLeft old (λ xs. FaultWithin limits xs e)
 
 -- the words of a region whose used words these bytes are
 abbrev pub region_words : ℕ → ℕ → List ℕ → List ℕ

@@ -1,6 +1,6 @@
 -- A heap whose objects and references haven't been looked at.
 use Rattle.std.specs.Prelude.{◌≡◌, ◌≤◌, ◌<◌, ℕ, ◌*◌, ◌^◌, List, length, All, IfSome, ◌≢◌}
-use Rattle.g1_words.specs.Geometry.{IsWithinLimits, most_roots}
+use Rattle.g1_words.specs.Geometry.{IsWithinBounds, most_roots}
 use Rattle.g1_words.specs.Heap.{Heap, region, start}
 use Rattle.g1_words.specs.Valid.{IsShaped, IsFirst, Tiles}
 use Rattle.g1_words.specs.declared.object.Object.{Object}
@@ -8,7 +8,7 @@ use Rattle.g1_words.specs.declared.region.Kind.TheVariants.{HumongousFirst}
 
 -- what is known of a heap before its objects and references are looked at: its sizes, and that its lists have their lengths
 pub record IsDraft (h : Heap) : Type 0 where
-  pub limits : IsWithinLimits h.geometry.w h.geometry.k h.geometry.n
+  pub limits : IsWithinBounds h.geometry.w h.geometry.k h.geometry.n
   pub word_count : length h.words ≡ h.geometry.n * h.geometry.w
   pub word_fits : All (λ x. x < 2 ^ 64) h.words
   pub region_count : length h.regions ≡ h.geometry.n

@@ -1,6 +1,8 @@
 -- The fault of bytes that are no image's text: that of the first stage of reading that finds one.
 use Rattle.std.specs.Prelude.{◌≡◌, ◌≢◌, ◌≤◌, ◌<◌, ℕ, ◌*◌, ◌^◌, ◌⊎◌, List, [], ◌++◌, length, slice_index, slice_index_or, All}
-use Rattle.g1_words.specs.Geometry.{IsWithinLimits, most_roots}
+use Rattle.g1_words.specs.Geometry.{IsWithin, most_roots}
+use Rattle.g1_words.specs.declared.limits.Limits.{Limits}
+use Rattle.g1_words.specs.declared.limits.Limits.TheVariants.{Specified}
 use Rattle.g1_words.specs.Heap.{Heap}
 use Rattle.g1_words.specs.Valid.{IsShaped, AllShaped, IsReference, HasObject, IsSlotOf}
 use Rattle.g1_words.specs.declared.object.Object.{Object}
@@ -24,9 +26,9 @@ pub record HeadingFits (h : Heading) : Type 0 where
   pub dirty : h.dirty < 2 ^ 32
   pub current : h.current < 2 ^ 32
 
--- the sizes, the roots and the current region are within the limits
-pub record IsGoodHeading (h : Heading) : Type 0 where
-  pub sizes : IsWithinLimits h.w h.k h.n
+-- the sizes are within these limits, and the roots and the current region within theirs
+pub record IsGoodHeading (limits : Limits) (h : Heading) : Type 0 where
+  pub sizes : IsWithin limits h.w h.k h.n
   pub roots : h.roots ≤ most_roots
   pub current : h.current ≤ h.n
 
@@ -43,10 +45,10 @@ EntryFits v e = (e.kind < 2 ^ 32) × (e.top < 2 ^ 32) × FlagsFit v e.flags
 abbrev pub RememberedFits : List ℕ → Type 0
 RememberedFits cards = (length cards < 2 ^ 32) × All IsU32 cards
 
--- every number of the file has the bits that its text gives it, and there are as many as are announced
-pub record FileFits (f : File) : Type 0 where
+-- every number of the file has the bits that its text gives it, the heading is within these limits, and there are as many as are announced
+pub record FileFits (limits : Limits) (f : File) : Type 0 where
   pub heading : HeadingFits (heading_of f)
-  pub limits : IsGoodHeading (heading_of f)
+  pub good : IsGoodHeading limits (heading_of f)
   pub table : Are (EntryFits f.version) f.n f.table
   pub roots : All IsU64 f.roots
   pub log : All IsU32 f.log
@@ -145,19 +147,27 @@ FileFault f (fault.Reference p) = AreKnown f.table f.n × HeapFault (heap_of f) 
 FileFault f (fault.Card s) = AreKnown f.table f.n × IsGoodHeap (heap_of f) × CardFault (heap_of f) f.log f.remembered s
 FileFault _ _ = ⊥
 
--- THE FAULT of bytes
-abbrev pub FaultOf : List ℕ → Fault → Type 0
+-- THE FAULT of bytes that are to be an image's text within these limits
+abbrev pub FaultWithin : Limits → List ℕ → Fault → Type 0
 -- each version's magic differs from the first bytes that are there
-FaultOf bytes fault.Magic = (v : Version) → (i : ℕ) × (i < 8) × (i < length bytes) × (slice_index bytes i ≢ slice_index (magic v) i)
+FaultWithin limits bytes fault.Magic = (v : Version) → (i : ℕ) × (i < 8) × (i < length bytes) × (slice_index bytes i ≢ slice_index (magic v) i)
 -- the magic is good as far as it is there, and a heading that is there is within the limits, but no whole file begins the bytes
-FaultOf bytes fault.Short =
+FaultWithin limits bytes fault.Short =
     ((v : Version) × (rest : List ℕ) × (magic v ≡ bytes ++ rest) × (0 < length rest))
     ⊎ ((v : Version) × (rest : List ℕ) × (bytes ≡ magic v ++ rest) × (length rest < 24))
-    ⊎ ((v : Version) × (h : Heading) × (rest : List ℕ) × HeadingFits h × IsGoodHeading h × (bytes ≡ magic v ++ (heading_text h ++ rest)) × EndsWithin FileFits file_text bytes)
-FaultOf bytes fault.Geometry = (v : Version) × (h : Heading) × (rest : List ℕ) × HeadingFits h × (bytes ≡ magic v ++ (heading_text h ++ rest)) × (IsGoodHeading h → ⊥)
-FaultOf bytes fault.Trailing = (f : File) × (rest : List ℕ) × FileFits f × (bytes ≡ file_text f ++ rest) × (0 < length rest)
-FaultOf bytes e = (f : File) × FileFits f × (bytes ≡ file_text f) × FileFault f e
+    ⊎ ((v : Version) × (h : Heading) × (rest : List ℕ) × HeadingFits h × IsGoodHeading limits h × (bytes ≡ magic v ++ (heading_text h ++ rest)) × EndsWithin (FileFits limits) file_text bytes)
+FaultWithin limits bytes fault.Geometry = (v : Version) × (h : Heading) × (rest : List ℕ) × HeadingFits h × (bytes ≡ magic v ++ (heading_text h ++ rest)) × (IsGoodHeading limits h → ⊥)
+FaultWithin limits bytes fault.Trailing = (f : File) × (rest : List ℕ) × FileFits limits f × (bytes ≡ file_text f ++ rest) × (0 < length rest)
+FaultWithin limits bytes e = (f : File) × FileFits limits f × (bytes ≡ file_text f) × FileFault f e
 
 -- what a reader of the bytes may answer: their fault, or that memory is wanted
+abbrev pub MayFailWithin : Limits → List ℕ → Fault → Type 0
+MayFailWithin limits bytes e = (e ≡ fault.Memory) ⊎ FaultWithin limits bytes e
+
+-- THE FAULT of bytes, within the limits of the specification
+abbrev pub FaultOf : List ℕ → Fault → Type 0
+FaultOf bytes e = FaultWithin Specified bytes e
+
+-- what a reader of the bytes may answer, within the limits of the specification
 abbrev pub MayFail : List ℕ → Fault → Type 0
 MayFail bytes e = (e ≡ fault.Memory) ⊎ FaultOf bytes e

@@ -2,7 +2,10 @@
 use Rattle.std.specs.Prelude.{◌≡◌, ◌≢◌, ◌<◌, ◌==◌, ℕ, Bool, true, false, IsFalse, ◌-◌, ◌*◌, ◌/◌, ◌^◌, List, [], ◌∷◌, ◌++◌, length, map, take, drop, replicate, slice_index_or, All, AllPairs}
 use Rattle.std.specs.Prelude.{Some, None, unwrap_or, if◌then◌else◌, nat_lt, min}
 use Rattle.std.specs.List.Sorted.{IsStrictlyIncreasing}
+use Rattle.g1_words.specs.Geometry.{IsWithin}
 use Rattle.g1_words.specs.Heap.{Heap, region}
+use Rattle.g1_words.specs.declared.limits.Limits.{Limits}
+use Rattle.g1_words.specs.declared.limits.Limits.TheVariants.{Specified}
 use Rattle.g1_words.specs.Valid.{IsValid}
 use Rattle.g1_words.specs.Lists.{has}
 use Rattle.g1_words.specs.Kind.{kind_number, kind_of}
@@ -93,13 +96,17 @@ CanTell Two h = Unit {0}
 abbrev pub IsTextIn : Version → List ℕ → Image → Type 0
 IsTextIn v bytes i = IsImage i × CanTell v i.heap × (bytes ≡ file_text (file_of v i))
 
--- the bytes are a text of the image, in one of the versions
-abbrev pub IsTextOf : List ℕ → Image → Type 0
-IsTextOf bytes i = (v : Version) × IsTextIn v bytes i
+-- the bytes are a text of the image, in one of the versions, and the sizes of its heap are within these limits
+abbrev pub IsTextWithin : Limits → List ℕ → Image → Type 0
+IsTextWithin limits bytes i = (v : Version) × IsTextIn v bytes i × IsWithin limits i.heap.geometry.w i.heap.geometry.k i.heap.geometry.n
 
--- the bytes are the text of an image
-abbrev pub IsImageText : List ℕ → Type 0
-IsImageText bytes = (i : Image) × IsTextOf bytes i
+-- the bytes are the text of an image within these limits
+abbrev pub IsImageTextWithin : Limits → List ℕ → Type 0
+IsImageTextWithin limits bytes = (i : Image) × IsTextWithin limits bytes i
+
+-- the bytes are a text of the image, which is within the limits of the specification
+abbrev pub IsTextOf : List ℕ → Image → Type 0
+IsTextOf bytes i = IsTextWithin Specified bytes i
 
 -- the regions' words, each region's used words first and zeros after them
 abbrev pub all_words : ℕ → List Entry → List ℕ → List ℕ

@@ -4,13 +4,14 @@ use Rattle.std.specs.List.Sorted.{IsStrictlyIncreasing}
 use Rattle.g1_words.specs.Heap.{Heap, pinned, region_of, card_of}
 use Rattle.g1_words.specs.Valid.{IsValid}
 use Rattle.g1_words.specs.References.{Ref, refs}
-use Rattle.g1_image.specs.Image.{Image, IsImage, remembered_of, region_of_card, IsTextOf, IsTextIn}
+use Rattle.g1_image.specs.Image.{Image, IsImage, remembered_of, region_of_card, IsTextWithin, IsTextIn}
 use Rattle.g1_image.specs.Cards.{cards_where, exact, refined, Covered, uncovered}
 use Rattle.g1_image.specs.Text.{File, Version, file_text}
 use Rattle.g1_image.specs.declared.cursor.Version.TheVariants.{One, Two}
 use Rattle.g1_image.specs.Reading.{IsBytes}
-use Rattle.g1_image.specs.Faults.{FileFits, FaultOf}
+use Rattle.g1_image.specs.Faults.{FileFits, FaultWithin}
 use Rattle.g1_words.specs.declared.fault.Fault.{Fault}
+use Rattle.g1_words.specs.declared.limits.Limits.{Limits}
 
 -- an address lies in the region of its card
 abbrev pub CardsInRegions : Type 0
@@ -48,13 +49,13 @@ UncoveredSlots = (i : Image) (p : ℕ) → Contains (uncovered i) p ↔ ((e : Re
 abbrev pub UncoveredRise : Type 0
 UncoveredRise = (i : Image) → IsValid i.heap → IsStrictlyIncreasing (uncovered i)
 
--- bytes are the text of one file at most
+-- within any limits bytes are the text of one file at most
 abbrev pub OneFile : Type 0
-OneFile = (bytes : List ℕ) (f g : File) → FileFits f → FileFits g → bytes ≡ file_text f → bytes ≡ file_text g → f ≡ g
+OneFile = (limits : Limits) (bytes : List ℕ) (f g : File) → FileFits limits f → FileFits limits g → bytes ≡ file_text f → bytes ≡ file_text g → f ≡ g
 
--- bytes are the text of one image at most
+-- within any limits bytes are the text of one image at most
 abbrev pub OneImage : Type 0
-OneImage = (bytes : List ℕ) (i j : Image) → IsTextOf bytes i → IsTextOf bytes j → i ≡ j
+OneImage = (limits : Limits) (bytes : List ℕ) (i j : Image) → IsTextWithin limits bytes i → IsTextWithin limits bytes j → i ≡ j
 
 -- an image has one text of each version at most
 abbrev pub OneText : Type 0
@@ -65,14 +66,14 @@ abbrev pub TextsExist : Type 0
 TextsExist = (i : Image) → IsImage i →
     ((a : List ℕ) × IsTextIn Two a i) × (((a : List ℕ) × IsTextIn One a i) ↔ ((r : ℕ) → r < i.heap.geometry.n → IsFalse (pinned i.heap r)))
 
--- bytes have one fault at most
+-- within any limits bytes have one fault at most
 abbrev pub OneFault : Type 0
-OneFault = (bytes : List ℕ) (e d : Fault) → FaultOf bytes e → FaultOf bytes d → e ≡ d
+OneFault = (limits : Limits) (bytes : List ℕ) (e d : Fault) → FaultWithin limits bytes e → FaultWithin limits bytes d → e ≡ d
 
--- an image's text has no fault
+-- within any limits an image's text has no fault
 abbrev pub NoFaultOfText : Type 0
-NoFaultOfText = (bytes : List ℕ) (i : Image) (e : Fault) → IsTextOf bytes i → FaultOf bytes e → ⊥
+NoFaultOfText = (limits : Limits) (bytes : List ℕ) (i : Image) (e : Fault) → IsTextWithin limits bytes i → FaultWithin limits bytes e → ⊥
 
--- bytes are an image's text or have a fault
+-- within any limits bytes are an image's text or have a fault
 abbrev pub AlwaysOne : Type 0
-AlwaysOne = (bytes : List ℕ) → IsBytes bytes → ((i : Image) × IsTextOf bytes i) ⊎ ((e : Fault) × FaultOf bytes e)
+AlwaysOne = (limits : Limits) (bytes : List ℕ) → IsBytes bytes → ((i : Image) × IsTextWithin limits bytes i) ⊎ ((e : Fault) × FaultWithin limits bytes e)

@@ -1,13 +1,14 @@
 -- Stale words: roots and slots that are not null and reference no object. They are read as null.
-use Rattle.std.specs.Prelude.{◌≡◌, ◌<◌, ◌*◌, ◌^◌, ◌⊎◌, ℕ, List, [], ◌∷◌, ◌++◌, length, set, slice_index, All, AllPairs, Contains, ⊤}
+use Rattle.std.specs.Prelude.{◌≡◌, ◌<◌, ◌⊎◌, ℕ, List, [], ◌∷◌, ◌++◌, length, set, slice_index, All, AllPairs, Contains, ⊤}
 use Rattle.g1_words.specs.Heap.{Heap}
 use Rattle.g1_words.specs.Valid.{AllShaped, HasObject, IsReference, IsSlotOf}
 use Rattle.g1_words.specs.declared.object.Object.{Object}
 use Rattle.g1_words.specs.declared.fault.Fault.{Fault}
+use Rattle.g1_words.specs.declared.limits.Limits.{Limits}
 use Rattle.g1_words.specs.declared.fault.Fault.TheVariants as fault
 use Rattle.g1_image.specs.Text.{File, file_text}
 use Rattle.g1_image.specs.Image.{Image, heap_of}
-use Rattle.g1_image.specs.Faults.{FileFits, AreKnown, CardFault, FaultOf}
+use Rattle.g1_image.specs.Faults.{FileFits, AreKnown, CardFault, FaultWithin}
 
 -- the root of this number is stale, and this is its word
 abbrev pub IsStaleRoot : Heap → ℕ → ℕ → Type 0
@@ -47,9 +48,9 @@ without h roots slots = record {
 }
 
 -- the bytes are a file's text, these are the stale words of its heap, and the image is the file's with null in them
-pub record IsTextWithout (bytes : List ℕ) (i : Image) (roots slots : List (ℕ × ℕ)) : Type 0 where
+pub record IsTextWithout (limits : Limits) (bytes : List ℕ) (i : Image) (roots slots : List (ℕ × ℕ)) : Type 0 where
   pub file : File
-  pub fits : FileFits file
+  pub fits : FileFits limits file
   pub text : bytes ≡ file_text file
   pub known : AreKnown file.table file.n
   pub stale_roots : Lists (IsStaleRoot (heap_of file)) roots
@@ -67,7 +68,7 @@ IsTextFault (fault.Device d) = ⊤
 IsTextFault _ = ⊥
 
 -- the fault of the bytes of which a stale word is none
-abbrev pub FaultWithout : List ℕ → Fault → Type 0
-FaultWithout bytes (fault.Reference p) = ⊥
-FaultWithout bytes (fault.Card s) = (f : File) × FileFits f × (bytes ≡ file_text f) × AreKnown f.table f.n × AllShaped (heap_of f) × CardFault (heap_of f) f.log f.remembered s
-FaultWithout bytes e = FaultOf bytes e
+abbrev pub FaultWithout : Limits → List ℕ → Fault → Type 0
+FaultWithout limits bytes (fault.Reference p) = ⊥
+FaultWithout limits bytes (fault.Card s) = (f : File) × FileFits limits f × (bytes ≡ file_text f) × AreKnown f.table f.n × AllShaped (heap_of f) × CardFault (heap_of f) f.log f.remembered s
+FaultWithout limits bytes e = FaultWithin limits bytes e

@@ -1,11 +1,11 @@
 ghost use Rattle.std.specs.Prelude.{◌≡◌, ◌≤◌, ◌<◌, ◌+◌, ◌^◌, ◌++◌, ℕ, List, length, drop, slice_index, ◌≢◌, IfSome, IfNone, OnOk, IfOk, IfErr, IsTrue, ◌↔◌};
 ghost use Rattle.g1_image.specs.Text.{u32 as u32_text, heading_text, digit, magic};
 ghost use Rattle.g1_image.specs.Reading.{IsBytes};
-ghost use Rattle.g1_image.specs.Faults.{HeadingFits, IsGoodHeading, FaultOf};
+ghost use Rattle.g1_image.specs.Faults.{HeadingFits, IsGoodHeading, FaultWithin};
 ghost use Rattle.g1_image.specs.Stale.{IsTextFault};
 
 use byteorder::{ByteOrder, LittleEndian};
-use g1_words::{Fault, Geometry, MOST_ROOTS};
+use g1_words::{Fault, Geometry, Limits, MOST_ROOTS};
 use std::marker::Model;
 
 /// The numbers at the head of an image file.
@@ -148,7 +148,7 @@ impl<'a> Cursor<'a> {
     /// Refuses bytes that don't begin as all magics do.
     fn check_magic(&self) -> Result<(), Fault>
         ensures ok { OnOk result ((7 ≤ length self.now) × ((k : ℕ) → k < 7 → slice_index self.now k ≡ slice_index (magic Version.One) k)) }
-        ensures err { IfErr result (FaultOf self.now) }
+        ensures err { IfErr result (λ e. (limits : Limits) → FaultWithin limits self.now e) }
         ensures stage { IfErr result IsTextFault }
     {
         for i in 0..7 {
@@ -165,7 +165,7 @@ impl<'a> Cursor<'a> {
     /// Takes the magic of a version, or returns the fault of the bytes.
     pub(crate) fn magic(&mut self) -> Result<Version, Fault>
         ensures ok { IfOk result (λ v. self.old ≡ magic v ++ self.new) }
-        ensures err { IfErr result (FaultOf self.old) }
+        ensures err { IfErr result (λ e. (limits : Limits) → FaultWithin limits self.old e) }
         ensures stage { IfErr result IsTextFault }
     {
         self.check_magic()?;
@@ -181,16 +181,16 @@ impl<'a> Cursor<'a> {
         }
     }
 
-    /// Takes the magic and a heading within the limits, or returns the fault of the bytes.
-    pub(crate) fn opening(&mut self) -> Result<(Heading, Version), Fault>
-        ensures ok { IfOk result (λ x. HeadingFits x.0 × IsGoodHeading x.0 × (self.old ≡ magic x.1 ++ (heading_text x.0 ++ self.new))) }
-        ensures err { IfErr result (FaultOf self.old) }
+    /// Takes the magic and a heading within these limits, or returns the fault of the bytes.
+    pub(crate) fn opening(&mut self, limits: Limits) -> Result<(Heading, Version), Fault>
+        ensures ok { IfOk result (λ x. HeadingFits x.0 × IsGoodHeading limits x.0 × (self.old ≡ magic x.1 ++ (heading_text x.0 ++ self.new))) }
+        ensures err { IfErr result (FaultWithin limits self.old) }
         ensures stage { IfErr result IsTextFault }
     {
         let version = self.magic()?;
         match self.heading() {
             Some(heading) => {
-                if !is_good_heading(&heading) {
+                if !is_good_heading(limits, &heading) {
                     return Err(Fault::Geometry);
                 }
                 Ok((heading, version))
@@ -200,11 +200,11 @@ impl<'a> Cursor<'a> {
     }
 }
 
-/// Returns whether a heading is within the limits.
-fn is_good_heading(h: &Heading) -> bool
-    ensures { IsTrue result ↔ IsGoodHeading h.now }
+/// Returns whether a heading is within these limits.
+fn is_good_heading(limits: Limits, h: &Heading) -> bool
+    ensures { IsTrue result ↔ IsGoodHeading limits h.now }
 {
-    match Geometry::new(u64::from(h.w), u64::from(h.k), u64::from(h.n)) {
+    match Geometry::within(limits, u64::from(h.w), u64::from(h.k), u64::from(h.n)) {
         Ok(geometry) => geometry.region_words() > 0 && h.roots <= MOST_ROOTS && h.current <= h.n,
         Err(_) => false,
     }

@@ -2,8 +2,8 @@
 ghost use Rattle.std.specs.Prelude.{◌≡◌, ◌≢◌, ◌≤◌, ◌<◌, ◌⊎◌, ◌++◌, ℕ, List, [], length, drop, map, IfSome, OnOk, IfOk, IfErr, IsTrue, IsFalse};
 ghost use Rattle.std.specs.Io.KnownBytes.{IsAtEnd, Consumes};
 ghost use Rattle.g1_image.specs.Source.{HoldsOfLeft, IsReadOut, input_mark};
-ghost use Rattle.g1_image.specs.Image.{IsTextOf};
-ghost use Rattle.g1_image.specs.Faults.{FaultOf, MayFail};
+ghost use Rattle.g1_image.specs.Image.{IsImage, IsTextOf, IsTextWithin};
+ghost use Rattle.g1_image.specs.Faults.{FaultWithin, MayFail, MayFailWithin};
 ghost use Rattle.g1_image.specs.Front.{IsGoodFront, text_of, IsLaidOut, IsReachedBy};
 ghost use Rattle.g1_image.specs.Stale.{IsTextFault, IsTextWithout, FaultWithout};
 ghost use Rattle.g1_image.specs.Ahead.{to_take, KnowsEnd, TextFails};
@@ -17,13 +17,13 @@ use crate::judging::{image_of, image_of_by, image_without};
 use crate::pieces::lay_pieces;
 use crate::source::{Nothing, Source};
 use crate::stale::Stale;
-use g1_words::{Device, Fault, Words};
+use g1_words::{Device, Fault, Limits, Words};
 use std::alloc::Global;
 use std::thread::Threads;
 
 /// Returns whether a fault of some bytes is one of all bytes that begin with them, too.
 fn is_final(fault: &Fault) -> bool
-    ensures { IsTrue result → (bytes more : List ℕ) → FaultOf bytes fault.now → FaultOf (bytes ++ more) fault.now }
+    ensures { IsTrue result → (limits : Limits) (bytes more : List ℕ) → FaultWithin limits bytes fault.now → FaultWithin limits (bytes ++ more) fault.now }
 {
     match fault {
         Fault::Magic => true,
@@ -42,31 +42,36 @@ pub(crate) fn is_of_bytes(fault: &Fault) -> bool
 }
 
 /// The front that the bytes begin with, and how many bytes it has.
-fn front_of(alloc: Global, bytes: &[u8]) -> Result<(Front, usize), Fault>
-    ensures ok { IfOk result (λ x. IsGoodFront x.0) }
+fn front_of(alloc: Global, limits: Limits, bytes: &[u8]) -> Result<(Front, usize), Fault>
+    ensures ok { IfOk result (λ x. IsGoodFront limits x.0) }
     ensures count { IfOk result (λ x. x.1 ≤ length bytes.now) }
     ensures text { IfOk result (λ x. bytes.now ≡ text_of x.0 (drop x.1 bytes.now)) }
-    ensures err { IfErr result (MayFail bytes.now) }
+    ensures err { IfErr result (MayFailWithin limits bytes.now) }
     ensures stage { IfErr result IsTextFault }
 {
-    let (front, rest) = read_front(alloc, bytes)?;
+    let (front, rest) = read_front(alloc, limits, bytes)?;
     Ok((front, bytes.len() - rest.len()))
 }
 
 /// Takes the front of the text. Twice as many bytes are read until it is among them.
-fn take_front<S: Source>(alloc: Global, source: &mut S, ahead: &mut Ahead) -> Result<Front, Fault>
+fn take_front<S: Source>(
+    alloc: Global,
+    limits: Limits,
+    source: &mut S,
+    ahead: &mut Ahead,
+) -> Result<Front, Fault>
     requires known { KnowsEnd ahead.old (S.left source.old) }
     ensures known { KnowsEnd ahead.new (S.left source.new) }
-    ensures ok { IfOk result (λ x. IsGoodFront x) }
+    ensures ok { IfOk result (λ x. IsGoodFront limits x) }
     ensures taken { IfOk result (λ x. Consumes (to_take ahead.old (S.left source.old)) (to_take ahead.new (S.left source.new)) (text_of x [])) }
     ensures mark { OnOk result (S.failed source.new ≡ S.failed source.old) }
-    ensures err { IfErr result (TextFails (S.failed source.old) (S.failed source.new) (to_take ahead.old (S.left source.old))) }
+    ensures err { IfErr result (TextFails limits (S.failed source.old) (S.failed source.new) (to_take ahead.old (S.left source.old))) }
     ensures stage { IfErr result IsTextFault }
 {
     let mut wanted = PIECE;
     loop {
         let more = ahead.reach(source, wanted)?;
-        match front_of(alloc, ahead.bytes()) {
+        match front_of(alloc, limits, ahead.bytes()) {
             Ok((front, count)) => {
                 ahead.pass(count);
                 return Ok(front);
@@ -84,19 +89,20 @@ fn take_front<S: Source>(alloc: Global, source: &mut S, ahead: &mut Ahead) -> Re
 /// The front and the words of the text.
 pub(crate) fn take_parts<S: Source>(
     alloc: Global,
+    limits: Limits,
     source: &mut S,
     ahead: &mut Ahead,
 ) -> Result<(Front, Words), Fault>
     requires known { KnowsEnd ahead.old (S.left source.old) }
     ensures known { KnowsEnd ahead.new (S.left source.new) }
-    ensures ok { IfOk result (λ x. HoldsOfLeft (to_take ahead.old (S.left source.old)) (λ xs. IsLaidOut xs x.0 x.1.items)) }
+    ensures ok { IfOk result (λ x. HoldsOfLeft (to_take ahead.old (S.left source.old)) (λ xs. IsLaidOut limits xs x.0 x.1.items)) }
     ensures laid { IfOk result (λ x. IsReachedBy x.0 x.1.laid) }
     ensures end { OnOk result (IsAtEnd (S.left source.new)) }
     ensures mark { OnOk result (S.failed source.new ≡ S.failed source.old) }
-    ensures err { IfErr result (TextFails (S.failed source.old) (S.failed source.new) (to_take ahead.old (S.left source.old))) }
+    ensures err { IfErr result (TextFails limits (S.failed source.old) (S.failed source.new) (to_take ahead.old (S.left source.old))) }
     ensures stage { IfErr result IsTextFault }
 {
-    let front = take_front(alloc, source, ahead)?;
+    let front = take_front(alloc, limits, source, ahead)?;
     let words = lay_pieces(alloc, front.heading.w, &front.table, source, ahead)?;
     if ahead.reach(source, 1)? {
         return Err(Fault::Trailing);
@@ -105,16 +111,20 @@ pub(crate) fn take_parts<S: Source>(
 }
 
 /// The front and the words of the text that is left in a source, read to its end.
-fn read_parts<S: Source>(alloc: Global, source: &mut S) -> Result<(Front, Words), Fault>
-    ensures ok { IfOk result (λ x. HoldsOfLeft (S.left source.old) (λ xs. IsLaidOut xs x.0 x.1.items)) }
+fn read_parts<S: Source>(
+    alloc: Global,
+    limits: Limits,
+    source: &mut S,
+) -> Result<(Front, Words), Fault>
+    ensures ok { IfOk result (λ x. HoldsOfLeft (S.left source.old) (λ xs. IsLaidOut limits xs x.0 x.1.items)) }
     ensures laid { IfOk result (λ x. IsReachedBy x.0 x.1.laid) }
-    ensures err { IfErr result (λ e. (e ≡ Fault.Device Device.Input) ⊎ HoldsOfLeft (S.left source.old) (λ xs. MayFail xs e)) }
+    ensures err { IfErr result (λ e. (e ≡ Fault.Device Device.Input) ⊎ HoldsOfLeft (S.left source.old) (λ xs. MayFailWithin limits xs e)) }
     ensures stage { IfErr result IsTextFault }
     ensures end { IsReadOut (S.left source.new) result }
     ensures marks { S.failed source.new ≡ input_mark (S.failed source.old) result }
 {
     let mut ahead = Ahead::nothing(alloc);
-    match take_parts(alloc, source, &mut ahead) {
+    match take_parts(alloc, limits, source, &mut ahead) {
         Ok(parts) => Ok(parts),
         Err(fault) => {
             // The rest is read too, so that a read that fails there is reported.
@@ -126,7 +136,8 @@ fn read_parts<S: Source>(alloc: Global, source: &mut S) -> Result<(Front, Words)
     }
 }
 
-/// The image whose text the bytes are, or the fault of the first stage that finds one.
+/// The image whose text the bytes are, or the fault of the first stage that finds one. The limits are those
+/// of the specification.
 ///
 /// # Errors
 ///
@@ -135,9 +146,37 @@ pub fn decode(alloc: Global, bytes: &[u8]) -> Result<Image, Fault>
     ensures ok { IfOk result (λ i. IsTextOf bytes.now i) }
     ensures err { IfErr result (MayFail bytes.now) }
 {
+    decode_within(alloc, Limits::Specified, bytes)
+}
+
+/// As `decode`, within these limits.
+///
+/// # Errors
+///
+/// Those of `decode`.
+pub fn decode_within(alloc: Global, limits: Limits, bytes: &[u8]) -> Result<Image, Fault>
+    ensures ok { IfOk result (λ i. IsTextWithin limits bytes.now i) }
+    ensures err { IfErr result (MayFailWithin limits bytes.now) }
+{
     let cursor = Cursor::new(bytes);
-    let (front, words) = take_parts(alloc, &mut Nothing, &mut Ahead::Whole(cursor))?;
-    image_of(alloc, front, words)
+    let (front, words) = take_parts(alloc, limits, &mut Nothing, &mut Ahead::Whole(cursor))?;
+    image_of(alloc, limits, front, words)
+}
+
+/// As `decode_within`, with the stale words taken for null: a root or a slot that references no object is none of the
+/// faults. Returns the image with null in them, and what they were.
+///
+/// # Errors
+///
+/// Those of `decode`, except `Fault::Reference`.
+pub fn decode_stale(alloc: Global, limits: Limits, bytes: &[u8]) -> Result<(Image, Stale), Fault>
+    ensures ok { IfOk result (λ x. IsTextWithout limits bytes.now x.0 x.1.roots.items x.1.slots.items) }
+    ensures image { IfOk result (λ x. IsImage x.0) }
+    ensures err { IfErr result (λ e. (e ≡ Fault.Memory) ⊎ FaultWithout limits bytes.now e) }
+{
+    let cursor = Cursor::new(bytes);
+    let (front, laid) = take_parts(alloc, limits, &mut Nothing, &mut Ahead::Whole(cursor))?;
+    image_without(alloc, limits, front, laid)
 }
 
 /// The image whose text is left in a source, read to its end: as `decode` of those bytes, but the words
@@ -154,24 +193,42 @@ pub fn read<S: Source>(alloc: Global, source: &mut S) -> Result<Image, Fault>
     ensures end { IsReadOut (S.left source.new) result }
     ensures marks { S.failed source.new ≡ input_mark (S.failed source.old) result }
 {
-    let (front, words) = read_parts(alloc, source)?;
-    image_of(alloc, front, words)
+    read_within(alloc, Limits::Specified, source)
 }
 
-/// As `read`, with the stale words taken for null: a root or a slot that references no object is none of
-/// the faults. Returns the image with null in them, and what they were.
+/// As `read`, within these limits.
+///
+/// # Errors
+///
+/// Those of `read`.
+pub fn read_within<S: Source>(alloc: Global, limits: Limits, source: &mut S) -> Result<Image, Fault>
+    ensures ok { IfOk result (λ i. HoldsOfLeft (S.left source.old) (λ xs. IsTextWithin limits xs i)) }
+    ensures err { IfErr result (λ e. (e ≡ Fault.Device Device.Input) ⊎ HoldsOfLeft (S.left source.old) (λ xs. MayFailWithin limits xs e)) }
+    ensures end { IsReadOut (S.left source.new) result }
+    ensures marks { S.failed source.new ≡ input_mark (S.failed source.old) result }
+{
+    let (front, words) = read_parts(alloc, limits, source)?;
+    image_of(alloc, limits, front, words)
+}
+
+/// As `read_within`, with the stale words taken for null: a root or a slot that references no object is none
+/// of the faults. Returns the image with null in them, and what they were.
 ///
 /// # Errors
 ///
 /// Those of `read`, except `Fault::Reference`.
-pub fn read_stale<S: Source>(alloc: Global, source: &mut S) -> Result<(Image, Stale), Fault>
-    ensures ok { IfOk result (λ x. HoldsOfLeft (S.left source.old) (λ xs. IsTextWithout xs x.0 x.1.roots.items x.1.slots.items)) }
-    ensures err { IfErr result (λ e. (e ≡ Fault.Device Device.Input) ⊎ HoldsOfLeft (S.left source.old) (λ xs. (e ≡ Fault.Memory) ⊎ FaultWithout xs e)) }
+pub fn read_stale<S: Source>(
+    alloc: Global,
+    limits: Limits,
+    source: &mut S,
+) -> Result<(Image, Stale), Fault>
+    ensures ok { IfOk result (λ x. HoldsOfLeft (S.left source.old) (λ xs. IsTextWithout limits xs x.0 x.1.roots.items x.1.slots.items)) }
+    ensures err { IfErr result (λ e. (e ≡ Fault.Device Device.Input) ⊎ HoldsOfLeft (S.left source.old) (λ xs. (e ≡ Fault.Memory) ⊎ FaultWithout limits xs e)) }
     ensures end { IsReadOut (S.left source.new) result }
     ensures marks { S.failed source.new ≡ input_mark (S.failed source.old) result }
 {
-    let (front, words) = read_parts(alloc, source)?;
-    image_without(alloc, front, words)
+    let (front, words) = read_parts(alloc, limits, source)?;
+    image_without(alloc, limits, front, words)
 }
 
 /// As `read`, with this many workers at most. One if it is 0.
@@ -194,6 +251,26 @@ pub fn read_by<S: Source>(
     ensures end { IsReadOut (S.left source.new) result }
     ensures marks { S.failed source.new ≡ input_mark (S.failed source.old) result }
 {
-    let (front, words) = read_parts(alloc, source)?;
-    image_of_by(rt, alloc, front, words, workers)
+    read_by_within(rt, alloc, Limits::Specified, source, workers)
+}
+
+/// As `read_by`, within these limits.
+///
+/// # Errors
+///
+/// Those of `read`.
+pub fn read_by_within<S: Source>(
+    rt: &(impl Threads + Sync),
+    alloc: Global,
+    limits: Limits,
+    source: &mut S,
+    workers: u64,
+) -> Result<Image, Fault>
+    ensures ok { IfOk result (λ i. HoldsOfLeft (S.left source.old) (λ xs. IsTextWithin limits xs i)) }
+    ensures err { IfErr result (λ e. (e ≡ Fault.Device Device.Input) ⊎ HoldsOfLeft (S.left source.old) (λ xs. MayFailWithin limits xs e)) }
+    ensures end { IsReadOut (S.left source.new) result }
+    ensures marks { S.failed source.new ≡ input_mark (S.failed source.old) result }
+{
+    let (front, words) = read_parts(alloc, limits, source)?;
+    image_of_by(rt, alloc, limits, front, words, workers)
 }

@@ -1,7 +1,7 @@
 ghost use Rattle.std.specs.Prelude.{◌≡◌, ◌<◌, ◌*◌, ◌^◌, ◌⊎◌, ℕ, List, All, length, map, OnOk, IfOk, IfErr};
 ghost use Rattle.g1_words.specs.Words.{AreLaid};
-ghost use Rattle.g1_image.specs.Image.{IsTextOf, region_of_entry};
-ghost use Rattle.g1_image.specs.Faults.{MayFail, IsGoodHeading, IsGoodHeap, TableFault, AreKnown};
+ghost use Rattle.g1_image.specs.Image.{IsTextWithin, region_of_entry};
+ghost use Rattle.g1_image.specs.Faults.{MayFailWithin, IsGoodHeading, IsGoodHeap, TableFault, AreKnown};
 ghost use Rattle.g1_image.specs.Plain.{heap_of_parts};
 ghost use Rattle.g1_image.specs.Front.{IsLaidOut, IsReachedBy};
 ghost use Rattle.g1_image.specs.Drafted.{IsDraftOf};
@@ -16,19 +16,20 @@ use crate::image::Image;
 use crate::stale::{Stale, heap_without, stale_words};
 use crate::starts::shaped_starts;
 use crate::table::{check_flags, regions};
-use g1_words::{Fault, Geometry, Heap, Words};
+use g1_words::{Fault, Geometry, Heap, Limits, Words};
 use std::alloc::Global;
 use std::thread::Threads;
 
-/// The heap in a file, before it is checked.
+/// The heap in a file whose heading is within these limits, before it is checked.
 fn draft_heap(
     alloc: Global,
+    limits: Limits,
     h: &Heading,
     table: &[Entry],
     roots: Vec<u64>,
     words: Words,
 ) -> Result<Draft, Fault>
-    requires good { IsGoodHeading h.now }
+    requires good { IsGoodHeading limits h.now }
     requires table { length table.now ≡ h.now.n }
     requires roots { length roots.items ≡ h.now.roots }
     requires words { length words.items ≡ h.now.n * h.now.w }
@@ -40,7 +41,7 @@ fn draft_heap(
 {
     let regions = regions(alloc, table)?;
     check_flags(table)?;
-    let geometry = Geometry::new(u64::from(h.w), u64::from(h.k), u64::from(h.n))?;
+    let geometry = Geometry::within(limits, u64::from(h.w), u64::from(h.k), u64::from(h.n))?;
     let current = if h.current < h.n {
         Some(h.current)
     } else {
@@ -64,11 +65,16 @@ struct DraftImage {
 }
 
 /// The image in a whole file's front and words, before it is checked.
-fn draft_image(alloc: Global, front: Front, words: Words) -> Result<DraftImage, Fault>
-    requires text { (bytes : List ℕ) × IsLaidOut bytes front words.items }
+fn draft_image(
+    alloc: Global,
+    limits: Limits,
+    front: Front,
+    words: Words,
+) -> Result<DraftImage, Fault>
+    requires text { (bytes : List ℕ) × IsLaidOut limits bytes front words.items }
     requires laid { IsReachedBy front words.laid }
-    ensures ok { IfOk result (λ d. (bytes : List ℕ) → IsLaidOut bytes front words.items → IsDraftOf bytes d) }
-    ensures err { IfErr result (λ e. (bytes : List ℕ) → IsLaidOut bytes front words.items → MayFail bytes e) }
+    ensures ok { IfOk result (λ d. (bytes : List ℕ) → IsLaidOut limits bytes front words.items → IsDraftOf limits bytes d) }
+    ensures err { IfErr result (λ e. (bytes : List ℕ) → IsLaidOut limits bytes front words.items → MayFailWithin limits bytes e) }
     ensures stage { IfErr result (λ e. (e ≡ Fault.Memory) ⊎ TableFault front.table.items front.heading.n e) }
 {
     let Front {
@@ -79,7 +85,7 @@ fn draft_image(alloc: Global, front: Front, words: Words) -> Result<DraftImage, 
         log,
         remembered,
     } = front;
-    let draft = draft_heap(alloc, &heading, &table, roots, words)?;
+    let draft = draft_heap(alloc, limits, &heading, &table, roots, words)?;
     Ok(DraftImage {
         draft,
         log,
@@ -90,9 +96,9 @@ fn draft_image(alloc: Global, front: Front, words: Words) -> Result<DraftImage, 
 /// The image of a draft whose heap is good, or the first fault of its cards.
 fn finish(alloc: Global, drafted: DraftImage) -> Result<Image, Fault>
     requires good { IsGoodHeap drafted.draft }
-    requires text { (bytes : List ℕ) × IsDraftOf bytes drafted }
-    ensures ok { IfOk result (λ i. (bytes : List ℕ) → IsDraftOf bytes drafted → IsTextOf bytes i) }
-    ensures err { IfErr result (λ e. (bytes : List ℕ) → IsDraftOf bytes drafted → MayFail bytes e) }
+    requires text { (limits : Limits) × (bytes : List ℕ) × IsDraftOf limits bytes drafted }
+    ensures ok { IfOk result (λ i. (limits : Limits) (bytes : List ℕ) → IsDraftOf limits bytes drafted → IsTextWithin limits bytes i) }
+    ensures err { IfErr result (λ e. (limits : Limits) (bytes : List ℕ) → IsDraftOf limits bytes drafted → MayFailWithin limits bytes e) }
 {
     let log = check_cards(alloc, &drafted.draft, &drafted.log, &drafted.remembered)?;
     let DraftImage {
@@ -114,14 +120,19 @@ fn finish(alloc: Global, drafted: DraftImage) -> Result<Image, Fault>
     })
 }
 
-/// The image of a whole file's front and words.
-pub(crate) fn image_of(alloc: Global, front: Front, words: Words) -> Result<Image, Fault>
-    requires text { (bytes : List ℕ) × IsLaidOut bytes front words.items }
+/// The image of the front and the words of a whole file within these limits.
+pub(crate) fn image_of(
+    alloc: Global,
+    limits: Limits,
+    front: Front,
+    words: Words,
+) -> Result<Image, Fault>
+    requires text { (bytes : List ℕ) × IsLaidOut limits bytes front words.items }
     requires laid { IsReachedBy front words.laid }
-    ensures ok { IfOk result (λ i. (bytes : List ℕ) → IsLaidOut bytes front words.items → IsTextOf bytes i) }
-    ensures err { IfErr result (λ e. (bytes : List ℕ) → IsLaidOut bytes front words.items → MayFail bytes e) }
+    ensures ok { IfOk result (λ i. (bytes : List ℕ) → IsLaidOut limits bytes front words.items → IsTextWithin limits bytes i) }
+    ensures err { IfErr result (λ e. (bytes : List ℕ) → IsLaidOut limits bytes front words.items → MayFailWithin limits bytes e) }
 {
-    let drafted = draft_image(alloc, front, words)?;
+    let drafted = draft_image(alloc, limits, front, words)?;
     check_heap(alloc, &drafted.draft)?;
     finish(alloc, drafted)
 }
@@ -130,16 +141,17 @@ pub(crate) fn image_of(alloc: Global, front: Front, words: Words) -> Result<Imag
 pub(crate) fn image_of_by(
     rt: &(impl Threads + Sync),
     alloc: Global,
+    limits: Limits,
     front: Front,
     words: Words,
     workers: u64,
 ) -> Result<Image, Fault>
-    requires text { (bytes : List ℕ) × IsLaidOut bytes front words.items }
+    requires text { (bytes : List ℕ) × IsLaidOut limits bytes front words.items }
     requires laid { IsReachedBy front words.laid }
-    ensures ok { IfOk result (λ i. (bytes : List ℕ) → IsLaidOut bytes front words.items → IsTextOf bytes i) }
-    ensures err { IfErr result (λ e. (bytes : List ℕ) → IsLaidOut bytes front words.items → MayFail bytes e) }
+    ensures ok { IfOk result (λ i. (bytes : List ℕ) → IsLaidOut limits bytes front words.items → IsTextWithin limits bytes i) }
+    ensures err { IfErr result (λ e. (bytes : List ℕ) → IsLaidOut limits bytes front words.items → MayFailWithin limits bytes e) }
 {
-    let drafted = draft_image(alloc, front, words)?;
+    let drafted = draft_image(alloc, limits, front, words)?;
     check_heap_by(rt, alloc, &drafted.draft, workers)?;
     finish(alloc, drafted)
 }
@@ -147,15 +159,16 @@ pub(crate) fn image_of_by(
 /// The image of a whole file's front and words, with null in its stale words, and what these were.
 pub(crate) fn image_without(
     alloc: Global,
+    limits: Limits,
     front: Front,
     words: Words,
 ) -> Result<(Image, Stale), Fault>
-    requires text { (bytes : List ℕ) × IsLaidOut bytes front words.items }
+    requires text { (bytes : List ℕ) × IsLaidOut limits bytes front words.items }
     requires laid { IsReachedBy front words.laid }
-    ensures ok { IfOk result (λ x. (bytes : List ℕ) → IsLaidOut bytes front words.items → IsTextWithout bytes x.0 x.1.roots.items x.1.slots.items) }
-    ensures err { IfErr result (λ e. (bytes : List ℕ) → IsLaidOut bytes front words.items → (e ≡ Fault.Memory) ⊎ FaultWithout bytes e) }
+    ensures ok { IfOk result (λ x. (bytes : List ℕ) → IsLaidOut limits bytes front words.items → IsTextWithout limits bytes x.0 x.1.roots.items x.1.slots.items) }
+    ensures err { IfErr result (λ e. (bytes : List ℕ) → IsLaidOut limits bytes front words.items → (e ≡ Fault.Memory) ⊎ FaultWithout limits bytes e) }
 {
-    let drafted = draft_image(alloc, front, words)?;
+    let drafted = draft_image(alloc, limits, front, words)?;
     let marks = shaped_starts(alloc, &drafted.draft)?;
     let log = check_cards(alloc, &drafted.draft, &drafted.log, &drafted.remembered)?;
     let stale = stale_words(alloc, &drafted.draft, &marks)?;

@@ -48,7 +48,9 @@ mod writing;
 
 pub use copying::{copy, with_dirty};
 pub use cursor::{Entry, Heading, MAGIC, Version};
-pub use decoding::{decode, read, read_by, read_stale};
+pub use decoding::{
+    decode, decode_stale, decode_within, read, read_by, read_by_within, read_stale, read_within,
+};
 pub use encoding::{encode, write};
 pub use file_parts::{FileParts, encode_parts};
 pub use front::Front;

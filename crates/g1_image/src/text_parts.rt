@@ -1,6 +1,6 @@
 //! The parts of bytes that need not be the text of an image.
 ghost use Rattle.std.specs.Prelude.{IfOk};
-ghost use Rattle.g1_image.specs.Faults.{FaultOf};
+ghost use Rattle.g1_image.specs.Faults.{FaultWithin};
 ghost use Rattle.g1_image.specs.TextParts.{ArePartsIn};
 
 use crate::ahead::Ahead;
@@ -8,7 +8,7 @@ use crate::cursor::{Cursor, Heading, Version};
 use crate::decoding::{is_of_bytes, take_parts};
 use crate::front::{Front, read_front};
 use crate::source::Nothing;
-use g1_words::{Fault, Words};
+use g1_words::{Fault, Limits, Words};
 use std::alloc::{AllocError, Global};
 
 /// What bytes have: all parts of a file, or those in front of the one that a fault ends.
@@ -30,15 +30,19 @@ pub enum TextParts<'a> {
 /// # Errors
 ///
 /// `AllocError` if a request for memory was refused.
-pub fn parts_of<'a>(alloc: Global, bytes: &'a [u8]) -> Result<TextParts<'a>, AllocError>
-    ensures { IfOk result (ArePartsIn bytes.now) }
+pub fn parts_of<'a>(
+    alloc: Global,
+    limits: Limits,
+    bytes: &'a [u8],
+) -> Result<TextParts<'a>, AllocError>
+    ensures { IfOk result (ArePartsIn limits bytes.now) }
 {
     let mut text = Ahead::Whole(Cursor::new(bytes));
-    match take_parts(alloc, &mut Nothing, &mut text) {
+    match take_parts(alloc, limits, &mut Nothing, &mut text) {
         Ok((front, words)) => Ok(TextParts::Whole(front, words)),
         Err(fault) => {
             if is_of_bytes(&fault) {
-                return parts_before(alloc, bytes, fault);
+                return parts_before(alloc, limits, bytes, fault);
             }
             Err(AllocError)
         }
@@ -48,13 +52,14 @@ pub fn parts_of<'a>(alloc: Global, bytes: &'a [u8]) -> Result<TextParts<'a>, All
 /// The parts in front of the one that a fault ends.
 fn parts_before<'a>(
     alloc: Global,
+    limits: Limits,
     bytes: &'a [u8],
     fault: Fault,
 ) -> Result<TextParts<'a>, AllocError>
-    requires { FaultOf bytes.now fault }
-    ensures { IfOk result (ArePartsIn bytes.now) }
+    requires { FaultWithin limits bytes.now fault }
+    ensures { IfOk result (ArePartsIn limits bytes.now) }
 {
-    match read_front(alloc, bytes) {
+    match read_front(alloc, limits, bytes) {
         Ok((front, rest)) => Ok(TextParts::Front(front, rest, fault)),
         Err(Fault::Memory) => Err(AllocError),
         Err(_) => Ok(heading_before(bytes, fault)),
@@ -63,8 +68,7 @@ fn parts_before<'a>(
 
 /// The heading, if it is there, of bytes that have this fault.
 fn heading_before<'a>(bytes: &'a [u8], fault: Fault) -> TextParts<'a>
-    requires { FaultOf bytes.now fault }
-    ensures { ArePartsIn bytes.now result }
+    ensures { (limits : Limits) → FaultWithin limits bytes.now fault → ArePartsIn limits bytes.now result }
 {
     let mut cursor = Cursor::new(bytes);
     let Ok(version) = cursor.magic() else {

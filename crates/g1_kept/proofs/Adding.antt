@@ -1,7 +1,8 @@
 -- A walk to which a pair is added is a walk.
-use Rattle.std.proofs.Common.{◌≡◌, ℕ, suc, ◌+◌, ◌<◌, ◌≤◌, ◌^◌, ◌++◌, ◌⊎◌, inl, inr, List, [], ◌∷◌, length, set, Contains, IsTrue, refl, sym, ap, subst, ◌∙◌, arith, slice_index, Bool}
+use Rattle.std.proofs.Common.{◌≡◌, ℕ, suc, ◌+◌, ◌<◌, ◌≤◌, ◌++◌, ◌⊎◌, inl, inr, List, [], ◌∷◌, length, set, Contains, IsTrue, refl, sym, ap, subst, ◌∙◌, arith, slice_index, Bool}
 use Rattle.std.proofs.lemmas.Bool.{cases_lt}
 use Rattle.std.proofs.lemmas.List.{get_or_append_left, get_or_push, length_push, length-set}
+use Rattle.g1_words.specs.Geometry.{most_words}
 use Rattle.g1_words.specs.Heap.{Heap, object_at, objects}
 use Rattle.g1_words.specs.Survivors.{in_set}
 use Rattle.g1_words.specs.Valid.{IsValid}
@@ -26,7 +27,7 @@ pub few_pairs : (fill : Bool) (chosen : List ℕ) (g h : Heap) (w : Pairs) → I
 few_pairs fill chosen g h w valid walk = let k = index_few w.new_of.items w.before.items walk.index_before (before_within fill chosen g h w valid walk) in omega (arith, k, walk.table_before)
 
 -- so their places fit the tables
-pub pairs_fit : (fill : Bool) (chosen : List ℕ) (g h : Heap) (w : Pairs) → IsValid g → IsPairWalk fill chosen g h w → length w.before.items ≤ 2 ^ 24
+pub pairs_fit : (fill : Bool) (chosen : List ℕ) (g h : Heap) (w : Pairs) → IsValid g → IsPairWalk fill chosen g h w → length w.before.items ≤ most_words
 pairs_fit fill chosen g h w valid walk = let k = few_pairs fill chosen g h w valid walk in omega (arith, k, valid.word_count, valid.limits.words_most)
 
 pub record IsAdded (w v : Pairs) (a b : ℕ) : Type 0 where

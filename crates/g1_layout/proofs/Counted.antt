@@ -15,7 +15,7 @@ module _ (h : Heap) (l : List ℕ) where
   -- so many words have the first i survivors
   pub record Counted (i count : ℕ) : Type 0 where
     pub is : count ≡ sum_by size (take i l)
-    pub few : count ≤ i * 65536
+    pub few : count ≤ i * most_region_words
 
   pub Counted-start : Counted 0 0
   Counted-start = record { is = refl; few = omega arith }

@@ -43,7 +43,7 @@ module _ (h : Heap) where
 -- the first i survivors are laid, and the last of them ends here
 pub record Laying (h : Heap) (l : List ℕ) (i end : ℕ) : Type 0 where
   pub rest : laid_end h.geometry.w end (left_from h l i) ≡ laid_end h.geometry.w 0 (sizes_of h l)
-  pub near : end ≤ i * 131072
+  pub near : end ≤ i * (2 * most_region_words)
 
 pub Laying-start : (h : Heap) (l : List ℕ) → Laying h l 0 0
 Laying-start h l = record { rest = refl; near = omega arith }

@@ -79,7 +79,7 @@ module _ (h : Heap) (valid : IsValid h) where
       (λ o i. object_within h valid o (contains_has h o valid.shaped (of_heap r o lt i))) (omega arith) in
       omega (arith, k, valid.limits.words_most)
 
-  pub bytes_few : (test : ℕ → Bool) (r : ℕ) → r < h.geometry.n → bytes_where h test r ≤ 2 ^ 27
+  pub bytes_few : (test : ℕ → Bool) (r : ℕ) → r < h.geometry.n → bytes_where h test r ≤ 8 * most_words
   bytes_few test r lt = let k = sizes_few test r lt in omega (arith, k)
 
   module _ (a : ℕ) (object : Contains (objects h) (object_at h a)) where

@@ -2,6 +2,7 @@
 use Rattle.std.proofs.Common.{◌≡◌, ℕ, inl, inr, List, [], ◌∷◌, length, map, filter, Result, Ok, Err, refl}
 use Rattle.std.specs.Prelude.{slice_index}
 use Rattle.std.proofs.lemmas.Bool.{cases_lt}
+use Rattle.g1_words.specs.declared.limits.Limits.{Limits}
 use Rattle.g1_words.specs.declared.fault.Fault.{Fault}
 use Rattle.g1_words.specs.declared.fault.Fault.TheVariants.{Set, Room, Uncovered}
 use Rattle.g1_words.specs.Heap.{Heap, regions}
@@ -9,7 +10,7 @@ use Rattle.g1_words.specs.Lists.{has}
 use Rattle.g1_words.specs.Live.{IsLiveBytes, bytes_where}
 use Rattle.g1_words.specs.Layout.{need, free_regions}
 use Rattle.g1_words.specs.Valid.{IsValid}
-use Rattle.g1_image.specs.Image.{Image, IsTextOf, file_of}
+use Rattle.g1_image.specs.Image.{Image, IsTextWithin, file_of}
 use Rattle.g1_image.specs.declared.cursor.Version.TheVariants.{Two}
 use Rattle.g1_image.specs.Text.{file_text}
 use Rattle.g1_image.specs.Reading.{IsBytes}
@@ -19,7 +20,7 @@ use Rattle.g1_choose.specs.declared.parameters.Cost.{Cost}
 use Rattle.g1_mark.specs.Marked.{used}
 use Rattle.g1_pause.specs.declared.settings.Choice.{Choice}
 use Rattle.g1_pause.specs.declared.settings.Choice.TheVariants.{Budget, Given}
-use Rattle.g1_pause.specs.Answer.{IsSetFor, IsEvacuated, bad_set, no_room, done, IsAnswer, unread, not_covered, refused, written}
+use Rattle.g1_pause.specs.Answer.{IsSetFor, IsEvacuated, bad_set, no_room, done, IsAnswerWithin, unread, not_covered, refused, written}
 use Rattle.g1_words.proofs.Sound.{sound}
 use Rattle.g1_words.proofs.SurvivorsExist.{survivors_exist}
 use Rattle.g1_image.proofs.AlwaysOne.{always_one}
@@ -59,19 +60,19 @@ module _ (cost : Cost) (i : Image) (tracked : IsTracked i) where
     | inr bad ↦ (Err (Set (slice_index list.items bad.0)), bad_set (bad.0, bad.1, refl))
   ]
 
-module _ (cost : Cost) (choice : Choice) (bytes : List ℕ) where
-  told : (i : Image) → IsTextOf bytes i → uncovered i ≡ [] → (x : Result Image Fault) → IsEvacuated cost choice i x → (y : Result (List ℕ) Fault) × IsAnswer cost choice bytes y
+module _ (limits : Limits) (cost : Cost) (choice : Choice) (bytes : List ℕ) where
+  told : (i : Image) → IsTextWithin limits bytes i → uncovered i ≡ [] → (x : Result Image Fault) → IsEvacuated cost choice i x → (y : Result (List ℕ) Fault) × IsAnswerWithin limits cost choice bytes y
   told i t c (Err f) e = (Err f, refused t c e)
   told i t c (Ok j) e =
       let after = (evacuation_follows cost choice i j (record { image = t.1.0; covered = c }) e).tracked in
       (Ok (file_text (file_of Two j)), written t c e (after.image, tt, refl))
 
-  of_image : (i : Image) → IsTextOf bytes i → (slots : List ℕ) → uncovered i ≡ slots → (y : Result (List ℕ) Fault) × IsAnswer cost choice bytes y
+  of_image : (i : Image) → IsTextWithin limits bytes i → (slots : List ℕ) → uncovered i ≡ slots → (y : Result (List ℕ) Fault) × IsAnswerWithin limits cost choice bytes y
   of_image i t [] c = let e = evacuation_exists cost i (record { image = t.1.0; covered = c }) choice in told i t c e.0 e.1
   of_image i t (p ∷ ps) u = (Err (Uncovered p), not_covered t u)
 
-  pub answer_exists : IsBytes bytes → (y : Result (List ℕ) Fault) × IsAnswer cost choice bytes y
-  answer_exists are = elim (always_one bytes are) [
+  pub answer_exists : IsBytes bytes → (y : Result (List ℕ) Fault) × IsAnswerWithin limits cost choice bytes y
+  answer_exists are = elim (always_one limits bytes are) [
     | inl t ↦ of_image t.0 t.1 (uncovered t.0) refl
     | inr f ↦ (Err f.0, unread f.1)
   ]

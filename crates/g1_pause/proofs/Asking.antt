@@ -1,6 +1,7 @@
 -- Choices that ask for the same have the same answers.
 use Rattle.std.proofs.Common.{◌≡◌, ℕ, List, filter, Result, ◌∙◌, ap, subst}
 use Rattle.std.specs.Prelude.{slice_index}
+use Rattle.g1_words.specs.declared.limits.Limits.{Limits}
 use Rattle.g1_words.specs.declared.fault.Fault.{Fault}
 use Rattle.g1_words.specs.declared.fault.Fault.TheVariants.{Set}
 use Rattle.g1_words.specs.Heap.{Heap, regions}
@@ -10,7 +11,7 @@ use Rattle.g1_choose.specs.declared.parameters.Cost.{Cost}
 use Rattle.g1_choose.specs.Named.{AreTakeable, IsFirstBad}
 use Rattle.g1_pause.specs.declared.settings.Choice.{Choice}
 use Rattle.g1_pause.specs.declared.settings.Choice.TheVariants.{Budget, Given}
-use Rattle.g1_pause.specs.Answer.{AskTheSame, IsSetFor, FaultOfChoice, IsEvacuated, bad_set, no_room, done, IsAnswer, unread, not_covered, refused, written}
+use Rattle.g1_pause.specs.Answer.{AskTheSame, IsSetFor, FaultOfChoice, IsEvacuated, bad_set, no_room, done, IsAnswerWithin, unread, not_covered, refused, written}
 
 module _ (cost : Cost) where
   same_set : (i : Image) (c d : Choice) (set : List ℕ) → AskTheSame c d → IsSetFor cost i c set → IsSetFor cost i d set
@@ -29,8 +30,8 @@ module _ (cost : Cost) where
   same_evacuation i c d x e (no_room set l s v lt) = no_room set l (same_set i c d set e s) v lt
   same_evacuation i c d x e (done set l s v room moved) = done set l (same_set i c d set e s) v room moved
 
-  pub same_answer : (c d : Choice) (bytes : List ℕ) (x : Result (List ℕ) Fault) → AskTheSame c d → IsAnswer cost c bytes x → IsAnswer cost d bytes x
-  same_answer c d bytes x e (unread f) = unread f
-  same_answer c d bytes x e (not_covered t u) = not_covered t u
-  same_answer c d bytes x e (refused t u v) = refused t u (same_evacuation _ c d _ e v)
-  same_answer c d bytes x e (written t u v w) = written t u (same_evacuation _ c d _ e v) w
+  pub same_answer : (limits : Limits) (c d : Choice) (bytes : List ℕ) (x : Result (List ℕ) Fault) → AskTheSame c d → IsAnswerWithin limits cost c bytes x → IsAnswerWithin limits cost d bytes x
+  same_answer limits c d bytes x e (unread f) = unread f
+  same_answer limits c d bytes x e (not_covered t u) = not_covered t u
+  same_answer limits c d bytes x e (refused t u v) = refused t u (same_evacuation _ c d _ e v)
+  same_answer limits c d bytes x e (written t u v w) = written t u (same_evacuation _ c d _ e v) w

@@ -1,12 +1,13 @@
 -- What a pause gives follows from what it was given.
 use Rattle.std.proofs.Common.{ℕ, List, Ok, ap, ◌∙◌}
+use Rattle.g1_words.specs.declared.limits.Limits.{Limits}
 use Rattle.g1_words.specs.Layout.{HasRoom}
 use Rattle.g1_image.specs.Image.{Image}
 use Rattle.g1_image.specs.Cards.{IsTracked}
 use Rattle.g1_choose.specs.declared.parameters.Cost.{Cost}
 use Rattle.g1_pause.specs.declared.settings.Choice.{Choice}
-use Rattle.g1_pause.specs.Answer.{IsEvacuated, done, IsAnswer, written}
-use Rattle.g1_pause.specs.Follows.{Follows, TextFollows}
+use Rattle.g1_pause.specs.Answer.{IsEvacuated, done, IsAnswerWithin, written}
+use Rattle.g1_pause.specs.Follows.{Follows, TextFollowsWithin}
 use Rattle.g1_words.proofs.OneToOne.{forward_one_to_one}
 use Rattle.g1_words.proofs.Sound.{sound}
 use Rattle.g1_after.proofs.PausedLaws.{copies_paused, graph_stays, nothing_into_freed, objects_paused, tracked_paused}
@@ -35,8 +36,8 @@ evacuation_follows cost choice i j t (done set l s v room m) =
       processed = ap (λ (x : Image). x.log) m.freed ∙ m.moved.log;
     }
 
-pub answer_follows : (cost : Cost) (choice : Choice) (bytes out : List ℕ) → IsAnswer cost choice bytes (Ok out) → TextFollows cost choice bytes out
-answer_follows cost choice bytes out (written {i = i} {j = j} t c e o) = record {
+pub answer_follows : (limits : Limits) (cost : Cost) (choice : Choice) (bytes out : List ℕ) → IsAnswerWithin limits cost choice bytes (Ok out) → TextFollowsWithin limits cost choice bytes out
+answer_follows limits cost choice bytes out (written {i = i} {j = j} t c e o) = record {
   before = i;
   after = j;
   read = t;

@@ -1,12 +1,13 @@
 -- A choice has one set, an image one pause, bytes one answer.
 use Rattle.std.proofs.Common.{◌≡◌, ℕ, List, [], ◌∷◌, length, map, Result, Ok, Err, sym, ◌∙◌, ap, subst, arith}
 use Rattle.std.specs.Prelude.{slice_index}
+use Rattle.g1_words.specs.declared.limits.Limits.{Limits}
 use Rattle.g1_words.specs.declared.fault.Fault.{Fault}
 use Rattle.g1_words.specs.declared.fault.Fault.TheVariants.{Set, Room, Uncovered}
 use Rattle.g1_words.specs.Heap.{regions}
 use Rattle.g1_words.specs.Survivors.{Survivors, seeds, children}
 use Rattle.g1_words.specs.Layout.{need, free_regions}
-use Rattle.g1_image.specs.Image.{Image, IsTextIn, IsTextOf}
+use Rattle.g1_image.specs.Image.{Image, IsTextIn, IsTextWithin}
 use Rattle.g1_image.specs.declared.cursor.Version.TheVariants.{Two}
 use Rattle.g1_image.specs.Cards.{IsTracked, Covered, refined, uncovered}
 use Rattle.g1_after.specs.Paused.{Paused}
@@ -14,7 +15,7 @@ use Rattle.g1_choose.specs.declared.parameters.Cost.{Cost}
 use Rattle.g1_choose.specs.Choice.{IsChosen}
 use Rattle.g1_pause.specs.declared.settings.Choice.{Choice}
 use Rattle.g1_pause.specs.declared.settings.Choice.TheVariants.{Budget, Given}
-use Rattle.g1_pause.specs.Answer.{IsSetFor, FaultOfChoice, IsEvacuated, bad_set, no_room, done, IsAnswer, unread, not_covered, refused, written}
+use Rattle.g1_pause.specs.Answer.{IsSetFor, FaultOfChoice, IsEvacuated, bad_set, no_room, done, IsAnswerWithin, unread, not_covered, refused, written}
 use Rattle.g1_words.proofs.Unique.{breadth_first_unique}
 use Rattle.g1_words.proofs.LiveBytes.{live_bytes_unique}
 use Rattle.g1_after.proofs.PausedLaws.{one_image_after}
@@ -64,36 +65,36 @@ module _ (cost : Cost) (i : Image) where
     evacuated_unique choice x y (done s l {j = j} a b le mv) (done t m {j = j'} g v le' mv') =
         ap Ok (one_image_after i s j j' (l, b, mv) (subst (λ u. Paused i u j') (set_unique choice t s g a) (m, v, mv')))
 
-module _ (cost : Cost) (choice : Choice) (bytes : List ℕ) where
+module _ (limits : Limits) (cost : Cost) (choice : Choice) (bytes : List ℕ) where
   -- an image whose text the bytes are isn't covered where another one has an uncovered slot
-  no_cover : (i j : Image) (p : ℕ) (ps : List ℕ) → IsTextOf bytes i → IsTextOf bytes j → uncovered i ≡ p ∷ ps → Covered j → ⊥
+  no_cover : (i j : Image) (p : ℕ) (ps : List ℕ) → IsTextWithin limits bytes i → IsTextWithin limits bytes j → uncovered i ≡ p ∷ ps → Covered j → ⊥
   no_cover i j p ps t s u c =
-      let lists : (p ∷ ps) ≡ [] = sym u ∙ ap uncovered (one_image bytes i j t s) ∙ c in cc
+      let lists : (p ∷ ps) ≡ [] = sym u ∙ ap uncovered (one_image limits bytes i j t s) ∙ c in cc
 
   -- the pause of the one image gives one thing
-  one_pause : (i j : Image) (x y : Result Image Fault) → IsTextOf bytes i → IsTextOf bytes j → Covered i → IsEvacuated cost choice i x → IsEvacuated cost choice j y → x ≡ y
+  one_pause : (i j : Image) (x y : Result Image Fault) → IsTextWithin limits bytes i → IsTextWithin limits bytes j → Covered i → IsEvacuated cost choice i x → IsEvacuated cost choice j y → x ≡ y
   one_pause i j x y t s c e f =
-      evacuated_unique cost i (record { image = t.1.0; covered = c }) choice x y e (subst (λ k. IsEvacuated cost choice k y) (one_image bytes j i s t) f)
+      evacuated_unique cost i (record { image = t.1.0; covered = c }) choice x y e (subst (λ k. IsEvacuated cost choice k y) (one_image limits bytes j i s t) f)
 
-  pub answer_unique : (x y : Result (List ℕ) Fault) → IsAnswer cost choice bytes x → IsAnswer cost choice bytes y → x ≡ y
-  answer_unique x y (unread {f = f} a) (unread {f = g} b) = ap Err (one_fault bytes f g a b)
-  answer_unique x y (unread {f = f} a) (not_covered {i = i} t u) = absurd (no_fault bytes i f t a)
-  answer_unique x y (unread {f = f} a) (refused {i = i} t c e) = absurd (no_fault bytes i f t a)
-  answer_unique x y (unread {f = f} a) (written {i = i} t c e o) = absurd (no_fault bytes i f t a)
-  answer_unique x y (not_covered {i = i} t u) (unread {f = f} a) = absurd (no_fault bytes i f t a)
+  pub answer_unique : (x y : Result (List ℕ) Fault) → IsAnswerWithin limits cost choice bytes x → IsAnswerWithin limits cost choice bytes y → x ≡ y
+  answer_unique x y (unread {f = f} a) (unread {f = g} b) = ap Err (one_fault limits bytes f g a b)
+  answer_unique x y (unread {f = f} a) (not_covered {i = i} t u) = absurd (no_fault limits bytes i f t a)
+  answer_unique x y (unread {f = f} a) (refused {i = i} t c e) = absurd (no_fault limits bytes i f t a)
+  answer_unique x y (unread {f = f} a) (written {i = i} t c e o) = absurd (no_fault limits bytes i f t a)
+  answer_unique x y (not_covered {i = i} t u) (unread {f = f} a) = absurd (no_fault limits bytes i f t a)
   answer_unique x y (not_covered {i = i} {p = p} {ps = ps} t u) (not_covered {i = j} {p = q} {ps = qs} s v) =
-      let lists : (p ∷ ps) ≡ (q ∷ qs) = sym u ∙ ap uncovered (one_image bytes i j t s) ∙ v in
+      let lists : (p ∷ ps) ≡ (q ∷ qs) = sym u ∙ ap uncovered (one_image limits bytes i j t s) ∙ v in
       let first : p ≡ q = cc in
       ap (λ r. Err (Uncovered r)) first
   answer_unique x y (not_covered {i = i} {p = p} {ps = ps} t u) (refused {i = j} s c e) = absurd (no_cover i j p ps t s u c)
   answer_unique x y (not_covered {i = i} {p = p} {ps = ps} t u) (written {i = j} s c e o) = absurd (no_cover i j p ps t s u c)
-  answer_unique x y (refused {i = i} t c e) (unread {f = f} a) = absurd (no_fault bytes i f t a)
+  answer_unique x y (refused {i = i} t c e) (unread {f = f} a) = absurd (no_fault limits bytes i f t a)
   answer_unique x y (refused {i = j} s c e) (not_covered {i = i} {p = p} {ps = ps} t u) = absurd (no_cover i j p ps t s u c)
   answer_unique x y (refused {i = i} {f = f} t c e) (refused {i = j} {f = g} s d m) =
       let same : Err f ≡ Err g = one_pause i j (Err f) (Err g) t s c e m in let faults : f ≡ g = cc in ap Err faults
   answer_unique x y (refused {i = i} {f = f} t c e) (written {i = j} {j = k} s d m o) =
       let same : Err f ≡ Ok k = one_pause i j (Err f) (Ok k) t s c e m in cc
-  answer_unique x y (written {i = i} t c e o) (unread {f = f} a) = absurd (no_fault bytes i f t a)
+  answer_unique x y (written {i = i} t c e o) (unread {f = f} a) = absurd (no_fault limits bytes i f t a)
   answer_unique x y (written {i = j} s c e o) (not_covered {i = i} {p = p} {ps = ps} t u) = absurd (no_cover i j p ps t s u c)
   answer_unique x y (written {i = i} {j = k} t c e o) (refused {i = j} {f = g} s d m) =
       let same : Ok k ≡ Err g = one_pause i j (Ok k) (Err g) t s c e m in cc

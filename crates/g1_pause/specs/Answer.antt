@@ -1,5 +1,7 @@
 -- What a pause answers.
 use Rattle.std.specs.Prelude.{◌≡◌, ℕ, List, ◌∷◌, ◌≤◌, ◌<◌, map, filter, length, slice_index, Result, Ok, Err}
+use Rattle.g1_words.specs.declared.limits.Limits.{Limits}
+use Rattle.g1_words.specs.declared.limits.Limits.TheVariants.{Specified}
 use Rattle.g1_words.specs.declared.fault.Fault.{Fault}
 use Rattle.g1_words.specs.declared.fault.Fault.TheVariants.{Uncovered, Set, Room}
 use Rattle.g1_words.specs.Heap.{Heap, regions}
@@ -7,9 +9,9 @@ use Rattle.g1_words.specs.Lists.{has}
 use Rattle.g1_words.specs.Survivors.{Survivors}
 use Rattle.g1_words.specs.Live.{IsLiveBytes}
 use Rattle.g1_words.specs.Layout.{need, free_regions}
-use Rattle.g1_image.specs.Image.{Image, IsTextOf, IsTextIn}
+use Rattle.g1_image.specs.Image.{Image, IsTextWithin, IsTextIn}
 use Rattle.g1_image.specs.declared.cursor.Version.TheVariants.{Two}
-use Rattle.g1_image.specs.Faults.{FaultOf}
+use Rattle.g1_image.specs.Faults.{FaultWithin}
 use Rattle.g1_image.specs.Cards.{refined, uncovered, Covered}
 use Rattle.g1_after.specs.Paused.{IsPaused}
 use Rattle.g1_choose.specs.declared.parameters.Cost.{Cost}
@@ -44,10 +46,14 @@ pub data IsEvacuated (cost : Cost) (choice : Choice) (i : Image) : Result Image 
   done : (set l : List ℕ) {j : Image} → IsSetFor cost i choice set → Survivors i.heap set l → need i.heap l ≤ length (free_regions i.heap)
       → IsPaused i set l j → IsEvacuated cost choice i (Ok j)
 
--- THE ANSWER to bytes: the fault of bytes that are no image's text, else that of the lowest slot without cover, else what
--- the pause of the image gives, an image as its text of version 2
-pub data IsAnswer (cost : Cost) (choice : Choice) (bytes : List ℕ) : Result (List ℕ) Fault → Type 0 where
-  unread : {f : Fault} → FaultOf bytes f → IsAnswer cost choice bytes (Err f)
-  not_covered : {i : Image} {p : ℕ} {ps : List ℕ} → IsTextOf bytes i → uncovered i ≡ p ∷ ps → IsAnswer cost choice bytes (Err (Uncovered p))
-  refused : {i : Image} {f : Fault} → IsTextOf bytes i → Covered i → IsEvacuated cost choice i (Err f) → IsAnswer cost choice bytes (Err f)
-  written : {i j : Image} {out : List ℕ} → IsTextOf bytes i → Covered i → IsEvacuated cost choice i (Ok j) → IsTextIn Two out j → IsAnswer cost choice bytes (Ok out)
+-- THE ANSWER to bytes: the fault of bytes that are no image's text within these limits, else that of the lowest slot
+-- without cover, else what the pause of the image gives, an image as its text of version 2
+pub data IsAnswerWithin (limits : Limits) (cost : Cost) (choice : Choice) (bytes : List ℕ) : Result (List ℕ) Fault → Type 0 where
+  unread : {f : Fault} → FaultWithin limits bytes f → IsAnswerWithin limits cost choice bytes (Err f)
+  not_covered : {i : Image} {p : ℕ} {ps : List ℕ} → IsTextWithin limits bytes i → uncovered i ≡ p ∷ ps → IsAnswerWithin limits cost choice bytes (Err (Uncovered p))
+  refused : {i : Image} {f : Fault} → IsTextWithin limits bytes i → Covered i → IsEvacuated cost choice i (Err f) → IsAnswerWithin limits cost choice bytes (Err f)
+  written : {i j : Image} {out : List ℕ} → IsTextWithin limits bytes i → Covered i → IsEvacuated cost choice i (Ok j) → IsTextIn Two out j → IsAnswerWithin limits cost choice bytes (Ok out)
+
+-- the answer to bytes within the limits of the specification
+abbrev pub IsAnswer : Cost → Choice → List ℕ → Result (List ℕ) Fault → Type 0
+IsAnswer cost choice bytes r = IsAnswerWithin Specified cost choice bytes r

@@ -1,12 +1,14 @@
 -- What holds between an image and the image after its pause.
 use Rattle.std.specs.Prelude.{◌≡◌, ◌↔◌, ℕ, List, [], ◌++◌, map, Contains, IsFalse}
+use Rattle.g1_words.specs.declared.limits.Limits.{Limits}
+use Rattle.g1_words.specs.declared.limits.Limits.TheVariants.{Specified}
 use Rattle.g1_words.specs.declared.object.Object.{Object}
 use Rattle.g1_words.specs.Heap.{objects}
 use Rattle.g1_words.specs.References.{Ref, refs, root_targets}
 use Rattle.g1_words.specs.Survivors.{Survivors, in_set}
 use Rattle.g1_words.specs.Layout.{forward, kept}
 use Rattle.g1_words.specs.Moves.{moved_object}
-use Rattle.g1_image.specs.Image.{Image, IsTextOf, IsTextIn}
+use Rattle.g1_image.specs.Image.{Image, IsTextWithin, IsTextIn}
 use Rattle.g1_image.specs.declared.cursor.Version.TheVariants.{Two}
 use Rattle.g1_image.specs.Cards.{IsTracked}
 use Rattle.g1_words.specs.Copy.{renamed, IsCopy}
@@ -38,10 +40,14 @@ pub record Follows (cost : Cost) (choice : Choice) (i j : Image) : Type 0 where
   pub tracked : IsTracked j
   pub processed : j.log ≡ []
 
--- the texts of an image and of one that follows from it
-pub record TextFollows (cost : Cost) (choice : Choice) (bytes out : List ℕ) : Type 0 where
+-- the texts of an image within these limits and of one that follows from it
+pub record TextFollowsWithin (limits : Limits) (cost : Cost) (choice : Choice) (bytes out : List ℕ) : Type 0 where
   pub before : Image
   pub after : Image
-  pub read : IsTextOf bytes before
+  pub read : IsTextWithin limits bytes before
   pub written : IsTextIn Two out after
   pub follows : Follows cost choice before after
+
+-- the texts of an image within the limits of the specification and of one that follows from it
+abbrev pub TextFollows : Cost → Choice → List ℕ → List ℕ → Type 0
+TextFollows cost choice bytes out = TextFollowsWithin Specified cost choice bytes out

@@ -1,9 +1,9 @@
 ghost use Rattle.std.specs.Prelude.{◌≡◌, ◌≢◌, ◌⊎◌, ℕ, List, Ok, Err, Result, IfOk, IfErr};
 ghost use Rattle.g1_words.specs.declared.fault.Fault.{Fault as FaultOf};
 ghost use Rattle.g1_words.specs.declared.fault.Device.{Device as DeviceOf};
-ghost use Rattle.g1_image.specs.Image.{IsTextIn, IsTextOf};
+ghost use Rattle.g1_image.specs.Image.{IsTextIn, IsTextWithin};
 ghost use Rattle.g1_image.specs.declared.cursor.Version.TheVariants.{Two};
-ghost use Rattle.g1_pause.specs.Answer.{IsAnswer};
+ghost use Rattle.g1_pause.specs.Answer.{IsAnswer, IsAnswerWithin};
 ghost use Rattle.g1_pause.specs.Follows.{TextFollows};
 
 use crate::evacuating::evacuate;
@@ -11,7 +11,7 @@ use crate::laws;
 use crate::settings::Settings;
 use g1_image::{Image, decode, encode};
 use g1_rem::{Tracked, image, verify_by};
-use g1_words::Fault;
+use g1_words::{Fault, Limits};
 use g1_work::Gate;
 use std::alloc::Global;
 use std::thread::Threads;
@@ -24,8 +24,8 @@ pub(crate) fn run_pause<R: Threads + Sync, G: Gate + Sync>(
     settings: &Settings,
     gate: &G,
 ) -> Result<Tracked, Fault>
-    ensures answer { IfOk result (λ t. (bytes out : List ℕ) → IsTextOf bytes before → IsTextIn Two out t → IsAnswer settings.now.cost settings.now.choice bytes (Ok out)) }
-    ensures fault { IfErr result (λ e. (e ≡ Fault.Memory) ⊎ ((bytes : List ℕ) → IsTextOf bytes before → IsAnswer settings.now.cost settings.now.choice bytes (Err e))) }
+    ensures answer { IfOk result (λ t. (limits : Limits) (bytes out : List ℕ) → IsTextWithin limits bytes before → IsTextIn Two out t → IsAnswerWithin limits settings.now.cost settings.now.choice bytes (Ok out)) }
+    ensures fault { IfErr result (λ e. (e ≡ Fault.Memory) ⊎ ((limits : Limits) (bytes : List ℕ) → IsTextWithin limits bytes before → IsAnswerWithin limits settings.now.cost settings.now.choice bytes (Err e))) }
     ensures no_device { IfErr result (λ e. (d : DeviceOf) → e ≢ Fault.Device d) }
 {
     let tracked = match verify_by(rt, alloc, before, settings.workers()) {

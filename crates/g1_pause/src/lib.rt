@@ -38,6 +38,6 @@ pub use choosing::{Bought, CollectionSet, collection_set, count_live};
 pub use evacuating::evacuate;
 pub use g1_image::{FromReader, Sink, Source, ToWriter};
 pub use report::Report;
-pub use run_streams::pause_run;
+pub use run_streams::{pause_run, pause_run_within};
 pub use settings::{Choice, Settings};
 pub use steps::{Outcome, Steps, take_steps};

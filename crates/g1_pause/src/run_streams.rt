@@ -1,13 +1,13 @@
 //! A pause from a source to a sink.
 ghost use Rattle.std.specs.Prelude.{◌≡◌};
 ghost use Rattle.g1_image.specs.Source.{IsReadOut};
-ghost use Rattle.g1_pause.specs.Streams.{HoldsOfLeft, RunGives, input_mark, output_mark};
+ghost use Rattle.g1_pause.specs.Streams.{HoldsOfLeft, RunGives, RunGivesWithin, input_mark, output_mark};
 
 use crate::bytes::run_pause;
 use crate::settings::Settings;
-use g1_image::{Sink, Source, read_by, write};
+use g1_image::{Sink, Source, read_by_within, write};
 use g1_rem::image;
-use g1_words::Fault;
+use g1_words::{Fault, Limits};
 use g1_work::Gate;
 use std::alloc::Global;
 use std::thread::Threads;
@@ -34,7 +34,29 @@ pub fn pause_run<R: Threads + Sync, I: Source, O: Sink, G: Gate + Sync>(
     ensures input { I.failed reader.new ≡ input_mark (I.failed reader.old) result }
     ensures output { O.failed writer.new ≡ output_mark (O.failed writer.old) result }
 {
-    let before = read_by(rt, alloc, reader, settings.workers())?;
+    pause_run_within(rt, alloc, Limits::Specified, reader, writer, settings, gate)
+}
+
+/// As `pause_run`, within these limits.
+///
+/// # Errors
+///
+/// Those of `pause_run`.
+pub fn pause_run_within<R: Threads + Sync, I: Source, O: Sink, G: Gate + Sync>(
+    rt: &R,
+    alloc: Global,
+    limits: Limits,
+    reader: &mut I,
+    writer: &mut O,
+    settings: &Settings,
+    gate: &G,
+) -> Result<(), Fault>
+    ensures answer { HoldsOfLeft (I.left reader.old) (λ xs. RunGivesWithin limits settings.now.cost settings.now.choice xs (O.written writer.old) (O.written writer.new) result) }
+    ensures end { IsReadOut (I.left reader.new) result }
+    ensures input { I.failed reader.new ≡ input_mark (I.failed reader.old) result }
+    ensures output { O.failed writer.new ≡ output_mark (O.failed writer.old) result }
+{
+    let before = read_by_within(rt, alloc, limits, reader, settings.workers())?;
     match run_pause(rt, alloc, before, settings, gate) {
         Ok(after) => write(alloc, image(&after), writer),
         Err(fault) => Err(fault),

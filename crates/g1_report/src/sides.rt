@@ -1,8 +1,8 @@
 //! The heaps that are compared: those of images, or of lines of objects by name.
 use crate::comparing::Labels;
-use g1_image::{Image, Stale, decode};
+use g1_image::{Image, Stale, decode_within};
 use g1_text::{Graph, Wrong, read_graph};
-use g1_words::Fault;
+use g1_words::{Fault, Limits};
 use std::alloc::{AllocError, Global};
 use std::collections::HashMap;
 
@@ -87,7 +87,7 @@ pub fn open_stale<'a>(alloc: Global, image: Image, words: Stale, fault: Fault) -
 /// The first line that is not what is expected there, or the fault of the image of the lines.
 pub fn open_lines<'a>(alloc: Global, lines: &'a [u8]) -> Result<Side<'a>, Wrong> {
     let graph = read_graph(alloc, lines)?;
-    let image = match decode(alloc, graph.text.as_slice()) {
+    let image = match decode_within(alloc, Limits::Wide, graph.text.as_slice()) {
         Ok(image) => image,
         Err(fault) => return Err(Wrong::Fault(fault)),
     };

@@ -4,7 +4,7 @@ use crate::cards::rises;
 use crate::watch::{Watch, text_of};
 use g1_image::{FromReader, Image, Stale, ToWriter, copy, decode, read, read_stale, with_dirty};
 use g1_rem::{Tracked, image, merged, verify};
-use g1_words::{Fault, Heap, objects_in, pinned};
+use g1_words::{Fault, Heap, Limits, objects_in, pinned};
 use std::alloc::Global;
 use std::thread::Threads;
 
@@ -80,7 +80,7 @@ pub(crate) fn receive_stale<R>(call: &Call<'_, R>, watch: &mut Watch) -> Result<
 fn received_stale(alloc: Global, bytes: &[u8]) -> Result<(Image, Stale), Fault> {
     let mut reader = bytes;
     let mut source = FromReader::new(&mut reader);
-    read_stale(alloc, &mut source)
+    read_stale(alloc, Limits::Specified, &mut source)
 }
 
 /// A copy of the image of the bytes.

@@ -2,6 +2,7 @@
 use Rattle.std.proofs.Common.{ℕ, zero, suc, ◌+◌, ◌-◌, ◌*◌, ◌/◌, ◌<◌, ◌≤◌, ◌^◌, inl, inr, Bool, true, false, List, [], ◌∷◌, ◌++◌, length, get_or, drop, map, flat_map, refl, arith}
 use Rattle.std.specs.Prelude.{Option, Some, None, IfSome, decimal, codes, slice_index, nat_lt}
 use Rattle.std.proofs.Math.Nat.{mul-le-mul_left}
+use Rattle.g1_words.specs.Geometry.{most_words, most_region_words}
 use Rattle.g1_words.specs.Heap.{Heap, kind, top, pinned, regions, objects_in, objects_by, object_at, tiles, start, end}
 use Rattle.g1_words.specs.Kind.{kind_word}
 use Rattle.g1_words.specs.Valid.{IsObject, IsReference, IsValid}
@@ -64,7 +65,7 @@ module _ (i : Image) (good : IsImage i) where
   valid : IsValid i.heap
   valid = good.heap
 
-  few_words : i.heap.geometry.n * i.heap.geometry.w ≤ 2 ^ 24
+  few_words : i.heap.geometry.n * i.heap.geometry.w ≤ most_words
   few_words = valid.limits.words_most
 
   words_small : Small i.heap.words
@@ -88,7 +89,7 @@ module _ (i : Image) (good : IsImage i) where
   pub roots_small : Small i.heap.roots
   roots_small = small_all i.heap.roots (λ k d lt. reference_small (get_or i.heap.roots k d) (valid.roots k d lt))
 
-  pub top_small : (r : ℕ) → r < i.heap.geometry.n → top i.heap r ≤ 65536
+  pub top_small : (r : ℕ) → r < i.heap.geometry.n → top i.heap r ≤ most_region_words
   top_small r lt = let t = tops_fit i.heap valid r (record { kind = Free; top = 0; pinned = false }) (omega (arith, lt, valid.region_count)) in omega (arith, t, valid.limits.w_most)
 
   -- an object's numbers

@@ -2,10 +2,11 @@
 use Rattle.std.proofs.Common.{◌≡◌, ℕ, ◌<◌, false, List, [], ◌∷◌, length, get_or, map, sym, ◌∙◌, ap, subst, arith}
 use Rattle.std.specs.Prelude.{Option, Some, None, IfSome, All}
 use Rattle.std.proofs.lemmas.List.{get_or_default}
+use Rattle.g1_words.specs.declared.limits.Limits.TheVariants.{Wide}
 use Rattle.g1_image.specs.declared.cursor.Version.{Version}
 use Rattle.g1_image.specs.declared.cursor.Version.TheVariants.{One, Two}
 use Rattle.g1_image.specs.Text.{file_text}
-use Rattle.g1_image.specs.Image.{Image, IsTextIn, IsTextOf}
+use Rattle.g1_image.specs.Image.{Image, IsTextIn, IsTextWithin}
 use Rattle.g1_text.specs.declared.draft.Told.{Told}
 use Rattle.g1_text.specs.Content.{Content, Line, Root, Dirty, Numbers, Remembered, Holds, Takes, Says, SaysAll, CountsAgree, Agrees, file_with}
 use Rattle.g1_text.specs.Counted.{IsMadeOf}
@@ -25,7 +26,7 @@ second : (v : Version) (bytes : List ℕ) (i : Image) (c : Content) → bytes �
 second Two bytes i c e is = is
 second One bytes i c e is = let digits : 49 ≡ 50 = ap (λ xs. get_or xs 7 0) (sym is.2 ∙ e) in absurd (omega (arith, digits))
 
-pub made : (c : Content) (bytes : List ℕ) → Agrees c → bytes ≡ file_text (file_with c) → (i : Image) × IsTextOf bytes i → IsMadeOf c bytes
+pub made : (c : Content) (bytes : List ℕ) → Agrees c → bytes ≡ file_text (file_with c) → (i : Image) × IsTextWithin Wide bytes i → IsMadeOf c bytes
 made c bytes agrees numbers is = record { agrees = agrees; numbers = numbers; image = is.0; text = second is.1.0 bytes is.0 c numbers is.1.1 }
 
 -- no full line says that the remembered sets follow from the references

@@ -8,7 +8,7 @@ use Rattle.std.specs.Prelude.{not}
 use Rattle.std.specs.Str.{bytes_eq}
 use Rattle.std.proofs.lemmas.Bool.{false≢true}
 use Rattle.std.proofs.lemmas.Slice.Eq.{bytes_eq-Decides}
-use Rattle.g1_words.specs.Geometry.{IsWithinLimits}
+use Rattle.g1_words.specs.Geometry.{IsWithinBounds}
 use Rattle.g1_text.specs.Forms.{Form, Spells, IsBelow, IsDataWord, IsCurrentWord, Word, Single, Maybe, ◌▸◌, Number, Labelled, Current, Many, Abridges, Holding, Sizes, IsTarget, HasFront, HasFirst}
 
 pub read_one : (Sort : List ℕ → Type 0) {before left : List (List ℕ)} → HasFirst Sort before left → HasFront (Single Sort) before left
@@ -156,10 +156,10 @@ holding Sort null slots count given missing many {words = words} {new = new} {mi
     held Sort null slots count given missing many words new middle left told.0 told.1 fewer r.0 s.0 r.1 s.1 r.2.0 s.2.0 r.2.1 s.2.1 told.2
 
 -- W, K and N are those of a heap
-pub sizes_read : (w k n x y z : ℕ) {before left : List (List ℕ)} → (w ≡ x) × (k ≡ y) × (n ≡ z) → IsWithinLimits w k n
+pub sizes_read : (w k n x y z : ℕ) {before left : List (List ℕ)} → (w ≡ x) × (k ≡ y) × (n ≡ z) → IsWithinBounds w k n
     → HasFront (Single (Spells (2 ^ 64) x) ▸ Single (Spells (2 ^ 64) y) ▸ Single (Spells (2 ^ 64) z)) before left → HasFront Sizes before left
 sizes_read w k n x y z e limits r =
-    let within = subst (λ a. IsWithinLimits a y z) e.0 (subst (λ a. IsWithinLimits w a z) e.1 (subst (λ a. IsWithinLimits w k a) e.2 limits)) in
+    let within = subst (λ a. IsWithinBounds a y z) e.0 (subst (λ a. IsWithinBounds w a z) e.1 (subst (λ a. IsWithinBounds w k a) e.2 limits)) in
     (r.0, r.1, (x, y, z, within, r.2))
 
 -- a word that is not another one

@@ -1,6 +1,7 @@
 -- A text says at most one image.
 use Rattle.std.proofs.Common.{◌≡◌, ℕ, List, [], ◌∷◌, refl, sym, ◌∙◌, ap, subst}
 use Rattle.std.specs.Prelude.{Option, Some, None}
+use Rattle.g1_words.specs.declared.limits.Limits.TheVariants.{Wide}
 use Rattle.g1_image.specs.declared.cursor.Version.TheVariants.{Two}
 use Rattle.g1_image.specs.Text.{file_text}
 use Rattle.g1_image.specs.Image.{Image, file_of}
@@ -22,7 +23,8 @@ content_or d (Some c) = c
 
 -- what was read is the content of one image
 content_one : (c : Content) (i j : Image) → IsContentOf c i → IsContentOf c j → i ≡ j
-content_one c i j a b = one_image (file_text (file_of Two i)) i j (Two, (a.image, tt, refl)) (Two, (b.image, tt, ap file_text (sym a.same ∙ b.same)))
+content_one c i j a b = one_image Wide (file_text (file_of Two i)) i j (Two, (a.image, tt, refl), a.image.heap.limits)
+    (Two, (b.image, tt, ap file_text (sym a.same ∙ b.same)), b.image.heap.limits)
 
 -- A TEXT SAYS at most one image
 pub texts_say_one : TextsSayOne

@@ -1,6 +1,6 @@
 -- What lines say of an image, without the numbers of the lines.
 use Rattle.std.specs.Prelude.{◌≡◌, ◌≤◌, ◌<◌, ℕ, Bool, false, List, [], ◌∷◌, ◌++◌, ◌+◌, ◌-◌, ◌*◌, ◌^◌, Option, Some, None, length, map, min, replicate, decimal, codes, slice_index_or, set, unwrap_or, All, IsTrue, IfSome}
-use Rattle.g1_words.specs.Geometry.{Geometry, IsWithinLimits, most_roots}
+use Rattle.g1_words.specs.Geometry.{Geometry, IsWithinBounds, most_roots}
 use Rattle.g1_words.specs.Kind.{kind_word, MayHoldCards}
 use Rattle.g1_words.specs.Heap.{free_region}
 use Rattle.g1_words.specs.declared.region.Region.{Region}
@@ -166,7 +166,7 @@ pub record Begins (words : List (List ℕ)) (c : Content) : Type 0 where
   pub current : Option ℕ
   pub roots : ℕ
   pub dirty : ℕ
-  pub limits : IsWithinLimits geometry.w geometry.k geometry.n
+  pub limits : IsWithinBounds geometry.w geometry.k geometry.n
   pub region : IfSome current (λ r. r < 2 ^ 32)
   pub root_count : roots < 2 ^ 64
   pub dirty_count : dirty < 2 ^ 64

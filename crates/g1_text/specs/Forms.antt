@@ -3,7 +3,7 @@ use Rattle.std.specs.Prelude.{◌≡◌, ◌≢◌, ◌⊎◌, ◌<◌, ◌+◌,
 use lib.Ieee.{Float, binary64}
 use Rattle.std.specs.Str.Parse.{IsNumeral, digits_value}
 use Rattle.std.specs.Float.Parse.{parse_float}
-use Rattle.g1_words.specs.Geometry.{IsWithinLimits}
+use Rattle.g1_words.specs.Geometry.{IsWithinBounds}
 use Rattle.g1_words.specs.Kind.{kind_word}
 use Rattle.g1_words.specs.declared.region.Kind.{Kind}
 use Rattle.g1_words.specs.declared.region.Kind.TheVariants.{Ordinary}
@@ -112,7 +112,7 @@ Number = Single (IsBelow (2 ^ 64))
 
 -- the sizes of a heap: W K N
 abbrev pub Sizes : Form
-Sizes words = (w k n : ℕ) × IsWithinLimits w k n × (Single (Spells (2 ^ 64) w) ▸ Single (Spells (2 ^ 64) k) ▸ Single (Spells (2 ^ 64) n)) words
+Sizes words = (w k n : ℕ) × IsWithinBounds w k n × (Single (Spells (2 ^ 64) w) ▸ Single (Spells (2 ^ 64) k) ▸ Single (Spells (2 ^ 64) n)) words
 
 -- this word and a number behind it, or neither
 abbrev pub Labelled : List ℕ → Form

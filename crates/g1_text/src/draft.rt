@@ -1,6 +1,6 @@
 ghost use Rattle.std.specs.Prelude.{◌≡◌, ◌≤◌, ◌<◌, ◌^◌, ◌*◌, ◌+◌, ◌-◌, ◌++◌, [], ◌∷◌, List, Ok, map, length, replicate, IfOk};
 ghost use Rattle.g1_words.specs.declared.region.Region.{Region as RegionOf};
-ghost use Rattle.g1_words.specs.Geometry.{IsWithinLimits};
+ghost use Rattle.g1_words.specs.Geometry.{IsWithinBounds};
 ghost use Rattle.g1_text.specs.Content.{HasSpace, top_behind, beyond_behind};
 
 use crate::expected::{Expected, Refusal};
@@ -228,7 +228,7 @@ fn set_top(regions: &mut Vec<Region>, top: u32)
 // The address of the first word of a region.
 fn start_of(geometry: Geometry, region: usize) -> u64
     ensures value { region < 2 ^ 32 → result ≡ region * geometry.w }
-    ensures limits { IsWithinLimits geometry.w geometry.k geometry.n }
+    ensures limits { IsWithinBounds geometry.w geometry.k geometry.n }
 {
     geometry.start(u32::try_from(region).unwrap_or(u32::MAX))
 }

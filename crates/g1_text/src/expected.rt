@@ -88,7 +88,7 @@ impl Expected {
             Expected::NewName => "a name that no object above has",
             Expected::NamedRoot => "'-' or the name of an object",
             Expected::Holder => "one word behind 'as', which is neither '-' nor '..'",
-            Expected::Smaller => "objects that fit into a heap of 16777216 words",
+            Expected::Smaller => "objects that fit into a heap of 268435456 words",
             _ => "",
         }
     }

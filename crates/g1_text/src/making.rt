@@ -1,5 +1,5 @@
 ghost use Rattle.std.specs.Prelude.{◌≡◌, ℕ, List, None, Some, false, IfOk, IfErr, OnOk, MatchResult};
-ghost use Rattle.g1_image.specs.Image.{Image as ImageOf, IsImage, IsImageText, IsTextIn};
+ghost use Rattle.g1_image.specs.Image.{Image as ImageOf, IsImage, IsImageTextWithin, IsTextIn};
 ghost use Rattle.g1_image.specs.declared.cursor.Version.TheVariants.{Two};
 ghost use Rattle.g1_image.specs.Parts.{CountsFit};
 ghost use Rattle.g1_text.specs.Lines.{image_text};
@@ -16,7 +16,7 @@ use crate::expected::{Expected, Wrong};
 use crate::packing::{check_bytes, pack};
 use crate::reading::read;
 use crate::settling::settle;
-use g1_words::{Fault, Place, Stand};
+use g1_words::{Fault, Limits, Place, Stand};
 use std::alloc::Global;
 
 /// The bytes of the image that lines describe.
@@ -27,7 +27,7 @@ use std::alloc::Global;
 /// follows only from all lines, as a count or a reference to an object further down, is looked at
 /// when all have been read. `Fault::Memory` else.
 pub fn make(alloc: Global, text: &[u8]) -> Result<Vec<u8>, Wrong>
-    ensures image { IfOk result (λ v. IsImageText v.items) }
+    ensures image { IfOk result (λ v. IsImageTextWithin Limits.Wide v.items) }
     ensures fault { IfErr result IsLineOrMemory }
     ensures whole { (i : ImageOf) → IsImage i → text.now ≡ image_text i → MatchResult result (λ v. IsTextIn Two v.items i) (λ e. e ≡ Wrong.Fault Fault.Memory) }
     ensures says { (i : ImageOf) → SaysImage text.now i → MatchResult result (λ v. IsTextIn Two v.items i) (λ e. e ≡ Wrong.Fault Fault.Memory) }
@@ -40,7 +40,7 @@ pub fn make(alloc: Global, text: &[u8]) -> Result<Vec<u8>, Wrong>
 
 // Settles what was read, and packs it into bytes that are an image's.
 fn finish(alloc: Global, draft: &mut Draft) -> Result<Vec<u8>, Wrong>
-    ensures image { IfOk result (λ v. IsImageText v.items) }
+    ensures image { IfOk result (λ v. IsImageTextWithin Limits.Wide v.items) }
     ensures fault { IfErr result IsLineOrMemory }
     ensures text { (i : ImageOf) → IsContentOf (content draft.old) i → MatchResult result (λ v. IsTextIn Two v.items i) (λ e. e ≡ Wrong.Fault Fault.Memory) }
     ensures only { draft.old.covered ≡ false → CountsFit (file_with (content draft.old)) → IfOk result (λ v. IsMadeOf (content draft.old) v.items) }
@@ -52,7 +52,7 @@ fn finish(alloc: Global, draft: &mut Draft) -> Result<Vec<u8>, Wrong>
 }
 
 fn check_and_pack(alloc: Global, draft: &Draft) -> Result<Vec<u8>, Wrong>
-    ensures image { IfOk result (λ v. IsImageText v.items) }
+    ensures image { IfOk result (λ v. IsImageTextWithin Limits.Wide v.items) }
     ensures fault { IfErr result IsLineOrMemory }
     ensures text { (i : ImageOf) → IsContentOf (content draft.now) i → MatchResult result (λ v. IsTextIn Two v.items i) (λ e. e ≡ Wrong.Fault Fault.Memory) }
     ensures only { CountsFit (file_with (content draft.now)) → IfOk result (λ v. IsMadeOf (content draft.now) v.items) }

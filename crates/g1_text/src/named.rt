@@ -1,6 +1,6 @@
 //! Lines of objects by name, without regions and addresses.
 ghost use Rattle.std.specs.Prelude.{◌≡◌, ◌<◌, ◌↔◌, ◌-◌, ◌^◌, [], ◌∷◌, true, false, IsUtf8, map, codes, All, IsTrue, IfErr, IfOk, OnOk, MatchOption};
-ghost use Rattle.g1_image.specs.Image.{IsImageText};
+ghost use Rattle.g1_image.specs.Image.{IsImageTextWithin};
 ghost use Rattle.g1_text.specs.Reading.{words_in, says_something, parts_of, lines_in, AreGraphLines};
 ghost use Rattle.g1_text.specs.Forms.{GraphHeading, GraphLine, NamedRootLine, NamedObjectLine, HasMeaning, HasSize, IsTarget, IsName, IsDataWord, Sizes, Maybe, Single, Word, ◌▸◌, Many, Holding, HasFront};
 ghost use Rattle.g1_text.specs.Drafts.{is_begun, IsTaken, AreTaken};
@@ -16,7 +16,7 @@ use crate::reading::{
 };
 use crate::values::data_word;
 use crate::words::{Words, cut_words, size_and_slots};
-use g1_words::{Fault, Geometry, MOST_ROOTS, header_word};
+use g1_words::{Fault, Geometry, Limits, MOST_ROOTS, header_word};
 use std::alloc::{AllocError, Global};
 use std::collections::HashMap;
 use std::str;
@@ -112,7 +112,7 @@ fn fill<'a>(alloc: Global, draft: &mut Draft, lines: &Lines<'a>) -> Result<Graph
 ///
 /// As of `read_graph`, and then the number of the first line with a name that no object has.
 pub fn make_graph(alloc: Global, text: &[u8]) -> Result<Vec<u8>, Wrong>
-    ensures image { IfOk result (λ v. IsImageText v.items) }
+    ensures image { IfOk result (λ v. IsImageTextWithin Limits.Wide v.items) }
     ensures fault { IfErr result IsLineOrMemory }
     ensures known { OnOk result (HasMeaning GraphHeading GraphLine text.now) }
 {
@@ -293,7 +293,7 @@ fn all_sizes(told: &[&str]) -> Result<Option<HeapSizes>, Expected>
     }
     let told = sizes(&mut words)?;
     words.end()?;
-    match Geometry::new(told.w, told.k, told.n) {
+    match Geometry::within(Limits::Wide, told.w, told.k, told.n) {
         Ok(geometry) => {
             within_limits(&geometry);
             Ok(Some(told))
@@ -445,7 +445,7 @@ fn sizes_of(lines: &Lines<'_>) -> Result<Geometry, Expected>
     let Some(HeapSizes { w, k, n }) = lines.sizes else {
         return choose_sizes(entries);
     };
-    let Ok(geometry) = Geometry::new(w, k, n) else {
+    let Ok(geometry) = Geometry::within(Limits::Wide, w, k, n) else {
         return Err(Expected::Sizes);
     };
     let needed = regions_needed(&geometry, entries);

@@ -1,14 +1,14 @@
 ghost use Rattle.std.specs.Prelude.{◌≡◌, IfOk, IfErr, OnOk};
 ghost use Rattle.g1_image.specs.Text.{file_text};
-ghost use Rattle.g1_image.specs.Image.{IsImageText};
+ghost use Rattle.g1_image.specs.Image.{IsImageTextWithin};
 ghost use Rattle.g1_image.specs.Parts.{CountsFit};
-ghost use Rattle.g1_image.specs.Faults.{MayFail};
+ghost use Rattle.g1_image.specs.Faults.{MayFailWithin};
 ghost use Rattle.g1_text.specs.Content.{file_with};
 ghost use Rattle.g1_text.specs.Drafts.{content};
 
 use crate::draft::Draft;
-use g1_image::{FileParts, decode, encode_parts};
-use g1_words::Fault;
+use g1_image::{FileParts, decode_within, encode_parts};
+use g1_words::{Fault, Limits};
 use std::alloc::{AllocError, Global};
 
 /// Packs what was read into bytes, good or not.
@@ -28,10 +28,10 @@ pub(crate) fn pack(alloc: Global, draft: &Draft) -> Result<Vec<u8>, AllocError>
 
 /// Finds that bytes are those of an image.
 pub(crate) fn check_bytes(alloc: Global, bytes: &[u8]) -> Result<(), Fault>
-    ensures ok { OnOk result (IsImageText bytes.now) }
-    ensures err { IfErr result (MayFail bytes.now) }
+    ensures ok { OnOk result (IsImageTextWithin Limits.Wide bytes.now) }
+    ensures err { IfErr result (MayFailWithin Limits.Wide bytes.now) }
 {
-    match decode(alloc, bytes) {
+    match decode_within(alloc, Limits::Wide, bytes) {
         Ok(_) => Ok(()),
         Err(fault) => Err(fault),
     }

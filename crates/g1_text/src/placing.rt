@@ -1,6 +1,6 @@
 use crate::draft::Draft;
 use crate::expected::{Expected, Refusal};
-use g1_words::{Geometry, Kind};
+use g1_words::{Geometry, Kind, Limits};
 use std::alloc::AllocError;
 
 /// An object with a name: the line that says what is in it, and its address, which is 0 until it is placed.
@@ -20,10 +20,10 @@ const CARD_WORDS: u64 = 64;
 const LEAST_REGION_WORDS: u64 = 4096;
 
 /// The heap of the most regions of this many words, each limit being a power of two.
-fn widest(region_words: u64) -> Option<Geometry> {
+fn widest(limits: Limits, region_words: u64) -> Option<Geometry> {
     let mut widest = None;
     for doublings in 0..u64::BITS {
-        match Geometry::new(region_words, CARD_WORDS, 1 << doublings) {
+        match Geometry::within(limits, region_words, CARD_WORDS, 1 << doublings) {
             Ok(wider) => widest = Some(wider),
             Err(_) => break,
         }
@@ -31,25 +31,32 @@ fn widest(region_words: u64) -> Option<Geometry> {
     widest
 }
 
-/// The sizes of a heap for these objects: the smallest regions of which half stay free, or else the smallest ones that
-/// are enough.
+/// The sizes of a heap for these objects, within the specification's limits if they fit there.
 pub(crate) fn choose_sizes(entries: &[Entry<'_>]) -> Result<Geometry, Expected> {
+    if let Some(sizes) = smallest_within(Limits::Specified, entries) {
+        return Ok(sizes);
+    }
+    smallest_within(Limits::Wide, entries).ok_or(Expected::Smaller)
+}
+
+// The smallest regions of which half stay free, or else the smallest ones that are enough.
+fn smallest_within(limits: Limits, entries: &[Entry<'_>]) -> Option<Geometry> {
     let mut enough = None;
     for doublings in 0..u64::BITS {
         let region_words = LEAST_REGION_WORDS << doublings;
-        let Some(widest) = widest(region_words) else {
+        let Some(widest) = widest(limits, region_words) else {
             break;
         };
         let needed = regions_needed(&widest, entries);
         let roomy = needed.saturating_mul(2).max(2);
         if roomy <= widest.regions() {
-            return Geometry::new(region_words, CARD_WORDS, roomy).map_err(|_| Expected::Sizes);
+            return Geometry::within(limits, region_words, CARD_WORDS, roomy).ok();
         }
         if needed <= widest.regions() && enough.is_none() {
             enough = Some(widest);
         }
     }
-    enough.ok_or(Expected::Smaller)
+    enough
 }
 
 /// How many regions the objects take, as `place` lays them.

@@ -1,7 +1,7 @@
 ghost use Rattle.std.specs.Prelude.{◌≡◌, ◌⊎◌, ◌<◌, ◌+◌, ◌^◌, ℕ, Bool, List, [], ◌∷◌, ◌++◌, Option, None, Some, Ok, true, false, IsUtf8, length, map, replicate, decimal, codes, All, IsTrue, IfSome, IfOk, IfErr, OnOk, MatchOption, MatchResult};
 ghost use Rattle.g1_words.specs.declared.region.Kind.{Kind as KindOf};
 ghost use Rattle.g1_words.specs.declared.region.Region.{Region as RegionOf};
-ghost use Rattle.g1_words.specs.Geometry.{IsWithinLimits};
+ghost use Rattle.g1_words.specs.Geometry.{IsWithinBounds};
 ghost use Rattle.g1_words.specs.Kind.{kind_word};
 ghost use Rattle.g1_text.specs.Lines.{reference_word, current_word, cards_words, pinned_words};
 ghost use Rattle.std.specs.Option.{is_some};
@@ -14,7 +14,7 @@ ghost use Rattle.g1_text.specs.Refused.{IsLineOrMemory};
 use crate::draft::{Draft, Heading, Placed, Told};
 use crate::expected::{Expected, Refusal, Wrong};
 use crate::words::{Words, cut_words, size_and_slots};
-use g1_words::{Fault, Geometry, Kind, MOST_ROOTS, Region, header_word};
+use g1_words::{Fault, Geometry, Kind, Limits, MOST_ROOTS, Region, header_word};
 use memchr::memchr;
 use std::alloc::{AllocError, Global};
 use std::str;
@@ -147,16 +147,16 @@ fn begin(alloc: Global, first: &str, mut words: Words<'_>, line: u64) -> Result<
     }
     let told = sizes(&mut words)?;
     let (heading, current) = heading(words, line)?;
-    let Ok(geometry) = Geometry::new(told.w, told.k, told.n) else {
+    let Ok(geometry) = Geometry::within(Limits::Wide, told.w, told.k, told.n) else {
         return Err(Refusal::Expected(Expected::Sizes));
     };
     within_limits(&geometry);
     Draft::new(alloc, geometry, current, heading)
 }
 
-// The sizes of a heap are within its limits.
+// The sizes of a heap are within the bounds.
 pub(crate) fn within_limits(geometry: &Geometry)
-    ensures { IsWithinLimits geometry.now.w geometry.now.k geometry.now.n }
+    ensures { IsWithinBounds geometry.now.w geometry.now.k geometry.now.n }
 {
     let _ = geometry.region_words();
 }

@@ -60,7 +60,7 @@ replies_exist cost i (c ∷ cs) fits tracked =
 
 pub run_exists : RunExists
 run_exists cost g roots commands limits few fits =
-    let r = replies_exist cost (empty_image g roots) commands fits (start_tracked g roots limits few) in
+    let r = replies_exist cost (empty_image g roots) commands fits (start_tracked g roots limits.bounds few) in
     (r.0, record { plain = whole_traces cost g roots commands r.0 limits few fits r.1; heap = r.1 })
 
 -- ---- any bytes

@@ -8,7 +8,7 @@ use Rattle.std.proofs.lemmas.List.{get_or_default}
 use Rattle.std.proofs.lemmas.Map.Made.{IsDistinct-from_AllPairs}
 use Rattle.std.proofs.lemmas.Map.Steps.{length-le_from_distinct_below}
 use Rattle.std.proofs.Math.Nat.{mul-le-mul_left}
-use Rattle.g1_words.specs.Geometry.{Geometry, IsWithinLimits}
+use Rattle.g1_words.specs.Geometry.{Geometry, IsWithinBounds}
 use Rattle.g1_words.specs.declared.region.Kind.{Kind}
 use Rattle.g1_words.specs.declared.region.Kind.TheVariants.{Free, Ordinary, HumongousFirst, Continuation}
 use Rattle.g1_words.specs.Heap.{Heap, kind, region_of, card_of}
@@ -27,7 +27,7 @@ in_all : {A : Type 0} (P : A → Type 0) (xs : List A) → ((x : A) → In xs x 
 in_all P xs f k d lt = f (get_or xs k d) (In-from_contains xs (get_or xs k d) (k, lt, get_or_default xs k (get_or xs k d) d lt))
 
 -- distinct cards of a heap are few
-pub few_cards : (h : Heap) (cards : List ℕ) → IsWithinLimits h.geometry.w h.geometry.k h.geometry.n → All (IsUsedCard h) cards → AllPairs (λ c d. c ≢ d) cards → length cards < 2 ^ 32
+pub few_cards : (h : Heap) (cards : List ℕ) → IsWithinBounds h.geometry.w h.geometry.k h.geometry.n → All (IsUsedCard h) cards → AllPairs (λ c d. c ≢ d) cards → length cards < 2 ^ 32
 few_cards h cards limits used distinct =
     let below : (c : ℕ) → list_any (eqb c) cards ≡ true → c < h.geometry.n * h.geometry.w = λ c e.
     let u : c * h.geometry.k < h.geometry.n * h.geometry.w = (all_in (IsUsedCard h) cards used c (in_from_has cards c e)).in_heap in
@@ -65,7 +65,7 @@ module _ (i : Image) (p : ℕ) where
     | inr m ↦ inr (Contains-from_in (logged i p (suc b)) (card_of i.heap p) m)
   ]
 
-  module _ (valid : IsWithinLimits i.heap.geometry.w i.heap.geometry.k i.heap.geometry.n) (good : IsLog i.heap i.log) (used : IsUsedCard i.heap (card_of i.heap p)) where
+  module _ (valid : IsWithinBounds i.heap.geometry.w i.heap.geometry.k i.heap.geometry.n) (good : IsLog i.heap i.log) (used : IsUsedCard i.heap (card_of i.heap p)) where
     one_more : (In i.log (card_of i.heap p) → ⊥) → IsLog i.heap (i.log ++ card_of i.heap p ∷ [])
     one_more fresh =
         let c : ℕ = card_of i.heap p in

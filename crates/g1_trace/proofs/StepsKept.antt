@@ -4,7 +4,7 @@ use Rattle.std.proofs.Common.{arith, ltb, lit<, ◌∙◌}
 use Rattle.std.specs.Prelude.{⊤, Some, None}
 use Rattle.std.proofs.lemmas.List.{length-replicate}
 use Rattle.std.proofs.lemmas.List.FromFn.{length-map-range_with_len}
-use Rattle.g1_words.specs.Geometry.{Geometry, IsWithinLimits, most_roots}
+use Rattle.g1_words.specs.Geometry.{Geometry, IsWithinBounds, most_roots}
 use Rattle.g1_words.specs.declared.object.Object.{Object}
 use Rattle.g1_words.specs.declared.region.Region.{Region}
 use Rattle.g1_words.specs.Heap.{Heap, free_region, region, word, regions, objects_by, objects_in, objects, object_at, slots}
@@ -104,7 +104,7 @@ zeros_get zero r x = refl
 zeros_get (suc n) zero x = refl
 zeros_get (suc n) (suc r) x = zeros_get n r x
 
-module _ (g : Geometry) (roots : ℕ) (limits : IsWithinLimits g.w g.k g.n) (few : roots ≤ most_roots) where
+module _ (g : Geometry) (roots : ℕ) (limits : IsWithinBounds g.w g.k g.n) (few : roots ≤ most_roots) where
   all_free : (r : ℕ) → region (empty_image g roots).heap r ≡ free_region
   all_free r = zeros_get g.n r free_region
 
@@ -152,4 +152,4 @@ module _ (g : Geometry) (roots : ℕ) (limits : IsWithinLimits g.w g.k g.n) (few
   }
 
 pub whole_traces : WholeTraces
-whole_traces cost g roots commands replies limits few fits = whole_run cost step_keeps g roots commands replies fits (start_tracked g roots limits few)
+whole_traces cost g roots commands replies limits few fits = whole_run cost step_keeps g roots commands replies fits (start_tracked g roots limits.bounds few)

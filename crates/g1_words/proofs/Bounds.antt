@@ -4,7 +4,7 @@ use Rattle.std.proofs.lemmas.Bool.{cases_lt}
 use Rattle.std.proofs.lemmas.Nat.{pow-add}
 use Rattle.std.proofs.Math.Pow.{pow-lt}
 use Rattle.std.proofs.Math.Nat.{mul-le-mul_left, mul-sub, mul-div_cancel, mul-div-mul_right, div-div-eq-div-mul, div-lt_iff_lt-mul}
-use Rattle.g1_words.specs.Geometry.{IsWithinLimits}
+use Rattle.g1_words.specs.Geometry.{IsWithinBounds}
 use Rattle.g1_words.specs.declared.object.Object.{Object}
 use Rattle.g1_words.specs.declared.region.Kind.{Kind}
 use Rattle.g1_words.specs.declared.region.Kind.TheVariants.{Free, Ordinary, HumongousFirst, Continuation}
@@ -14,7 +14,7 @@ use Rattle.g1_words.proofs.Tiling.{Tiles-le, same_object}
 use Rattle.g1_words.proofs.Objects.{StandsIn, object_stands}
 
 -- a region has a whole number of cards
-pub cards_in_region : (w k n : ℕ) → IsWithinLimits w k n → (m : ℕ) × (w ≡ m * k)
+pub cards_in_region : (w k n : ℕ) → IsWithinBounds w k n → (m : ℕ) × (w ≡ m * k)
 cards_in_region w k n l =
     let a : ℕ = l.w_power.0 in
     let b : ℕ = l.k_power.0 in

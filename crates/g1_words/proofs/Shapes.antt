@@ -4,7 +4,7 @@ use Rattle.std.specs.Prelude.{All, Option, Some, None, IfSome}
 use Rattle.std.proofs.lemmas.Bool.{cases_lt}
 use Rattle.std.proofs.lemmas.List.{get_or_default, get_or_past}
 use Rattle.std.proofs.Math.Nat.{mul-le-mul_right}
-use Rattle.g1_words.specs.Geometry.{IsWithinLimits, most_roots}
+use Rattle.g1_words.specs.Geometry.{IsWithinBounds, most_roots}
 use Rattle.g1_words.specs.declared.object.Object.{Object}
 use Rattle.g1_words.specs.declared.region.Kind.{Kind}
 use Rattle.g1_words.specs.declared.region.Kind.TheVariants.{Free, Ordinary, HumongousFirst, Continuation}
@@ -43,7 +43,7 @@ IsBuiltBy h r Continuation = (first : ℕ) × (kind h first ≡ HumongousFirst) 
 
 -- the rules of a heap, told of the lists that are computed
 pub record IsBuilt (h : Heap) : Type 0 where
-  pub limits : IsWithinLimits h.geometry.w h.geometry.k h.geometry.n
+  pub limits : IsWithinBounds h.geometry.w h.geometry.k h.geometry.n
   pub word_count : length h.words ≡ h.geometry.n * h.geometry.w
   pub word_fits : (a : ℕ) → word h a < 2 ^ 64
   pub region_count : length h.regions ≡ h.geometry.n

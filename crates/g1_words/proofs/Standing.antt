@@ -8,16 +8,16 @@ use Rattle.g1_words.proofs.Indices.{range_bounds}
 use Rattle.g1_words.proofs.Members.{In, In-from_contains, flat_map_cases}
 use Rattle.g1_words.proofs.Shapes.{BeginsRun, IsBuilt, IsBuiltBy, IsPlain, IsTiled}
 use Rattle.g1_words.proofs.Sound.{IsSound}
-use Rattle.g1_words.specs.Geometry.{IsWithinLimits}
+use Rattle.g1_words.specs.Geometry.{IsWithinBounds}
 use Rattle.g1_words.specs.Heap.{Heap, end, kind, object_at, objects, objects_by, objects_in, region_of, regions, slots, top}
 use Rattle.g1_words.specs.declared.object.Object.{Object}
 use Rattle.g1_words.specs.declared.region.Kind.{Kind}
 use Rattle.g1_words.specs.declared.region.Kind.TheVariants.{Continuation, Free, HumongousFirst, Ordinary}
 
-pub width_positive : (w k n : ℕ) → IsWithinLimits w k n → 0 < w
+pub width_positive : (w k n : ℕ) → IsWithinBounds w k n → 0 < w
 width_positive w k n l = omega (arith, l.w_least)
 
-pub card_positive : (w k n : ℕ) → IsWithinLimits w k n → 0 < k
+pub card_positive : (w k n : ℕ) → IsWithinBounds w k n → 0 < k
 card_positive w k n l = omega (arith, l.k_least)
 
 -- ---- objects that fill a region

@@ -1,6 +1,6 @@
 -- The rules that a heap keeps. They speak of its objects as a relation: these objects stand end to end.
 use Rattle.std.specs.Prelude.{◌≡◌, ◌≤◌, ◌<◌, ℕ, ◌+◌, ◌-◌, ◌*◌, ◌^◌, ◌⊎◌, List, [], ◌∷◌, Some, length, min, slice_index, All, Contains, IfSome, IsTrue}
-use Rattle.g1_words.specs.Geometry.{IsWithinLimits, most_roots}
+use Rattle.g1_words.specs.Geometry.{IsWithinBounds, most_roots}
 use Rattle.g1_words.specs.Heap.{Heap, region, start, end}
 use Rattle.g1_words.specs.declared.object.Object.{Object}
 use Rattle.g1_words.specs.declared.region.Kind.{Kind}
@@ -88,7 +88,7 @@ MayBePinned h r = IsTrue (region h r).pinned → (region h r).kind ≡ Ordinary
 
 -- the rules of a heap
 pub record IsValid (h : Heap) : Type 0 where
-  pub limits : IsWithinLimits h.geometry.w h.geometry.k h.geometry.n
+  pub limits : IsWithinBounds h.geometry.w h.geometry.k h.geometry.n
   pub word_count : length h.words ≡ h.geometry.n * h.geometry.w
   pub word_fits : All (λ x. x < 2 ^ 64) h.words
   pub region_count : length h.regions ≡ h.geometry.n

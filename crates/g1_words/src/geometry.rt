@@ -1,16 +1,13 @@
-ghost use Rattle.std.specs.Prelude.{◌≡◌, ◌≤◌, ◌<◌, ◌*◌, ◌/◌, ◌^◌, ℕ, IfOk, IfErr, IsTrue, ◌↔◌};
-ghost use Rattle.g1_words.specs.Geometry.{IsWithinLimits};
+ghost use Rattle.std.specs.Prelude.{◌≡◌, ◌≤◌, ◌<◌, ◌*◌, ◌/◌, ◌^◌, ℕ, IfOk, IfErr, IfSome, IfNone, IsTrue, ◌↔◌};
+ghost use Rattle.g1_words.specs.Geometry.{IsWithinBounds, IsWithinLimits, IsWithin};
 ghost use Rattle.std.specs.Int.{IsPowerOfTwo, div_ceil};
 
 use crate::fault::Fault;
+use crate::limits::{Limits, MOST_REGION_WORDS, MOST_WORDS};
 use std::marker::Model;
 
 /// Regions of fewer words are no use even for examples that are followed by hand.
 const LEAST_REGION_WORDS: u64 = 16;
-
-/// 512 KiB, half of HotSpot's smallest region. Twice as many would leave room for 128 regions in the
-/// widest heap.
-const MOST_REGION_WORDS: u64 = 65_536;
 
 /// A table has one entry a card: cards of fewer words would make it as long as a good part of the heap.
 const LEAST_CARD_WORDS: u64 = 4;
@@ -20,10 +17,6 @@ const MOST_CARD_WORDS: u64 = 64;
 
 /// Twice the number of regions that HotSpot aims at. Tables have one entry a region.
 const MOST_REGIONS: u64 = 4_096;
-
-/// 2^24 words, or 128 MiB. The roots and twice the words are fewer than 2^32, so that each slot of a
-/// search has a number of 32 bits.
-const MOST_WORDS: u64 = 16_777_216;
 
 /// The sizes of a heap: words a region, words a card, and the number of regions.
 #[derive(Debug, PartialEq, Eq)]
@@ -49,13 +42,13 @@ fn is_power(x: u64) -> bool
 }
 
 impl Model for Geometry {
-    ghost use Rattle.g1_words.specs.Geometry.{Geometry as Sizes, IsWithinLimits};
+    ghost use Rattle.g1_words.specs.Geometry.{Geometry as Sizes, IsWithinBounds};
 
     ghost Value = { Sizes };
 
     ghost view = { λ g. record { w = g.w; k = g.k; n = g.n } };
 
-    ghost invariant = { λ g. IsWithinLimits g.w g.k g.n };
+    ghost invariant = { λ g. IsWithinBounds g.w g.k g.n };
 
     ghost inverse = { λ v. record { w = v.w; k = v.k; n = v.n } };
 }
@@ -69,7 +62,8 @@ impl Clone for Geometry {
 impl Copy for Geometry {}
 
 impl Geometry {
-    /// The geometry of `n` regions of `w` words, on which a card has `k` words.
+    /// The geometry of `n` regions of `w` words, on which a card has `k` words, within the limits of the
+    /// specification.
     ///
     /// # Errors
     ///
@@ -77,24 +71,55 @@ impl Geometry {
     /// most `w`, and `n` from 1 to 4,096 with at most 2^24 words in all.
     pub fn new(w: u64, k: u64, n: u64) -> Result<Geometry, Fault>
         ensures ok { IfOk result (λ g. (g.w ≡ w) × (g.k ≡ k) × (g.n ≡ n)) }
+        ensures limits { IfOk result (λ g. IsWithinLimits g.w g.k g.n) }
         ensures err { IfErr result (λ e. (e ≡ Fault.Geometry) × (IsWithinLimits w k n → ⊥)) }
     {
+        Geometry::within(Limits::Specified, w, k, n)
+    }
+
+    /// As `new`, within these limits.
+    ///
+    /// # Errors
+    ///
+    /// `Fault::Geometry`, as `new`, but the most words of a region and of the heap are those of the limits.
+    pub fn within(limits: Limits, w: u64, k: u64, n: u64) -> Result<Geometry, Fault>
+        ensures ok { IfOk result (λ g. (g.w ≡ w) × (g.k ≡ k) × (g.n ≡ n)) }
+        ensures limits { IfOk result (λ g. IsWithin limits g.w g.k g.n) }
+        ensures err { IfErr result (λ e. (e ≡ Fault.Geometry) × (IsWithin limits w k n → ⊥)) }
+    {
+        match Geometry::bounded(w, k, n) {
+            Some(geometry) => {
+                if w > limits.region_words() || n * w > limits.words() {
+                    return Err(Fault::Geometry);
+                }
+                Ok(geometry)
+            }
+            None => Err(Fault::Geometry),
+        }
+    }
+
+    // The geometry of these sizes, if they are within the bounds.
+    fn bounded(w: u64, k: u64, n: u64) -> Option<Geometry>
+        ensures some { IfSome result (λ g. (g.w ≡ w) × (g.k ≡ k) × (g.n ≡ n)) }
+        ensures bounds { IfSome result (λ g. IsWithinBounds w k n) }
+        ensures none { IfNone result (IsWithinBounds w k n → ⊥) }
+    {
         if !is_power(w) || w < LEAST_REGION_WORDS || w > MOST_REGION_WORDS {
-            return Err(Fault::Geometry);
+            return None;
         }
         if !is_power(k) || k < LEAST_CARD_WORDS || k > MOST_CARD_WORDS || k > w {
-            return Err(Fault::Geometry);
+            return None;
         }
         if n < 1 || n > MOST_REGIONS || n * w > MOST_WORDS {
-            return Err(Fault::Geometry);
+            return None;
         }
-        Ok(Geometry { w, k, n })
+        Some(Geometry { w, k, n })
     }
 
     /// The words of a region.
     pub fn region_words(&self) -> u64
         ensures value { result ≡ self.now.w }
-        ensures limits { IsWithinLimits self.now.w self.now.k self.now.n }
+        ensures limits { IsWithinBounds self.now.w self.now.k self.now.n }
     {
         self.w
     }
@@ -102,7 +127,7 @@ impl Geometry {
     /// The words of a card.
     pub fn card_words(&self) -> u64
         ensures value { result ≡ self.now.k }
-        ensures limits { IsWithinLimits self.now.w self.now.k self.now.n }
+        ensures limits { IsWithinBounds self.now.w self.now.k self.now.n }
     {
         self.k
     }
@@ -110,7 +135,7 @@ impl Geometry {
     /// The number of regions.
     pub fn regions(&self) -> u64
         ensures value { result ≡ self.now.n }
-        ensures limits { IsWithinLimits self.now.w self.now.k self.now.n }
+        ensures limits { IsWithinBounds self.now.w self.now.k self.now.n }
     {
         self.n
     }
@@ -118,7 +143,7 @@ impl Geometry {
     /// The number of words of the heap.
     pub fn words(&self) -> u64
         ensures value { result ≡ self.now.n * self.now.w }
-        ensures limits { IsWithinLimits self.now.w self.now.k self.now.n }
+        ensures limits { IsWithinBounds self.now.w self.now.k self.now.n }
     {
         self.n * self.w
     }
@@ -126,7 +151,7 @@ impl Geometry {
     /// The number of cards of the heap.
     pub fn cards(&self) -> u64
         ensures value { result ≡ self.now.n * self.now.w / self.now.k }
-        ensures limits { IsWithinLimits self.now.w self.now.k self.now.n }
+        ensures limits { IsWithinBounds self.now.w self.now.k self.now.n }
     {
         let words = self.words();
         words / self.k
@@ -135,7 +160,7 @@ impl Geometry {
     /// The address of the first word of a region, also of one past the heap's last.
     pub fn start(&self, region: u32) -> u64
         ensures value { result ≡ region * self.now.w }
-        ensures limits { IsWithinLimits self.now.w self.now.k self.now.n }
+        ensures limits { IsWithinBounds self.now.w self.now.k self.now.n }
     {
         u64::from(region) * self.w
     }
@@ -144,7 +169,7 @@ impl Geometry {
     pub fn words_of(&self, regions: u64) -> u64
         requires { regions * self.now.w < 2 ^ 64 }
         ensures value { result ≡ regions * self.now.w }
-        ensures limits { IsWithinLimits self.now.w self.now.k self.now.n }
+        ensures limits { IsWithinBounds self.now.w self.now.k self.now.n }
     {
         regions * self.w
     }
@@ -152,7 +177,7 @@ impl Geometry {
     /// The address of the first word of a card, also of one past the heap's last.
     pub fn card_start(&self, card: u32) -> u64
         ensures value { result ≡ card * self.now.k }
-        ensures limits { IsWithinLimits self.now.w self.now.k self.now.n }
+        ensures limits { IsWithinBounds self.now.w self.now.k self.now.n }
     {
         u64::from(card) * self.k
     }
@@ -160,7 +185,7 @@ impl Geometry {
     /// The number of the region that a card lies in, or would lie in.
     pub fn region_of_card(&self, card: u32) -> u64
         ensures value { result ≡ card * self.now.k / self.now.w }
-        ensures limits { IsWithinLimits self.now.w self.now.k self.now.n }
+        ensures limits { IsWithinBounds self.now.w self.now.k self.now.n }
     {
         over(self.card_start(card), self.w)
     }

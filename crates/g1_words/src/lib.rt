@@ -12,6 +12,7 @@ mod fault;
 mod geometry;
 mod heap;
 pub mod laws;
+mod limits;
 mod marks;
 mod object;
 mod region;
@@ -20,6 +21,7 @@ mod words;
 pub use fault::{Device, Fault, Place, Stand};
 pub use geometry::Geometry;
 pub use heap::{Heap, MOST_ROOTS, pinned};
+pub use limits::Limits;
 pub use marks::Marks;
 pub use object::{
     Object, card_of, data, header, header_word, object_at, objects_in, region_of, size_at, slots,

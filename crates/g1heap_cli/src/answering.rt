@@ -19,10 +19,10 @@ pub fn answer_file<T: Threads + Sync + Files, R: Read>(
     ask: &Ask,
     reader: &mut R,
 ) -> Result<Vec<u8>, Refusal> {
-    let source = find_source(rt, alloc, ask.image.as_str(), reader)?;
+    let source = find_source(rt, alloc, &ask.image, reader)?;
     let mut opened = source.open(rt, alloc)?;
     let mut heard = Heard::new(&mut opened);
-    match answer(rt, alloc, ask.question, &mut heard) {
+    match answer(rt, alloc, source.limits(), ask.question, &mut heard) {
         Ok(lines) => Ok(lines),
         Err(Fault::Device(device)) => {
             let fault = Fault::Device(device);
@@ -60,10 +60,17 @@ fn send_new<T: Threads + Sync + Files, R: Read, W: Write>(
     reader: &mut R,
     writer: &mut W,
 ) -> Result<(), Refusal> {
-    let source = find_collected(rt, alloc, rewrite.image.as_str(), reader)?;
+    let source = find_collected(rt, alloc, &rewrite.image, reader)?;
     let mut opened = source.open(rt, alloc)?;
     let mut heard = Heard::new(&mut opened);
-    match write_image(rt, alloc, &rewrite.wanted, &mut heard, writer) {
+    match write_image(
+        rt,
+        alloc,
+        source.limits(),
+        &rewrite.wanted,
+        &mut heard,
+        writer,
+    ) {
         Ok(()) => Ok(()),
         // It is no fault of the image's file.
         Err(Fault::Device(Device::Output)) => Err(Fault::Device(Device::Output).into()),

@@ -18,7 +18,7 @@ use g1_report::locate;
 use g1_tables::summary;
 use g1_text::{image_lines, is_graph, make, make_graph, object_line, region_lines};
 use g1_words::{Device, Fault, object_at};
-use g1heap_request::{NAME, Output, Part, Request, parse};
+use g1heap_request::{ImageFile, NAME, Output, Part, Request, parse};
 use std::alloc::{AllocError, Global};
 use std::io::{Read, Write};
 use std::rt::Files;
@@ -86,7 +86,7 @@ fn answer<T: Threads + Sync + Files, R: Read, W: Write>(
             hex,
             output,
         } => {
-            let printed = print_part(rt, alloc, image.as_str(), *part, reader)?;
+            let printed = print_part(rt, alloc, image, *part, reader)?;
             let printed = if *hex {
                 in_hexadecimal(alloc, printed)?
             } else {
@@ -128,14 +128,14 @@ struct Printed {
 fn print_part<T: Threads + Sync + Files, R: Read>(
     rt: &T,
     alloc: Global,
-    name: &str,
+    image: &ImageFile,
     part: Part,
     reader: &mut R,
 ) -> Result<Printed, Refusal> {
-    let source = find_source(rt, alloc, name, reader)?;
+    let source = find_source(rt, alloc, image, reader)?;
     match source.found(rt, alloc)? {
         Ok(image) => Ok(Printed {
-            text: Some(lines(rt, alloc, &image, name, part)?),
+            text: Some(lines(rt, alloc, &image, source.name(), part)?),
             refusal: None,
         }),
         Err(fault) => print_broken(rt, alloc, &source, part, fault),
@@ -151,10 +151,16 @@ fn print_broken<T: Files>(
 ) -> Result<Printed, Refusal> {
     let bytes = source.bytes(rt, alloc)?;
     let text = match part {
-        Part::Whole => broken_lines(alloc, bytes.as_slice(), fault)?,
+        Part::Whole => broken_lines(alloc, source.limits(), bytes.as_slice(), fault)?,
         _ => None,
     };
-    match of_bytes(alloc, source.name(), bytes.as_slice(), fault) {
+    match of_bytes(
+        alloc,
+        source.name(),
+        source.limits(),
+        bytes.as_slice(),
+        fault,
+    ) {
         // Memory ran out, so nothing is printed.
         Refusal::Fault(fault) => Err(Refusal::Fault(fault)),
         refusal => Ok(Printed {

@@ -23,7 +23,7 @@ pub fn explain_pause<T: Threads + Sync + Files, R: Read>(
     reader: &mut R,
 ) -> Result<(u8, String), Refusal> {
     let settings = settings_of(alloc, request)?;
-    let source = find_collected(rt, alloc, request.image.as_str(), reader)?;
+    let source = find_collected(rt, alloc, &request.image, reader)?;
     let image = source.image(rt, alloc)?;
     let mut map = Vec::new(alloc);
     let names = read_names(rt, alloc, &request.names, None, reader, &mut map)?;
@@ -78,8 +78,8 @@ pub fn explain_object<T: Threads + Sync + Files, R: Read>(
     request: &Why,
     reader: &mut R,
 ) -> Result<String, Refusal> {
-    let name = request.image.as_str();
-    let source = find_source(rt, alloc, name, reader)?;
+    let source = find_source(rt, alloc, &request.image, reader)?;
+    let name = source.name();
     let image = source.image(rt, alloc)?;
     check_object(alloc, name, &image, request.address)?;
     let mut map = Vec::new(alloc);

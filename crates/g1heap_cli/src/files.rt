@@ -2,9 +2,9 @@
 use crate::heard::Heard;
 use crate::refusal::{of_bytes, of_device, unopenable};
 use g1_command::{Refusal, read_all};
-use g1_image::{FromReader, Image, Stale, decode, read, read_stale};
+use g1_image::{FromReader, Image, Stale, decode_within, read_stale, read_within};
 use g1_text::is_graph;
-use g1_words::Fault;
+use g1_words::{Fault, Limits};
 use g1heap_request::STANDARD_STREAM;
 use std::alloc::Global;
 use std::fs;
@@ -49,26 +49,29 @@ pub enum SideContent {
     },
 }
 
-/// What is in a file, or what the reader gives. A file whose fault is a reference is opened once more, and
+/// What is in a file, or what the reader gives, within these limits. A file whose fault is a reference is opened once more, and
 /// read with its stale words taken for null; one whose fault is the magic is, since it may have lines behind
 /// comments.
 pub fn read_side<T: Files, R: Read>(
     rt: &T,
     alloc: Global,
     name: &str,
+    limits: Limits,
     reader: &mut R,
 ) -> Result<SideContent, Refusal> {
     if name == STANDARD_STREAM || !is_file(rt, name) {
         let bytes = read_bytes(rt, alloc, name, reader)?;
-        return found_in(alloc, name, bytes);
+        return found_in(alloc, name, limits, bytes);
     }
-    match read_once(rt, alloc, name)? {
+    match read_once(rt, alloc, name, limits)? {
         Ok(content) => Ok(content),
-        Err(Fault::Reference(place)) => read_stale_side(rt, alloc, name, Fault::Reference(place)),
+        Err(Fault::Reference(place)) => {
+            read_stale_side(rt, alloc, name, limits, Fault::Reference(place))
+        }
         // Lines may begin behind the bytes that were looked at, and the rule that is broken is found in all bytes.
         Err(_) => {
             let bytes = read_bytes(rt, alloc, name, reader)?;
-            found_in(alloc, name, bytes)
+            found_in(alloc, name, limits, bytes)
         }
     }
 }
@@ -78,14 +81,15 @@ fn read_stale_side<T: Files>(
     rt: &T,
     alloc: Global,
     name: &str,
+    limits: Limits,
     fault: Fault,
 ) -> Result<SideContent, Refusal> {
     let mut file = open_file(rt, alloc, name)?;
-    match without_stale(alloc, name, &mut file, fault)? {
+    match without_stale(alloc, name, limits, &mut file, fault)? {
         Some(content) => Ok(content),
         None => {
             let bytes = read_bytes(rt, alloc, name, &mut [].as_slice())?;
-            Err(of_bytes(alloc, name, bytes.as_slice(), fault))
+            Err(of_bytes(alloc, name, limits, bytes.as_slice(), fault))
         }
     }
 }
@@ -98,6 +102,7 @@ fn read_once<T: Files>(
     rt: &T,
     alloc: Global,
     name: &str,
+    limits: Limits,
 ) -> Result<Result<SideContent, Fault>, Refusal> {
     let mut file = open_file(rt, alloc, name)?;
     let head = read_whole(alloc, name, &mut file.by_ref().take(HEAD))?;
@@ -105,9 +110,9 @@ fn read_once<T: Files>(
     let mut whole = head.as_slice().chain(&mut heard);
     if is_graph(head.as_slice()) {
         let bytes = read_whole(alloc, name, &mut whole)?;
-        return Ok(Ok(found_in(alloc, name, bytes)?));
+        return Ok(Ok(found_in(alloc, name, limits, bytes)?));
     }
-    match read(alloc, &mut FromReader::new(whole)) {
+    match read_within(alloc, limits, &mut FromReader::new(whole)) {
         Ok(image) => Ok(Ok(SideContent::Image(image))),
         Err(Fault::Memory) => Err(Fault::Memory.into()),
         Err(Fault::Device(device)) => {
@@ -126,20 +131,25 @@ pub fn is_file<T: Files>(rt: &T, name: &str) -> bool {
 }
 
 // What is in bytes: lines of objects by name, or an image.
-fn found_in(alloc: Global, name: &str, bytes: Vec<u8>) -> Result<SideContent, Refusal> {
+fn found_in(
+    alloc: Global,
+    name: &str,
+    limits: Limits,
+    bytes: Vec<u8>,
+) -> Result<SideContent, Refusal> {
     if is_graph(bytes.as_slice()) {
         return Ok(SideContent::Lines(bytes));
     }
-    match decode(alloc, bytes.as_slice()) {
+    match decode_within(alloc, limits, bytes.as_slice()) {
         Ok(image) => Ok(SideContent::Image(image)),
         Err(Fault::Reference(place)) => {
             let fault = Fault::Reference(place);
-            match without_stale(alloc, name, &mut bytes.as_slice(), fault)? {
+            match without_stale(alloc, name, limits, &mut bytes.as_slice(), fault)? {
                 Some(content) => Ok(content),
-                None => Err(of_bytes(alloc, name, bytes.as_slice(), fault)),
+                None => Err(of_bytes(alloc, name, limits, bytes.as_slice(), fault)),
             }
         }
-        Err(fault) => Err(of_bytes(alloc, name, bytes.as_slice(), fault)),
+        Err(fault) => Err(of_bytes(alloc, name, limits, bytes.as_slice(), fault)),
     }
 }
 
@@ -147,11 +157,12 @@ fn found_in(alloc: Global, name: &str, bytes: Vec<u8>) -> Result<SideContent, Re
 fn without_stale<R: Read>(
     alloc: Global,
     name: &str,
+    limits: Limits,
     reader: &mut R,
     fault: Fault,
 ) -> Result<Option<SideContent>, Refusal> {
     let mut heard = Heard::new(reader);
-    match read_stale(alloc, &mut FromReader::new(&mut heard)) {
+    match read_stale(alloc, limits, &mut FromReader::new(&mut heard)) {
         Ok((image, stale)) => Ok(Some(SideContent::Stale {
             image,
             stale,

@@ -4,7 +4,7 @@ use g1_command::Refusal;
 use g1_image::{MAGIC, Stale};
 use g1_report::{Location, WrongNames};
 use g1_text::Wrong;
-use g1_words::{Device, Fault, Heap};
+use g1_words::{Device, Fault, Heap, Limits};
 use g1heap_request::{SET_TIP, names_regions};
 use std::alloc::{AllocError, Global};
 use std::fmt;
@@ -41,8 +41,8 @@ pub fn of_output(alloc: Global, reason: Option<Error>) -> Refusal {
 }
 
 /// The fault of bytes that are no image's, and the rule that they break.
-pub fn of_bytes(alloc: Global, name: &str, bytes: &[u8], fault: Fault) -> Refusal {
-    match rule_of_bytes(alloc, bytes, fault) {
+pub fn of_bytes(alloc: Global, name: &str, limits: Limits, bytes: &[u8], fault: Fault) -> Refusal {
+    match rule_of_bytes(alloc, limits, bytes, fault) {
         Ok(rule) => of_rule(alloc, name, fault, rule),
         Err(error) => error.into(),
     }
@@ -148,7 +148,7 @@ pub fn hint_on(alloc: Global, bytes: &[u8]) -> Result<Option<Hint>, AllocError> 
     if is_image(bytes) {
         return Ok(Some(Hint::Image));
     }
-    match rule_of_bytes(alloc, bytes, Fault::Magic)? {
+    match rule_of_bytes(alloc, Limits::Wide, bytes, Fault::Magic)? {
         Some(Broken::Look(Look::Empty | Look::Unknown)) => Ok(None),
         Some(Broken::Look(look)) => Ok(Some(Hint::Look(look))),
         _ => Ok(None),

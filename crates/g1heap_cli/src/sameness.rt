@@ -67,7 +67,7 @@ fn read_and_open<'a, T: Files, R: Read>(
     lines: &'a mut Vec<u8>,
 ) -> Result<Side<'a>, Refusal> {
     let alloc = job.alloc;
-    match read_side(job.rt, alloc, name, reader)? {
+    match read_side(job.rt, alloc, name, job.same.limits, reader)? {
         SideContent::Lines(bytes) => {
             *lines = bytes;
             match open_lines(alloc, lines.as_slice()) {

@@ -3,21 +3,20 @@ use crate::files::{is_file, open_file, read_bytes};
 use crate::heard::Heard;
 use crate::refusal::{of_bytes, of_device, of_file, of_heap, with_set_tip};
 use g1_command::Refusal;
-use g1_image::{FromReader, Image, read};
-use g1_words::Fault;
-use g1heap_request::STANDARD_STREAM;
+use g1_image::{FromReader, Image, read_within};
+use g1_words::{Fault, Limits};
+use g1heap_request::{ImageFile, STANDARD_STREAM};
 use std::alloc::Global;
 use std::io;
 use std::io::Read;
 use std::rt::Files;
 
-/// Where the bytes of an image are, by the name on the command line.
+/// Where the bytes of an image are, which is named on the command line.
 #[derive(Drop)]
-pub enum Source<'a> {
-    /// In a file.
-    File(&'a str),
-    /// Here: they came from standard input, or from what else is no file.
-    Kept { name: &'a str, bytes: Vec<u8> },
+pub struct Source<'a> {
+    image: &'a ImageFile,
+    /// Its bytes, if they came from standard input, or from what else is no file.
+    kept: Option<Vec<u8>>,
 }
 
 /// A source that is read.
@@ -36,55 +35,59 @@ impl<'s, F: Read> Read for Opened<'s, F> {
     }
 }
 
-/// The source of this name. What is no file is read to its end.
+/// The source of this image. What is no file is read to its end.
 pub fn find_source<'a, T: Files, R: Read>(
     rt: &T,
     alloc: Global,
-    name: &'a str,
+    image: &'a ImageFile,
     reader: &mut R,
 ) -> Result<Source<'a>, Refusal> {
-    if name != STANDARD_STREAM && is_file(rt, name) {
-        return Ok(Source::File(name));
-    }
-    let bytes = read_bytes(rt, alloc, name, reader)?;
-    Ok(Source::Kept { name, bytes })
+    let name = image.name.as_str();
+    let kept = if name != STANDARD_STREAM && is_file(rt, name) {
+        None
+    } else {
+        Some(read_bytes(rt, alloc, name, reader)?)
+    };
+    Ok(Source { image, kept })
 }
 
 /// The source of an image of which regions may be collected.
 pub fn find_collected<'a, T: Files, R: Read>(
     rt: &T,
     alloc: Global,
-    name: &'a str,
+    image: &'a ImageFile,
     reader: &mut R,
 ) -> Result<Source<'a>, Refusal> {
-    match find_source(rt, alloc, name, reader) {
+    match find_source(rt, alloc, image, reader) {
         Ok(source) => Ok(source),
-        Err(refusal) => Err(with_set_tip(alloc, name, refusal)),
+        Err(refusal) => Err(with_set_tip(alloc, image.name.as_str(), refusal)),
     }
 }
 
 impl<'a> Source<'a> {
     /// The name on the command line.
     pub fn name(&self) -> &'a str {
-        match self {
-            Source::File(name) => *name,
-            Source::Kept { name, .. } => *name,
-        }
+        self.image.name.as_str()
+    }
+
+    /// The limits within which it is read.
+    pub fn limits(&self) -> Limits {
+        self.image.limits
     }
 
     /// The source, to be read from its start on.
     pub fn open<T: Files>(&self, rt: &T, alloc: Global) -> Result<Opened<'_, T::File>, Refusal> {
-        match self {
-            Source::File(name) => Ok(Opened::File(open_file(rt, alloc, *name)?)),
-            Source::Kept { bytes, .. } => Ok(Opened::Kept(bytes.as_slice())),
+        match &self.kept {
+            None => Ok(Opened::File(open_file(rt, alloc, self.name())?)),
+            Some(bytes) => Ok(Opened::Kept(bytes.as_slice())),
         }
     }
 
     /// All its bytes.
     pub fn bytes<T: Files>(&self, rt: &T, alloc: Global) -> Result<Vec<u8>, Refusal> {
-        match self {
-            Source::File(name) => read_bytes(rt, alloc, *name, &mut [].as_slice()),
-            Source::Kept { bytes, .. } => Ok(bytes.as_slice().to_vec(alloc)?),
+        match &self.kept {
+            None => read_bytes(rt, alloc, self.name(), &mut [].as_slice()),
+            Some(bytes) => Ok(bytes.as_slice().to_vec(alloc)?),
         }
     }
 
@@ -92,7 +95,7 @@ impl<'a> Source<'a> {
     pub fn found<T: Files>(&self, rt: &T, alloc: Global) -> Result<Result<Image, Fault>, Refusal> {
         let mut opened = self.open(rt, alloc)?;
         let mut heard = Heard::new(&mut opened);
-        match read(alloc, &mut FromReader::new(&mut heard)) {
+        match read_within(alloc, self.limits(), &mut FromReader::new(&mut heard)) {
             Ok(image) => Ok(Ok(image)),
             Err(fault) if is_of_machine(fault) => {
                 Err(of_device(alloc, self.name(), fault, heard.reason()))
@@ -143,7 +146,7 @@ impl<'a> Source<'a> {
         fault: Fault,
     ) -> Result<Refusal, Refusal> {
         let bytes = self.bytes(rt, alloc)?;
-        Ok(of_bytes(alloc, self.name(), bytes.as_slice(), fault))
+        Ok(of_bytes(alloc, self.name(), self.limits(), bytes.as_slice(), fault))
     }
 }
 

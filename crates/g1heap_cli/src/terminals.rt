@@ -38,13 +38,13 @@ fn waiting_text(request: &Request) -> Option<&'static str> {
             return Some(IMAGE);
         }
         Request::Same(same) => (same.names.as_ref()?, NAMES),
-        Request::Print { image, .. } => (image, IMAGE),
+        Request::Print { image, .. } => (&image.name, IMAGE),
         Request::Make { lines, .. } => (lines, LINES),
-        Request::Explain(explain) => (&explain.image, IMAGE),
-        Request::Why(why) => (&why.image, IMAGE),
+        Request::Explain(explain) => (&explain.image.name, IMAGE),
+        Request::Why(why) => (&why.image.name, IMAGE),
         Request::Trace(trace) => (&trace.name, TRACE),
-        Request::Ask(ask) => (&ask.image, IMAGE),
-        Request::Rewrite(rewrite) => (&rewrite.image, IMAGE),
+        Request::Ask(ask) => (&ask.image.name, IMAGE),
+        Request::Rewrite(rewrite) => (&rewrite.image.name, IMAGE),
     };
     is_standard(name).then_some(text)
 }

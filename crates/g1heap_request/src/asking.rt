@@ -1,7 +1,7 @@
 //! What the values of `show`, `check`, `live`, `choose` and `pause` ask for.
-use crate::options::{Request, name_of, output_of, set_of};
+use crate::image_file::ImageFile;
+use crate::options::{Request, image_of, output_of, set_of};
 use crate::output::Output;
-use crate::usage as table;
 use clap::ArgMatches;
 use g1_answers::{
     CHUNK, NewImage, Question, REPACK as REPACK_OPTION, WORKERS, pause_of, question_of, sharing_of,
@@ -11,14 +11,12 @@ use g1_work::{MOST_CHUNK, MOST_WORKERS};
 use std::alloc::Global;
 
 // The arguments that are read here, as statics: a constant is checked again in each function that uses it.
-static IMAGE: Argument = table::IMAGE;
-
 static REPACK: Argument = REPACK_OPTION;
 
 /// A question of an image, which text answers.
 #[derive(Drop)]
 pub struct Ask {
-    pub image: String,
+    pub image: ImageFile,
     pub question: Question,
     pub output: Output,
 }
@@ -26,7 +24,7 @@ pub struct Ask {
 /// An image that is made of another one.
 #[derive(Drop)]
 pub struct Rewrite {
-    pub image: String,
+    pub image: ImageFile,
     pub wanted: NewImage,
     pub output: Output,
 }
@@ -40,7 +38,7 @@ pub fn asked_of(
     if let Some(wanted) = wanted_of(alloc, name, values)? {
         check_ranges(alloc, values)?;
         return Ok(Some(Request::Rewrite(Rewrite {
-            image: name_of(alloc, values, &IMAGE)?,
+            image: image_of(alloc, values)?,
             wanted,
             output: output_of(alloc, values)?,
         })));
@@ -50,7 +48,7 @@ pub fn asked_of(
     };
     check_ranges(alloc, values)?;
     Ok(Some(Request::Ask(Ask {
-        image: name_of(alloc, values, &IMAGE)?,
+        image: image_of(alloc, values)?,
         question,
         output: output_of(alloc, values)?,
     })))

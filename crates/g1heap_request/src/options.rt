@@ -1,5 +1,6 @@
 //! The command line.
 use crate::asking::{Ask, Rewrite, asked_of};
+use crate::image_file::ImageFile;
 use crate::output::{Output, STANDARD_STREAM};
 use crate::tips::with_tip;
 use crate::usage as table;
@@ -10,6 +11,7 @@ use g1_command::{
     Argument, Misuse, Refusal, cost_of, help_or_refusal, match_words, number, number_in,
     read_request, region, regions_in, required_number, tie,
 };
+use g1_words::Limits;
 use std::alloc::{AllocError, Global};
 
 /// What the words ask for.
@@ -21,7 +23,7 @@ pub enum Request {
     Same(Same),
     /// The lines of an image, or of a part of it.
     Print {
-        image: String,
+        image: ImageFile,
         part: Part,
         /// Whether data words are in hexadecimal.
         hex: bool,
@@ -47,7 +49,7 @@ pub enum Request {
 /// An object that is asked about, by its address.
 #[derive(Drop)]
 pub struct Why {
-    pub image: String,
+    pub image: ImageFile,
     pub address: u64,
     /// The file of the names that the program has for what is in the image.
     pub names: Option<String>,
@@ -77,7 +79,7 @@ pub struct ImageAfter {
 /// A pause to explain. At most one of budget and regions is here.
 #[derive(Drop)]
 pub struct Explain {
-    pub image: String,
+    pub image: ImageFile,
     pub cost: Cost,
     pub budget: Option<u64>,
     pub set: Vec<u32>,
@@ -93,6 +95,8 @@ pub struct Explain {
 pub struct Same {
     pub before: String,
     pub after: String,
+    /// The limits within which images are read.
+    pub limits: Limits,
     /// Whether the references of the second are to be covered.
     pub covered: bool,
     /// The regions of the second whose slots need no card.
@@ -146,6 +150,8 @@ static IMAGE: Argument = table::IMAGE;
 
 static IMAGE_AFTER: Argument = table::IMAGE_AFTER;
 
+static LIMITS: Argument = table::LIMITS;
+
 static LINES: Argument = table::LINES;
 
 static LIVE: Argument = table::LIVE;
@@ -197,6 +203,25 @@ pub(crate) fn name_of(
         alloc,
         values.get_str(argument.id).unwrap_or(STANDARD_STREAM),
     )
+}
+
+// The image that is read, which is on standard input if none is named.
+pub(crate) fn image_of(alloc: Global, values: &ArgMatches<'_>) -> Result<ImageFile, Misuse> {
+    Ok(ImageFile {
+        name: name_of(alloc, values, &IMAGE)?,
+        limits: limits_of(alloc, values)?,
+    })
+}
+
+fn limits_of(alloc: Global, values: &ArgMatches<'_>) -> Result<Limits, Misuse> {
+    match values.get_str(LIMITS.id) {
+        None | Some("wide") => Ok(Limits::Wide),
+        Some("specification") => Ok(Limits::Specified),
+        Some(_) => {
+            let message = "'--limits' is 'wide' or 'specification'";
+            Err(Misuse::Value(String::from_str(alloc, message)?))
+        }
+    }
 }
 
 fn name_if_given(
@@ -289,6 +314,7 @@ fn same_of(alloc: Global, values: &ArgMatches<'_>) -> Result<Request, Misuse> {
     Ok(Request::Same(Same {
         before: name_of(alloc, values, &BEFORE)?,
         after: name_of(alloc, values, &AFTER)?,
+        limits: limits_of(alloc, values)?,
         covered: values.get_flag(COVERED.id),
         young: young_of(alloc, values)?,
         set: set_of(alloc, values)?,
@@ -302,7 +328,7 @@ fn same_of(alloc: Global, values: &ArgMatches<'_>) -> Result<Request, Misuse> {
 
 fn explain_of(alloc: Global, values: &ArgMatches<'_>) -> Result<Request, Misuse> {
     Ok(Request::Explain(Explain {
-        image: name_of(alloc, values, &IMAGE)?,
+        image: image_of(alloc, values)?,
         cost: cost_of(alloc, values)?,
         budget: number(alloc, values, &BUDGET)?,
         set: set_of(alloc, values)?,
@@ -313,7 +339,7 @@ fn explain_of(alloc: Global, values: &ArgMatches<'_>) -> Result<Request, Misuse>
 }
 
 // The number of the command, and the file.
-fn image_of(alloc: Global, values: &ArgMatches<'_>) -> Result<Option<ImageAfter>, Misuse> {
+fn image_after_of(alloc: Global, values: &ArgMatches<'_>) -> Result<Option<ImageAfter>, Misuse> {
     let Some([number, file]) = values.get_strs(IMAGE_AFTER.id) else {
         return Ok(None);
     };
@@ -337,13 +363,13 @@ fn trace_of(alloc: Global, values: &ArgMatches<'_>) -> Result<Request, Misuse> {
         live: values.get_flag(LIVE.id),
         numbered: values.get_flag(NUMBERED.id),
         explain: values.get_flag(EXPLAINED.id),
-        image: image_of(alloc, values)?,
+        image: image_after_of(alloc, values)?,
     }))
 }
 
 fn print_of(alloc: Global, values: &ArgMatches<'_>) -> Result<Request, Misuse> {
     Ok(Request::Print {
-        image: name_of(alloc, values, &IMAGE)?,
+        image: image_of(alloc, values)?,
         part: part_of(alloc, values)?,
         hex: values.get_flag(HEX.id),
         output: output_of(alloc, values)?,
@@ -352,7 +378,7 @@ fn print_of(alloc: Global, values: &ArgMatches<'_>) -> Result<Request, Misuse> {
 
 fn why_of(alloc: Global, values: &ArgMatches<'_>) -> Result<Request, Misuse> {
     Ok(Request::Why(Why {
-        image: name_of(alloc, values, &IMAGE)?,
+        image: image_of(alloc, values)?,
         address: required_number(alloc, values, &ADDRESS)?,
         names: names_beside(alloc, values)?,
     }))

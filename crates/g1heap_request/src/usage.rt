@@ -181,21 +181,28 @@ static SHOW: Usage = Usage {
     name: "show",
     about: "Prints the regions of an image",
     after_help: AFTER_SHOW,
-    arguments: &[IMAGE_OR_INPUT, WORKERS, CHUNK_OF_REGIONS, REPACK, OUTPUT],
+    arguments: &[
+        IMAGE_OR_INPUT,
+        WORKERS,
+        CHUNK_OF_REGIONS,
+        REPACK,
+        LIMITS,
+        OUTPUT,
+    ],
 };
 
 static CHECK: Usage = Usage {
     name: "check",
     about: "Reports whether every reference into another region is covered",
     after_help: AFTER_CHECK,
-    arguments: &[IMAGE_OR_INPUT],
+    arguments: &[IMAGE_OR_INPUT, LIMITS],
 };
 
 static LIVE_BYTES: Usage = Usage {
     name: "live",
     about: "Prints the live bytes of each region",
     after_help: AFTER_LIVE,
-    arguments: &[IMAGE_OR_INPUT, WORKERS, CHUNK_OF_OBJECTS, OUTPUT],
+    arguments: &[IMAGE_OR_INPUT, WORKERS, CHUNK_OF_OBJECTS, LIMITS, OUTPUT],
 };
 
 static CHOOSE: Usage = Usage {
@@ -211,6 +218,7 @@ static CHOOSE: Usage = Usage {
         BYTE,
         WORKERS,
         CHUNK_OF_OBJECTS,
+        LIMITS,
         OUTPUT,
     ],
 };
@@ -229,6 +237,7 @@ static PAUSE: Usage = Usage {
         BYTE,
         WORKERS,
         CHUNK,
+        LIMITS,
         OUTPUT,
     ],
 };
@@ -248,6 +257,7 @@ static SAME: Usage = Usage {
         NAMES_AFTER,
         MOVED,
         ALL,
+        LIMITS,
     ],
 };
 
@@ -255,7 +265,7 @@ static PRINT: Usage = Usage {
     name: "print",
     about: "Prints an image as lines",
     after_help: AFTER_PRINT,
-    arguments: &[IMAGE_OR_INPUT, REGION, OBJECT, SUMMARY, HEX, OUTPUT],
+    arguments: &[IMAGE_OR_INPUT, REGION, OBJECT, SUMMARY, HEX, LIMITS, OUTPUT],
 };
 
 static MAKE: Usage = Usage {
@@ -279,6 +289,7 @@ static EXPLAIN: Usage = Usage {
         BYTE,
         MAP,
         NAMES_BEHIND,
+        LIMITS,
         OUTPUT,
     ],
 };
@@ -287,7 +298,7 @@ static WHY: Usage = Usage {
     name: "why",
     about: "Reports what keeps an object: the shortest path from a root, or a card",
     after_help: AFTER_WHY,
-    arguments: &[IMAGE, ADDRESS, NAMES_OF_PATH],
+    arguments: &[IMAGE, ADDRESS, NAMES_OF_PATH, LIMITS],
 };
 
 static TRACE: Usage = Usage {
@@ -401,6 +412,13 @@ pub const IMAGE: Argument = Argument {
 const IMAGE_OR_INPUT: Argument = Argument {
     default: &[STANDARD_STREAM],
     ..IMAGE
+};
+
+pub const LIMITS: Argument = Argument {
+    id: "limits",
+    values: &["LIMITS"],
+    help: "How large an image may be: 'wide', or as g1pause has it by 'specification' [default: wide]",
+    ..VALUE
 };
 
 pub const REGION: Argument = Argument {

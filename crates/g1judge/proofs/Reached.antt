@@ -1,11 +1,12 @@
 -- What the roots reach lies within the heap, and its words have 64 bits by far.
-use Rattle.std.proofs.Common.{◌≢◌, ℕ, ◌+◌, ◌*◌, ◌<◌, ◌≤◌, ◌^◌, List, [], ◌∷◌, ◌++◌, flat_map, length, get_or, Contains, sym, subst, arith}
+use Rattle.std.proofs.Common.{◌≢◌, ℕ, ◌+◌, ◌*◌, ◌<◌, ◌≤◌, List, [], ◌∷◌, ◌++◌, flat_map, length, get_or, Contains, sym, subst, arith}
 use Rattle.std.proofs.Math.Nat.{mul-le-mul_right}
 use Rattle.std.proofs.lemmas.Bool.Decides.{Decides-eqb}
 use Rattle.std.proofs.lemmas.List.Elements.{Contains-get_or}
 use Rattle.std.proofs.lemmas.List.Sums.{sum_by-le}
 use Rattle.std.proofs.lemmas.Map.Made.{IsDistinct-from_AllPairs}
 use Rattle.std.proofs.lemmas.Map.Steps.{length-le_from_distinct_below}
+use Rattle.g1_words.specs.Geometry.{most_words}
 use Rattle.g1_words.specs.Heap.{Heap, object_at}
 use Rattle.g1_words.specs.References.{root_targets, targets}
 use Rattle.g1_words.specs.Valid.{IsValid}
@@ -39,12 +40,12 @@ module _ (g h : Heap) (olds news : List ℕ) (valid : IsValid g) (r : IsRenaming
       (IsDistinct-from_AllPairs Decides-eqb olds (pairs_from_ordered (λ x y. x ≢ y) olds (differ olds distinct)))
       (λ q e. within q (Contains-from_in olds q (in_from_has olds q e)))
 
-  small : (i d : ℕ) → i < length olds → size (get_or olds i d) ≤ 2 ^ 24
+  small : (i d : ℕ) → i < length olds → size (get_or olds i d) ≤ most_words
   small i d lt = let o = fit (get_or olds i d) (Contains-get_or olds i d lt) in omega (arith, o.1, valid.word_count, valid.limits.words_most)
 
-  pub words_fit : words_of g olds ≤ 2 ^ 48
+  pub words_fit : words_of g olds ≤ most_words * most_words
   words_fit =
-      let sum = sum_by-le size (2 ^ 24) olds small in
-      let many : length olds ≤ 2 ^ 24 = omega (arith, few, valid.word_count, valid.limits.words_most) in
-      let product : length olds * 2 ^ 24 ≤ 2 ^ 24 * 2 ^ 24 = mul-le-mul_right (2 ^ 24) many in
+      let sum = sum_by-le size most_words olds small in
+      let many : length olds ≤ most_words = omega (arith, few, valid.word_count, valid.limits.words_most) in
+      let product : length olds * most_words ≤ most_words * most_words = mul-le-mul_right most_words many in
       omega (arith, sum, product)

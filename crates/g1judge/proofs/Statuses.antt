@@ -1,9 +1,10 @@
 -- The status of a verdict is exactly what the bytes are.
 use Rattle.std.proofs.Common.{◌≡◌, ◌⊎◌, ◌↔◌, ℕ, inl, inr, List, ◌∷◌, [], refl, sym, subst, ◌∙◌, arith, false}
+use Rattle.g1_words.specs.declared.limits.Limits.TheVariants.{Wide}
 use Rattle.g1_words.specs.Graph.{SameGraph}
 use Rattle.g1_words.specs.Valid.{IsValid}
 use Rattle.g1_image.specs.Cards.{Covered, uncovered}
-use Rattle.g1_image.specs.Image.{Image, IsTextOf, IsImageText}
+use Rattle.g1_image.specs.Image.{Image, IsTextWithin, IsImageTextWithin}
 use Rattle.g1_image.specs.Laws.{OneImage, NoFaultOfText}
 use Rattle.g1_choose.specs.Laws.{AcceptedNotBad}
 use Rattle.g1_choose.specs.Named.{AreTakeable}
@@ -17,17 +18,17 @@ other : {A : Type 0} (m n : ℕ) → (m ≡ n → ⊥) → (A → ⊥) → (m �
 other m n f g = ((λ e. absurd (f e)), λ a. absurd (g a))
 
 module _ (one : OneImage) (none : NoFaultOfText) where
-  no_fault : (bytes : List ℕ) → IsImageText bytes → HasFault bytes → ⊥
-  no_fault bytes t f = none bytes t.0 f.0 t.1 f.1
+  no_fault : (bytes : List ℕ) → IsImageTextWithin Wide bytes → HasFault bytes → ⊥
+  no_fault bytes t f = none Wide bytes t.0 f.0 t.1 f.1
 
-  neither : (before after : List ℕ) → IsImageText before → IsImageText after → HasFault before ⊎ HasFault after → ⊥
+  neither : (before after : List ℕ) → IsImageTextWithin Wide before → IsImageTextWithin Wide after → HasFault before ⊎ HasFault after → ⊥
   neither before after s t (inl f) = no_fault before s f
   neither before after s t (inr f) = no_fault after t f
 
   -- two readings of two texts are of the same images
   both : (before after : List ℕ) → ShowOneGraph before after → ShowTwoGraphs before after → ⊥
   both before after (g, h, s, t, same) (i, j, u, v, never) =
-      never (subst (λ z. SameGraph i.heap z.heap) (one after h j t v) (subst (λ z. SameGraph z.heap h.heap) (one before g i s u) same))
+      never (subst (λ z. SameGraph i.heap z.heap) (one Wide after h j t v) (subst (λ z. SameGraph z.heap h.heap) (one Wide before g i s u) same))
 
   pub pair_status : PairStatus
   pair_status before after Good j = absurd j
@@ -81,7 +82,7 @@ module _ (one : OneImage) (none : NoFaultOfText) where
   image_status bytes Memory j = inl refl
 
   one_cover : (bytes : List ℕ) → IsCoveredText bytes → IsBareText bytes → ⊥
-  one_cover bytes (i, t, covered) (j, u, bare) = bare (subst Covered (one bytes i j t u) covered)
+  one_cover bytes (i, t, covered) (j, u, bare) = bare (subst Covered (one Wide bytes i j t u) covered)
 
   bare_text : (bytes : List ℕ) (slot : ℕ) → JudgesCover bytes (Uncovered slot) → IsBareText bytes
   bare_text bytes slot (i, t, others, is) = (i, t, λ (c : uncovered i ≡ []). let e : [] ≡ slot ∷ others = sym c ∙ is in cc)
@@ -115,17 +116,17 @@ module _ (one : OneImage) (none : NoFaultOfText) where
   cover_status bytes (NoSet region) j = absurd j
   cover_status bytes Memory j = inl refl
 
-valid_of : (bytes : List ℕ) (i : Image) → IsTextOf bytes i → IsValid i.heap
-valid_of bytes i (v, text) = text.0.heap
+valid_of : (bytes : List ℕ) (i : Image) → IsTextWithin Wide bytes i → IsValid i.heap
+valid_of bytes i (v, text, within) = text.0.heap
 
 module _ (one : OneImage) (none : NoFaultOfText) (accepted : AcceptedNotBad) where
   -- an image that allows the set is no other one that does not
-  no_set : (before after set : List ℕ) (g : Image) → IsTextOf before g → AreTakeable g.heap set → ShowNoSet before after set → ⊥
-  no_set before after set g s takeable (i, j, u, v, never) = never (subst (λ z. AreTakeable z.heap set) (one before g i s u) takeable)
+  no_set : (before after set : List ℕ) (g : Image) → IsTextWithin Wide before g → AreTakeable g.heap set → ShowNoSet before after set → ⊥
+  no_set before after set g s takeable (i, j, u, v, never) = never (subst (λ z. AreTakeable z.heap set) (one Wide before g i s u) takeable)
 
   kept_lost : (before after set : List ℕ) → ShowKept before after set → ShowLost before after set → ⊥
   kept_lost before after set (g, h, s, t, takeable, keeps) (i, j, u, v, other, never) =
-      never (subst (λ z. Keeps false set i.heap z.heap) (one after h j t v) (subst (λ z. Keeps false set z.heap h.heap) (one before g i s u) keeps))
+      never (subst (λ z. Keeps false set i.heap z.heap) (one Wide after h j t v) (subst (λ z. Keeps false set z.heap h.heap) (one Wide before g i s u) keeps))
 
   pub kept_status : KeptStatus
   kept_status before after set Good (g, h, s, t, j) =

@@ -1,8 +1,9 @@
 -- Two texts are judged as their images are.
 use Rattle.std.proofs.Common.{◌≡◌, ◌⊎◌, ℕ, List, inl, inr, sym, subst, ap, arith, slice_index}
+use Rattle.g1_words.specs.declared.limits.Limits.TheVariants.{Wide}
 use Rattle.g1_words.specs.declared.fault.Fault.{Fault}
-use Rattle.g1_image.specs.Image.{Image, IsTextOf, IsImageText}
-use Rattle.g1_image.specs.Faults.{MayFail, FaultOf}
+use Rattle.g1_image.specs.Image.{Image, IsTextWithin, IsImageTextWithin}
+use Rattle.g1_image.specs.Faults.{MayFailWithin, FaultWithin}
 use Rattle.g1judge.specs.declared.verdict.Verdict.{Verdict}
 use Rattle.g1judge.specs.declared.verdict.Verdict.TheVariants.{Good, Same, Differ, NoImage, Uncovered, Loss, NoSet, Memory}
 use Rattle.g1_choose.specs.Named.{AreTakeable, IsFirstBad}
@@ -11,7 +12,7 @@ use Rattle.g1_words.specs.declared.fault.Fault.TheVariants as fault
 use Rattle.g1judge.specs.Answered.{at_of, place_of}
 use Rattle.g1judge.specs.Judged.{IsUnread, AreUnread, IsRefused, JudgesImages, JudgesLoss, JudgesPair, JudgesSet, JudgesKept}
 
-pub texts_judged : (before after : List ℕ) (g h : Image) (v : Verdict) → IsTextOf before g → IsTextOf after h → JudgesImages g h v → JudgesPair before after v
+pub texts_judged : (before after : List ℕ) (g h : Image) (v : Verdict) → IsTextWithin Wide before g → IsTextWithin Wide after h → JudgesImages g h v → JudgesPair before after v
 texts_judged before after g h Good s t j = absurd j
 texts_judged before after g h (Same objects words) s t j = (g, h, s, t, j)
 texts_judged before after g h (Differ d ends) s t j = (g, h, s, t, j)
@@ -21,7 +22,7 @@ texts_judged before after g h (Loss l) s t j = absurd j
 texts_judged before after g h (NoSet region) s t j = absurd j
 texts_judged before after g h Memory s t j = tt
 
-pub texts_kept : (before after set : List ℕ) (g h : Image) (v : Verdict) → IsTextOf before g → IsTextOf after h → JudgesSet g h set v → JudgesKept before after set v
+pub texts_kept : (before after set : List ℕ) (g h : Image) (v : Verdict) → IsTextWithin Wide before g → IsTextWithin Wide after h → JudgesSet g h set v → JudgesKept before after set v
 texts_kept before after set g h Good s t j = (g, h, s, t, j)
 texts_kept before after set g h (Same objects words) s t j = absurd j
 texts_kept before after set g h (Differ d ends) s t j = absurd j
@@ -53,9 +54,9 @@ unread_kept before after set (NoSet region) j = absurd j
 unread_kept before after set Memory j = j
 
 -- the verdict of two byte strings of which the first was not read, or the second
-pub first_unread : (before after : List ℕ) (e : Fault) (v : Verdict) → MayFail before e → IsUnread 1 e v → AreUnread before after v
+pub first_unread : (before after : List ℕ) (e : Fault) (v : Verdict) → MayFailWithin Wide before e → IsUnread 1 e v → AreUnread before after v
 first_unread before after e (NoImage image f) (inl m) u = absurd (u.2 m)
-first_unread before after e (NoImage image f) (inr k) u = inl (u.0, subst (FaultOf before) (sym u.1) k)
+first_unread before after e (NoImage image f) (inr k) u = inl (u.0, subst (FaultWithin Wide before) (sym u.1) k)
 first_unread before after e Memory may u = tt
 first_unread before after e Good may u = absurd u
 first_unread before after e (Same objects words) may u = absurd u
@@ -64,9 +65,9 @@ first_unread before after e (Uncovered slot) may u = absurd u
 first_unread before after e (Loss l) may u = absurd u
 first_unread before after e (NoSet region) may u = absurd u
 
-pub second_unread : (before after : List ℕ) (e : Fault) (v : Verdict) → IsImageText before → MayFail after e → IsUnread 2 e v → AreUnread before after v
+pub second_unread : (before after : List ℕ) (e : Fault) (v : Verdict) → IsImageTextWithin Wide before → MayFailWithin Wide after e → IsUnread 2 e v → AreUnread before after v
 second_unread before after e (NoImage image f) text (inl m) u = absurd (u.2 m)
-second_unread before after e (NoImage image f) text (inr k) u = inr (u.0, text, subst (FaultOf after) (sym u.1) k)
+second_unread before after e (NoImage image f) text (inr k) u = inr (u.0, text, subst (FaultWithin Wide after) (sym u.1) k)
 second_unread before after e Memory text may u = tt
 second_unread before after e Good text may u = absurd u
 second_unread before after e (Same objects words) text may u = absurd u

@@ -1,11 +1,12 @@
 -- What bytes are found to be.
 use Rattle.std.specs.Prelude.{◌≡◌, ◌≢◌, ℕ, ◌⊎◌, List, length, slice_index, ◌∷◌, sum_by, false}
+use Rattle.g1_words.specs.declared.limits.Limits.TheVariants.{Wide}
 use Rattle.g1_words.specs.declared.fault.Fault.{Fault}
 use Rattle.g1_words.specs.declared.fault.Fault.TheVariants as fault
 use Rattle.g1_words.specs.Heap.{Heap, object_at}
 use Rattle.g1_words.specs.Graph.{SameGraph}
-use Rattle.g1_image.specs.Image.{Image, IsTextOf, IsImageText}
-use Rattle.g1_image.specs.Faults.{FaultOf}
+use Rattle.g1_image.specs.Image.{Image, IsTextWithin, IsImageTextWithin}
+use Rattle.g1_image.specs.Faults.{FaultWithin}
 use Rattle.g1_image.specs.Cards.{Covered, uncovered}
 use Rattle.g1_choose.specs.Named.{AreTakeable, IsFirstBad}
 use Rattle.g1_same.specs.declared.difference.Difference.{Difference}
@@ -80,7 +81,7 @@ IsUnread which e _ = ⊥
 
 -- the fault is that of the first of two byte strings, or the first is an image's text and the fault is that of the second
 abbrev pub IsPairFault : List ℕ → List ℕ → ℕ → Fault → Type 0
-IsPairFault before after image e = ((image ≡ 1) × FaultOf before e) ⊎ ((image ≡ 2) × IsImageText before × FaultOf after e)
+IsPairFault before after image e = ((image ≡ 1) × FaultWithin Wide before e) ⊎ ((image ≡ 2) × IsImageTextWithin Wide before × FaultWithin Wide after e)
 
 -- two byte strings that were not read to two images
 abbrev pub AreUnread : List ℕ → List ℕ → Verdict → Type 0
@@ -91,25 +92,25 @@ AreUnread before after _ = ⊥
 -- THE VERDICT of two byte strings. Memory may be refused at any time.
 abbrev pub JudgesPair : List ℕ → List ℕ → Verdict → Type 0
 JudgesPair before after (Same objects words) =
-    (g : Image) × (h : Image) × IsTextOf before g × IsTextOf after h × ShowSame g.heap h.heap objects words
+    (g : Image) × (h : Image) × IsTextWithin Wide before g × IsTextWithin Wide after h × ShowSame g.heap h.heap objects words
 JudgesPair before after (Differ d e) =
-    (g : Image) × (h : Image) × IsTextOf before g × IsTextOf after h × ShowOther g.heap h.heap d e
+    (g : Image) × (h : Image) × IsTextWithin Wide before g × IsTextWithin Wide after h × ShowOther g.heap h.heap d e
 JudgesPair before after (NoImage image e) = IsPairFault before after image e
 JudgesPair before after Memory = Unit {0}
 JudgesPair before after _ = ⊥
 
 -- THE VERDICT of bytes: an image's text, or their fault
 abbrev pub JudgesImage : List ℕ → Verdict → Type 0
-JudgesImage bytes Good = IsImageText bytes
-JudgesImage bytes (NoImage image e) = (image ≡ 1) × FaultOf bytes e
+JudgesImage bytes Good = IsImageTextWithin Wide bytes
+JudgesImage bytes (NoImage image e) = (image ≡ 1) × FaultWithin Wide bytes e
 JudgesImage bytes Memory = Unit {0}
 JudgesImage bytes _ = ⊥
 
 -- THE VERDICT of bytes on cover: a covered image's text, or an image's with the lowest slot that is not covered, or their fault
 abbrev pub JudgesCover : List ℕ → Verdict → Type 0
-JudgesCover bytes Good = (i : Image) × IsTextOf bytes i × Covered i
-JudgesCover bytes (Uncovered slot) = (i : Image) × IsTextOf bytes i × (others : List ℕ) × (uncovered i ≡ slot ∷ others)
-JudgesCover bytes (NoImage image e) = (image ≡ 1) × FaultOf bytes e
+JudgesCover bytes Good = (i : Image) × IsTextWithin Wide bytes i × Covered i
+JudgesCover bytes (Uncovered slot) = (i : Image) × IsTextWithin Wide bytes i × (others : List ℕ) × (uncovered i ≡ slot ∷ others)
+JudgesCover bytes (NoImage image e) = (image ≡ 1) × FaultWithin Wide bytes e
 JudgesCover bytes Memory = Unit {0}
 JudgesCover bytes _ = ⊥
 
@@ -117,4 +118,4 @@ JudgesCover bytes _ = ⊥
 abbrev pub JudgesKept : List ℕ → List ℕ → List ℕ → Verdict → Type 0
 JudgesKept before after set (NoImage image e) = IsPairFault before after image e
 JudgesKept before after set Memory = Unit {0}
-JudgesKept before after set v = (g : Image) × (h : Image) × IsTextOf before g × IsTextOf after h × JudgesSet g h set v
+JudgesKept before after set v = (g : Image) × (h : Image) × IsTextWithin Wide before g × IsTextWithin Wide after h × JudgesSet g h set v

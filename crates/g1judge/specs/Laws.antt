@@ -1,9 +1,10 @@
 -- The laws that public functions of this crate prove.
 use Rattle.std.specs.Prelude.{◌≡◌, ◌↔◌, ◌⊎◌, ℕ, List, false}
+use Rattle.g1_words.specs.declared.limits.Limits.TheVariants.{Wide}
 use Rattle.g1_words.specs.declared.fault.Fault.{Fault}
 use Rattle.g1_words.specs.Graph.{SameGraph}
-use Rattle.g1_image.specs.Image.{Image, IsTextOf, IsImageText}
-use Rattle.g1_image.specs.Faults.{FaultOf}
+use Rattle.g1_image.specs.Image.{Image, IsTextWithin, IsImageTextWithin}
+use Rattle.g1_image.specs.Faults.{FaultWithin}
 use Rattle.g1_image.specs.Cards.{Covered}
 use Rattle.g1_choose.specs.Named.{AreTakeable}
 use Rattle.g1_kept.specs.Keeps.{Keeps}
@@ -14,37 +15,37 @@ use Rattle.g1judge.specs.Answered.{status_of}
 
 -- the bytes are the texts of two images that show one graph from their roots
 abbrev pub ShowOneGraph : List ℕ → List ℕ → Type 0
-ShowOneGraph before after = (g : Image) × (h : Image) × IsTextOf before g × IsTextOf after h × SameGraph g.heap h.heap
+ShowOneGraph before after = (g : Image) × (h : Image) × IsTextWithin Wide before g × IsTextWithin Wide after h × SameGraph g.heap h.heap
 
 -- the bytes are the texts of two images that do not
 abbrev pub ShowTwoGraphs : List ℕ → List ℕ → Type 0
-ShowTwoGraphs before after = (g : Image) × (h : Image) × IsTextOf before g × IsTextOf after h × (SameGraph g.heap h.heap → ⊥)
+ShowTwoGraphs before after = (g : Image) × (h : Image) × IsTextWithin Wide before g × IsTextWithin Wide after h × (SameGraph g.heap h.heap → ⊥)
 
 -- the bytes are no image's text: they have a fault
 abbrev pub HasFault : List ℕ → Type 0
-HasFault bytes = (e : Fault) × FaultOf bytes e
+HasFault bytes = (e : Fault) × FaultWithin Wide bytes e
 
 -- the bytes are the text of an image each of whose slots is covered
 abbrev pub IsCoveredText : List ℕ → Type 0
-IsCoveredText bytes = (i : Image) × IsTextOf bytes i × Covered i
+IsCoveredText bytes = (i : Image) × IsTextWithin Wide bytes i × Covered i
 
 -- the bytes are the text of an image with a slot that is not covered
 abbrev pub IsBareText : List ℕ → Type 0
-IsBareText bytes = (i : Image) × IsTextOf bytes i × (Covered i → ⊥)
+IsBareText bytes = (i : Image) × IsTextWithin Wide bytes i × (Covered i → ⊥)
 
 -- the bytes are the texts of two images, the first allows the set, and the second keeps what a pause of it keeps
 abbrev pub ShowKept : List ℕ → List ℕ → List ℕ → Type 0
 ShowKept before after set =
-    (g : Image) × (h : Image) × IsTextOf before g × IsTextOf after h × AreTakeable g.heap set × Keeps false set g.heap h.heap
+    (g : Image) × (h : Image) × IsTextWithin Wide before g × IsTextWithin Wide after h × AreTakeable g.heap set × Keeps false set g.heap h.heap
 
 -- and the second does not keep it
 abbrev pub ShowLost : List ℕ → List ℕ → List ℕ → Type 0
 ShowLost before after set =
-    (g : Image) × (h : Image) × IsTextOf before g × IsTextOf after h × AreTakeable g.heap set × (Keeps false set g.heap h.heap → ⊥)
+    (g : Image) × (h : Image) × IsTextWithin Wide before g × IsTextWithin Wide after h × AreTakeable g.heap set × (Keeps false set g.heap h.heap → ⊥)
 
 -- the bytes are the texts of two images, and the first does not allow the set
 abbrev pub ShowNoSet : List ℕ → List ℕ → List ℕ → Type 0
-ShowNoSet before after set = (g : Image) × (h : Image) × IsTextOf before g × IsTextOf after h × (AreTakeable g.heap set → ⊥)
+ShowNoSet before after set = (g : Image) × (h : Image) × IsTextWithin Wide before g × IsTextWithin Wide after h × (AreTakeable g.heap set → ⊥)
 
 -- what the status of g1_same says, each way round
 pub record SaysOfPair (before after : List ℕ) (status : ℕ) : Type 0 where
@@ -55,7 +56,7 @@ pub record SaysOfPair (before after : List ℕ) (status : ℕ) : Type 0 where
 
 -- what the status of g1_image says
 pub record SaysOfImage (bytes : List ℕ) (status : ℕ) : Type 0 where
-  pub zero : (status ≡ 0) ↔ IsImageText bytes
+  pub zero : (status ≡ 0) ↔ IsImageTextWithin Wide bytes
   pub three : (status ≡ 3) ↔ HasFault bytes
   pub no_other : (status ≡ 0) ⊎ (status ≡ 3)
 

@@ -1,15 +1,15 @@
 ghost use Rattle.std.specs.Prelude.{IfOk, IfErr};
-ghost use Rattle.g1_image.specs.Image.{IsTextOf};
+ghost use Rattle.g1_image.specs.Image.{IsTextWithin};
 ghost use Rattle.g1judge.specs.Judged.{JudgesPair, JudgesImage, JudgesCover, JudgesKept, JudgesImages, JudgesSlots, JudgesLoss, JudgesSet, IsUnread, AreUnread};
 
 use crate::counting::words;
 use crate::verdict::Verdict;
 use g1_choose::given;
-use g1_image::{Image, decode};
+use g1_image::{Image, decode_within};
 use g1_kept::kept;
 use g1_rem::first_uncovered;
 use g1_same::{compare, ends_of};
-use g1_words::{Fault, Heap};
+use g1_words::{Fault, Heap, Limits};
 use std::alloc::Global;
 
 // Bytes that were not read to an image: their fault, or a request for memory that was refused.
@@ -24,13 +24,13 @@ fn unread(image: u32, fault: Fault) -> Verdict
 
 // The images of two byte strings. The first is looked at first.
 fn read_images(alloc: Global, before: &[u8], after: &[u8]) -> Result<(Image, Image), Verdict>
-    ensures before { IfOk result (λ r. IsTextOf before.now r.0) }
-    ensures after { IfOk result (λ r. IsTextOf after.now r.1) }
+    ensures before { IfOk result (λ r. IsTextWithin Limits.Wide before.now r.0) }
+    ensures after { IfOk result (λ r. IsTextWithin Limits.Wide after.now r.1) }
     ensures unread { IfErr result (λ v. AreUnread before.now after.now v) }
 {
-    match decode(alloc, before) {
+    match decode_within(alloc, Limits::Wide, before) {
         Err(fault) => Err(unread(1, fault)),
-        Ok(old) => match decode(alloc, after) {
+        Ok(old) => match decode_within(alloc, Limits::Wide, after) {
             Err(fault) => Err(unread(2, fault)),
             Ok(new) => Ok((old, new)),
         },
@@ -70,7 +70,7 @@ pub fn judge_pair(alloc: Global, before: &[u8], after: &[u8]) -> Verdict
 pub fn judge_image(alloc: Global, bytes: &[u8]) -> Verdict
     ensures { JudgesImage bytes.now result }
 {
-    match decode(alloc, bytes) {
+    match decode_within(alloc, Limits::Wide, bytes) {
         Err(fault) => unread(1, fault),
         Ok(_) => Verdict::Good,
     }
@@ -91,7 +91,7 @@ fn judge_slots(alloc: Global, image: &Image) -> Verdict
 pub fn judge_cover(alloc: Global, bytes: &[u8]) -> Verdict
     ensures { JudgesCover bytes.now result }
 {
-    match decode(alloc, bytes) {
+    match decode_within(alloc, Limits::Wide, bytes) {
         Err(fault) => unread(1, fault),
         Ok(image) => judge_slots(alloc, &image),
     }

@@ -4,7 +4,7 @@ use crate::usage::NAME;
 use g1_answers::{answer, settings_of, write_image};
 use g1_command::{Refusal, deliver, read_all, refuse};
 use g1_trace::run_text;
-use g1_words::Fault;
+use g1_words::{Fault, Limits};
 use g1_work::Open;
 use std::alloc::Global;
 use std::io::{Read, Write};
@@ -51,10 +51,10 @@ fn fulfil<T: Threads + Sync, R: Read, W: Write>(
     match request {
         Request::Help(text) => deliver(text.as_bytes(), writer),
         Request::Answer(question) => {
-            let lines = answer(rt, alloc, *question, reader)?;
+            let lines = answer(rt, alloc, Limits::Specified, *question, reader)?;
             deliver(lines.as_slice(), writer)
         }
-        Request::Write(wanted) => write_image(rt, alloc, wanted, reader, writer),
+        Request::Write(wanted) => write_image(rt, alloc, Limits::Specified, wanted, reader, writer),
         Request::Run(replay) => {
             let replies = run(rt, alloc, replay, reader)?;
             deliver(replies.as_slice(), writer)

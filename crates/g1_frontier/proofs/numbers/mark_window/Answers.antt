@@ -1,6 +1,7 @@
-use Rattle.std.proofs.Common.{arith, ap, ◌≡◌, ◌≤◌, ◌<◌, ◌+◌, ◌*◌, ◌/◌, ◌%◌, ◌^◌, ◌∙◌, subst, sym, refl, ℕ, length, replicate, get_or, min, false}
+use Rattle.std.proofs.Common.{arith, ap, ◌≡◌, ◌≤◌, ◌<◌, ◌+◌, ◌*◌, ◌/◌, ◌%◌, ◌∙◌, subst, sym, refl, ℕ, length, replicate, get_or, min, false}
 use Rattle.std.proofs.Math.Nat.{mul-le-mul_right}
 use Rattle.std.proofs.lemmas.List.{length-replicate}
+use Rattle.g1_words.specs.Geometry.{most_words}
 use Rattle.g1_words.specs.Marks.{marks_of}
 use Rattle.g1_words.proofs.Bits.{marks_of-none}
 use Rattle.g1_frontier.specs.Numbers.{and_marked, places_from}
@@ -29,7 +30,7 @@ loop-index-init c =
     }
 
 -- as many bits as words, and no more than a heap may have words
-room : (words bits : ℕ) → words ≤ 2 ^ 24 → bits ≡ words / 64 + min 1 (words % 64) → (words ≤ 64 * bits) × (64 * bits ≤ 2 ^ 24)
+room : (words bits : ℕ) → words ≤ most_words → bits ≡ words / 64 + min 1 (words % 64) → (words ≤ 64 * bits) × (64 * bits ≤ most_words)
 room words bits few e = (omega (arith, few, e), omega (arith, few, e))
 
 -- and no word of bits more

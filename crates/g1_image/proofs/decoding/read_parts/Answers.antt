@@ -5,7 +5,7 @@ use Rattle.g1_words.specs.declared.fault.Fault.TheVariants as fault
 use Rattle.g1_words.specs.declared.fault.Device.TheVariants as device
 use Rattle.g1_image.specs.declared.front.Front.{Front}
 use Rattle.g1_image.specs.Ahead.{waiting, TextFails}
-use Rattle.g1_image.specs.Faults.{MayFail}
+use Rattle.g1_image.specs.Faults.{MayFailWithin}
 use Rattle.g1_image.specs.Source.{HoldsOfLeft, IsReadOut}
 use Rattle.g1_image.proofs.Told.{none_waits, read_text, read_fails, read_out_at_end, read_out_failed, not_read_out, text_mark, text_unmarked, text_may}
 use Rattle.g1_image.proofs.decoding.read_parts.Goals as goal
@@ -37,14 +37,14 @@ returns-in-Ok-clause-marks g c = c.in-Ok.ensures.mark
 
 -- a read that fails behind a fault of the bytes takes its place
 drain_fails : (g : Over) (c : Joined-ahead-2 g) →
-    TextFails (g.S.Source.failed c.args.source.now) (g.S.Source.failed c.drain.new.source) (g.S.Source.left c.args.source.now) c.in_err-drain-in-Err.field-0.0
+    TextFails c.args.limits (g.S.Source.failed c.args.source.now) (g.S.Source.failed c.drain.new.source) (g.S.Source.left c.args.source.now) c.in_err-drain-in-Err.field-0.0
 drain_fails g c =
-    read_fails _ _ _ _ c.in_err-drain-in-Err.field-0.0 (text_unmarked _ _ _ c.in-Err.fault c.in-Err.ensures.err (c.if-is_of_bytes.ensures.yes refl).1) c.in_err-drain-in-Err.ensures.err
+    read_fails c.args.limits _ _ _ _ c.in_err-drain-in-Err.field-0.0 (text_unmarked c.args.limits _ _ _ c.in-Err.fault c.in-Err.ensures.err (c.if-is_of_bytes.ensures.yes refl).1) c.in_err-drain-in-Err.ensures.err
 
 pub returns-in_err-drain-in-Err-clause-err : goal.returns-in_err-drain-in-Err-clause-err
 returns-in_err-drain-in-Err-clause-err g c =
     let same = err_from_is_err_and c.from_residual.result c.from_residual.ensures.1 in
-    rw (same.1, same.2) (text_may _ _ _ c.in_err-drain-in-Err.field-0.0 (drain_fails g c))
+    rw (same.1, same.2) (text_may c.args.limits _ _ _ c.in_err-drain-in-Err.field-0.0 (drain_fails g c))
 
 pub returns-in_err-drain-in-Err-clause-end : goal.returns-in_err-drain-in-Err-clause-end
 returns-in_err-drain-in-Err-clause-end g c =
@@ -54,14 +54,14 @@ returns-in_err-drain-in-Err-clause-end g c =
 pub returns-in_err-drain-in-Err-clause-marks : goal.returns-in_err-drain-in-Err-clause-marks
 returns-in_err-drain-in-Err-clause-marks g c =
     let same = err_from_is_err_and c.from_residual.result c.from_residual.ensures.1 in
-    rw (same.1, same.2) (text_mark Parts _ _ _ c.in_err-drain-in-Err.field-0.0 (drain_fails g c))
+    rw (same.1, same.2) (text_mark c.args.limits Parts _ _ _ c.in_err-drain-in-Err.field-0.0 (drain_fails g c))
 
 pub returns-clause-err : goal.returns-clause-err
 returns-clause-err g c =
     let left = g.S.Source.left c.args.source.now in
     let e = c.in-Err.fault in
-    subst (λ a. (e ≡ fault.Device device.Input) ⊎ HoldsOfLeft a (λ xs. MayFail xs e)) (none_waits (waiting c.nothing-ahead.result) left c.nothing-ahead.ensures.none)
-    (text_may _ _ _ e c.in-Err.ensures.err)
+    subst (λ a. (e ≡ fault.Device device.Input) ⊎ HoldsOfLeft a (λ xs. MayFailWithin c.args.limits xs e)) (none_waits (waiting c.nothing-ahead.result) left c.nothing-ahead.ensures.none)
+    (text_may c.args.limits _ _ _ e c.in-Err.ensures.err)
 
 pub returns-clause-end : goal.returns-clause-end
 returns-clause-end g c = elim c.if-is_of_bytes.branch [
@@ -71,7 +71,7 @@ returns-clause-end g c = elim c.if-is_of_bytes.branch [
 
 pub returns-clause-marks : goal.returns-clause-marks
 returns-clause-marks g c =
-    let marked = text_mark Parts _ _ _ c.in-Err.fault c.in-Err.ensures.err in
+    let marked = text_mark c.args.limits Parts _ _ _ c.in-Err.fault c.in-Err.ensures.err in
     elim c.if-is_of_bytes.branch [
       | then-is_of_bytes+in_ok-drain-in-Err w ↦ ap (λ s. g.S.Source.failed s) w.source-is ∙ w.in_ok-drain-in-Err.ensures.mark ∙ marked
       | else-is_of_bytes w ↦ ap (λ s. g.S.Source.failed s) w.source-is ∙ marked

@@ -2,7 +2,7 @@ use Rattle.std.proofs.Common.{map, length, ap, refl, subst, ◌∙◌, arith}
 use Rattle.std.proofs.KnownBytes.{Keeps-refl, Keeps-trans}
 use Rattle.std.proofs.lemmas.Result.{err_from_is_err_and}
 use Rattle.g1_image.specs.Ahead.{waiting}
-use Rattle.g1_image.specs.Faults.{FaultOf, MayFail}
+use Rattle.g1_image.specs.Faults.{FaultWithin, MayFailWithin}
 use Rattle.g1_image.proofs.Told.{read_text, read_fails, front_taken, front_fails, at_end, whatever_follows}
 use Rattle.g1_image.proofs.decoding.take_front.Goals as goal
 use Rattle.g1_image.proofs.decoding.take_front.Goals.{then-not-more-via-then-not-more, then-not-more-via-else-not-more+then-is_final}
@@ -23,7 +23,7 @@ loop-more-preserved g c =
 pub returns-in_err-more-clause-err : goal.returns-in_err-more-clause-err
 returns-in_err-more-clause-err g c =
     let left = err_from_is_err_and c.from_residual.result c.from_residual.ensures.1 in
-    rw (left.1, left.2) (read_fails _ _ _ _ c.in_err-more.field-0.0 c.loop-more.invariant.mark c.in_err-more.ensures.err)
+    rw (left.1, left.2) (read_fails c.args.limits _ _ _ _ c.in_err-more.field-0.0 c.loop-more.invariant.mark c.in_err-more.ensures.err)
 
 pub returns-in-Ok-clause-taken : goal.returns-in-Ok-clause-taken
 returns-in-Ok-clause-taken g c =
@@ -38,11 +38,11 @@ returns-then-not-more-clause-err g c =
     let w = waiting c.reach.new.self in
     let l = g.S.Source.left c.reach.new.source in
     let e = c.in-Err.fault in
-    front_fails _ _ _ l w e (c.in_ok-more.ensures.ok.mark ∙ c.loop-more.invariant.mark) (Keeps-trans _ _ _ c.loop-more.invariant.kept c.in_ok-more.ensures.ok.kept)
-    (subst (λ b. MayFail b e) c.bytes.ensures.same c.in-Err.ensures.err)
-    (λ (f : FaultOf w e). elim c.then-not-more.branch [
-      | then-not-more-via-then-not-more t ↦ at_end l w (λ b. FaultOf b e) (c.in_ok-more.ensures.ok.ended t.if-not-more.true).0 f
-      | then-not-more-via-else-not-more+then-is_final t ↦ whatever_follows l w (λ b. FaultOf b e) (λ ys. t.is_final.ensures t.if-is_final.true w ys f)
+    front_fails c.args.limits _ _ _ l w e (c.in_ok-more.ensures.ok.mark ∙ c.loop-more.invariant.mark) (Keeps-trans _ _ _ c.loop-more.invariant.kept c.in_ok-more.ensures.ok.kept)
+    (subst (λ b. MayFailWithin c.args.limits b e) c.bytes.ensures.same c.in-Err.ensures.err)
+    (λ (f : FaultWithin c.args.limits w e). elim c.then-not-more.branch [
+      | then-not-more-via-then-not-more t ↦ at_end l w (λ b. FaultWithin c.args.limits b e) (c.in_ok-more.ensures.ok.ended t.if-not-more.true).0 f
+      | then-not-more-via-else-not-more+then-is_final t ↦ whatever_follows l w (λ b. FaultWithin c.args.limits b e) (λ ys. t.is_final.ensures t.if-is_final.true c.args.limits w ys f)
     ])
 
 pub loop-more-smaller : goal.loop-more-smaller

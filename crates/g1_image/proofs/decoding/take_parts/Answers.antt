@@ -2,6 +2,7 @@ use Rattle.std.proofs.Common.{◌≡◌, ◌*◌, map, length, ap, subst, ◌∙
 use Rattle.std.proofs.lemmas.Result.{err_from_is_err_and}
 use Rattle.g1_image.specs.Text.{table_words, words_of}
 use Rattle.g1_words.specs.Words.{AreLaid}
+use Rattle.g1_words.proofs.Accepted.{in_bounds}
 use Rattle.g1_image.specs.Image.{all_words, region_of_entry}
 use Rattle.g1_image.specs.Plain.{front_text}
 use Rattle.g1_image.specs.Ahead.{waiting, to_take, TakeFails}
@@ -17,12 +18,14 @@ pub lay_pieces-requires-clause-sizes : goal.lay_pieces-requires-clause-sizes
 lay_pieces-requires-clause-sizes g c =
     let w = c.in_ok-front.front.heading.w in
     let rows = ap length c.deref.ensures.value ∙ c.in_ok-front.ensures.ok.entries.how_many in
-    omega (arith, ap (λ n. n * w) rows, c.in_ok-front.ensures.ok.good.sizes.words_most)
+    let h = c.in_ok-front.front.heading in
+    let bounds = in_bounds c.args.limits h.w h.k h.n c.in_ok-front.ensures.ok.good.sizes in
+    omega (arith, ap (λ n. n * w) rows, bounds.words_most)
 
 pub returns-in_err-reach-clause-err : goal.returns-in_err-reach-clause-err
 returns-in_err-reach-clause-err g c =
     let left = err_from_is_err_and c.from_residual-in_err-reach.result c.from_residual-in_err-reach.ensures.1 in
-    rw (left.1, left.2) (read_fails _ _ _ _ c.in_err-reach.field-0.0 (c.in_ok-words.ensures.ok.1.mark ∙ c.in_ok-front.ensures.mark) c.in_err-reach.ensures.err)
+    rw (left.1, left.2) (read_fails c.args.limits _ _ _ _ c.in_err-reach.field-0.0 (c.in_ok-words.ensures.ok.1.mark ∙ c.in_ok-front.ensures.mark) c.in_err-reach.ensures.err)
 
 pub returns-clause-end : goal.returns-clause-end
 returns-clause-end g c = (c.in_ok-reach.ensures.ok.ended c.if-branch.false).0
@@ -32,7 +35,7 @@ returns-in_err-words-clause-err g c =
     let f = c.in_ok-front.front in
     let sets = map (λ s. s.items) f.remembered.items in
     let left = err_from_is_err_and c.from_residual-in_err-words.result c.from_residual-in_err-words.ensures.1 in
-    rw (left.1, left.2) (words_fail f.version f.heading f.table.items f.roots.items f.log.items sets c.in_ok-front.ensures.ok _ _ _ _ _
+    rw (left.1, left.2) (words_fail c.args.limits f.version f.heading f.table.items f.roots.items f.log.items sets c.in_ok-front.ensures.ok _ _ _ _ _
     c.in_err-words.field-0.0 c.in_ok-front.ensures.mark c.in_ok-front.ensures.taken
     (subst (λ t. TakeFails (g.S.Source.failed c.take_front.new.source) (g.S.Source.failed c.lay_pieces.new.source)
     (to_take c.take_front.new.ahead (g.S.Source.left c.take_front.new.source)) (8 * table_words t) c.in_err-words.field-0.0) c.deref.ensures.value c.in_err-words.ensures.err))
@@ -45,7 +48,7 @@ returns-then-branch-clause-err g c =
     let size : length words.0 ≡ 8 * table_words f.table.items = words.2 ∙ ap (λ t. 8 * table_words t) c.deref.ensures.value in
     let reached = c.in_ok-reach.ensures.ok in (
       reached.mark ∙ words.1.mark ∙ c.in_ok-front.ensures.mark,
-      bytes_behind f.version f.heading f.table.items f.roots.items f.log.items sets c.in_ok-front.ensures.ok words.0 words.1.are_bytes size _ _ _
+      bytes_behind c.args.limits f.version f.heading f.table.items f.roots.items f.log.items sets c.in_ok-front.ensures.ok words.0 words.1.are_bytes size _ _ _
           (g.S.Source.left c.reach.new.source) (waiting c.reach.new.self)
           c.in_ok-front.ensures.taken words.1.bytes reached.kept (reached.there c.if-branch.true),
     )
@@ -61,10 +64,10 @@ returns-clause-ok g c =
       front_text f.version f.heading f.table.items f.roots.items f.log.items sets words.0,
       (
         words.0,
-        whole_text f.version f.heading f.table.items f.roots.items f.log.items sets c.in_ok-front.ensures.ok words.0 words.1.are_bytes size,
+        whole_text c.args.limits f.version f.heading f.table.items f.roots.items f.log.items sets c.in_ok-front.ensures.ok words.0 words.1.are_bytes size,
         words.3 ∙ ap (λ t. all_words f.heading.w t (words_of (table_words t) words.0)) c.deref.ensures.value,
       ),
-      all_taken f.version f.heading f.table.items f.roots.items f.log.items sets c.in_ok-front.ensures.ok words.0 words.1.are_bytes size _ _ _
+      all_taken c.args.limits f.version f.heading f.table.items f.roots.items f.log.items sets c.in_ok-front.ensures.ok words.0 words.1.are_bytes size _ _ _
           (g.S.Source.left c.reach.new.source) (waiting c.reach.new.self)
           c.in_ok-front.ensures.taken words.1.bytes reached.kept ended.0 ended.1,
     )
@@ -73,7 +76,10 @@ pub returns-in_err-front-clause-known : goal.returns-in_err-front-clause-known
 returns-in_err-front-clause-known g c = c.take_front.ensures.known
 
 pub lay_pieces-requires-clause-count : goal.lay_pieces-requires-clause-count
-lay_pieces-requires-clause-count g c = omega (arith, ap length c.deref.ensures.value, c.in_ok-front.ensures.ok.entries.how_many, c.in_ok-front.ensures.ok.good.sizes.n_most)
+lay_pieces-requires-clause-count g c =
+    let h = c.in_ok-front.front.heading in
+    let bounds = in_bounds c.args.limits h.w h.k h.n c.in_ok-front.ensures.ok.good.sizes in
+    omega (arith, ap length c.deref.ensures.value, c.in_ok-front.ensures.ok.entries.how_many, bounds.n_most)
 
 pub lay_pieces-requires-clause-known : goal.lay_pieces-requires-clause-known
 lay_pieces-requires-clause-known g c = c.take_front.ensures.known

@@ -2,7 +2,7 @@ use Rattle.std.proofs.Common.{◌≡◌, ◌++◌, sym, ap, subst, ◌∙◌, in
 use Rattle.std.proofs.lemmas.Result.{err_from_is_err_and}
 use Rattle.g1_image.specs.Text.{magic, heading_text, table_text, words_text, numbers_text, remembered_texts}
 use Rattle.g1_image.specs.Reading.{Are, IsU32, IsU64, EndsWithin}
-use Rattle.g1_image.specs.Faults.{EntryFits, RememberedFits, FaultOf}
+use Rattle.g1_image.specs.Faults.{EntryFits, RememberedFits, FaultWithin}
 use Rattle.g1_image.proofs.Files.{fails, short_table, short_roots, short_log, short_remembered}
 use Rattle.g1_image.proofs.front.read_front.Goals as goal
 use Rattle.g1_image.proofs.Told.{short_text}
@@ -15,7 +15,7 @@ opened c = sym c.new-cursor.ensures ∙ c.in_ok-heading.ensures.ok.2 ∙ ap (λ 
 pub returns-in_err-heading-clause-err : goal.returns-in_err-heading-clause-err
 returns-in_err-heading-clause-err c =
     let left = err_from_is_err_and c.from_residual.result c.from_residual.ensures.1 in
-    rw (left.1, left.2) (inr (subst (λ b. FaultOf b c.in_err-heading.field-0.0) c.new-cursor.ensures c.in_err-heading.ensures.err))
+    rw (left.1, left.2) (inr (subst (λ b. FaultWithin c.args.limits b c.in_err-heading.field-0.0) c.new-cursor.ensures c.in_err-heading.ensures.err))
 
 pub returns-in_err-table-clause-err : goal.returns-in_err-table-clause-err
 returns-in_err-table-clause-err c =
@@ -23,7 +23,7 @@ returns-in_err-table-clause-err c =
     let left = err_from_is_err_and c.from_residual-in_err-table.result c.from_residual-in_err-table.ensures.1 in
     rw (left.1, left.2) (fails c.args.bytes.now c.in_err-table.field-0.0 (EndsWithin (Are (EntryFits c.in_ok-heading.version) h.n)
     (table_text c.in_ok-heading.version) c.rest.result.now) c.in_err-table.ensures
-    (short_table c.args.bytes.now c.rest.result.now c.in_ok-heading.version h c.in_ok-heading.ensures.ok.0 c.in_ok-heading.ensures.ok.1
+    (short_table _ c.args.bytes.now c.rest.result.now c.in_ok-heading.version h c.in_ok-heading.ensures.ok.0 c.in_ok-heading.ensures.ok.1
     (opened (goal.at.returns-in_err-table-clause-err c).After-rest)))
 
 pub returns-in_err-roots-clause-err : goal.returns-in_err-roots-clause-err
@@ -31,7 +31,7 @@ returns-in_err-roots-clause-err c =
     let h = c.in_ok-heading.heading in
     let left = err_from_is_err_and c.from_residual-in_err-roots.result c.from_residual-in_err-roots.ensures.1 in
     rw (left.1, left.2) (fails c.args.bytes.now c.in_err-roots.field-0.0 (EndsWithin (Are IsU64 h.roots) words_text c.in_ok-table.after_table.now) c.in_err-roots.ensures
-    (short_roots c.args.bytes.now c.rest.result.now c.in_ok-heading.version h c.in_ok-heading.ensures.ok.0 c.in_ok-heading.ensures.ok.1 (opened (goal.at.returns-in_err-roots-clause-err c).After-rest)
+    (short_roots _ c.args.bytes.now c.rest.result.now c.in_ok-heading.version h c.in_ok-heading.ensures.ok.0 c.in_ok-heading.ensures.ok.1 (opened (goal.at.returns-in_err-roots-clause-err c).After-rest)
     c.in_ok-table.table.items c.in_ok-table.after_table.now c.in_ok-table.ensures.0 c.in_ok-table.ensures.1))
 
 pub returns-in_err-log-clause-err : goal.returns-in_err-log-clause-err
@@ -39,7 +39,7 @@ returns-in_err-log-clause-err c =
     let h = c.in_ok-heading.heading in
     let left = err_from_is_err_and c.from_residual-in_err-log.result c.from_residual-in_err-log.ensures.1 in
     rw (left.1, left.2) (fails c.args.bytes.now c.in_err-log.field-0.0 (EndsWithin (Are IsU32 h.dirty) numbers_text c.in_ok-roots.after_roots.now) c.in_err-log.ensures
-    (short_log c.args.bytes.now c.rest.result.now c.in_ok-heading.version h c.in_ok-heading.ensures.ok.0 c.in_ok-heading.ensures.ok.1 (opened (goal.at.returns-in_err-log-clause-err c).After-rest)
+    (short_log _ c.args.bytes.now c.rest.result.now c.in_ok-heading.version h c.in_ok-heading.ensures.ok.0 c.in_ok-heading.ensures.ok.1 (opened (goal.at.returns-in_err-log-clause-err c).After-rest)
     c.in_ok-table.table.items c.in_ok-table.after_table.now c.in_ok-table.ensures.0 c.in_ok-table.ensures.1
     c.in_ok-roots.roots.items c.in_ok-roots.after_roots.now c.in_ok-roots.ensures.0 c.in_ok-roots.ensures.1))
 
@@ -48,7 +48,7 @@ returns-in_err-remembered-clause-err c =
     let h = c.in_ok-heading.heading in
     let left = err_from_is_err_and c.from_residual-in_err-remembered.result c.from_residual-in_err-remembered.ensures.1 in
     rw (left.1, left.2) (fails c.args.bytes.now c.in_err-remembered.field-0.0 (EndsWithin (Are RememberedFits h.n) remembered_texts c.in_ok-log.after_log.now) c.in_err-remembered.ensures
-    (short_remembered c.args.bytes.now c.rest.result.now c.in_ok-heading.version h c.in_ok-heading.ensures.ok.0 c.in_ok-heading.ensures.ok.1
+    (short_remembered _ c.args.bytes.now c.rest.result.now c.in_ok-heading.version h c.in_ok-heading.ensures.ok.0 c.in_ok-heading.ensures.ok.1
     (opened (goal.at.returns-in_err-remembered-clause-err c).After-rest)
     c.in_ok-table.table.items c.in_ok-table.after_table.now c.in_ok-table.ensures.0 c.in_ok-table.ensures.1
     c.in_ok-roots.roots.items c.in_ok-roots.after_roots.now c.in_ok-roots.ensures.0 c.in_ok-roots.ensures.1

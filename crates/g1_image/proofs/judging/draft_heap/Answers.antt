@@ -2,8 +2,9 @@ use Rattle.std.proofs.Common.{inl, inr, arith, ℕ, ◌≡◌, ◌<◌, ◌*◌,
 use Rattle.std.proofs.lemmas.List.{length-map}
 use Rattle.std.proofs.lemmas.Result.{err_from_is_err_and}
 use Rattle.std.specs.Prelude.{IfSome}
-use Rattle.g1_words.specs.Geometry.{IsWithinLimits}
+use Rattle.g1_words.specs.Geometry.{IsWithinBounds}
 use Rattle.g1_words.specs.Words.{AreLaid}
+use Rattle.g1_words.proofs.Accepted.{in_bounds}
 use Rattle.g1_image.specs.Image.{region_of_entry}
 use Rattle.g1_image.specs.Faults.{IsFirstBreach, IsKnownKind, HasKnownFlags}
 use Rattle.g1_image.proofs.judging.draft_heap.Goals as goal
@@ -16,8 +17,9 @@ invariant_of-result c =
     let gw : g.w ≡ h.w = c.in_ok-geometry.ensures.ok.0 ∙ c.from.ensures in
     let gk : g.k ≡ h.k = c.in_ok-geometry.ensures.ok.1 ∙ c.from-2.ensures in
     let gn : g.n ≡ h.n = c.in_ok-geometry.ensures.ok.2 ∙ c.from-3.ensures in
-    let limits : IsWithinLimits g.w g.k g.n = subst (λ x. IsWithinLimits x g.k g.n) (sym gw)
-    (subst (λ x. IsWithinLimits h.w x g.n) (sym gk) (subst (λ x. IsWithinLimits h.w h.k x) (sym gn) c.requires.good.sizes)) in (
+    let bounds : IsWithinBounds h.w h.k h.n = in_bounds c.args.limits h.w h.k h.n c.requires.good.sizes in
+    let limits : IsWithinBounds g.w g.k g.n = subst (λ x. IsWithinBounds x g.k g.n) (sym gw)
+    (subst (λ x. IsWithinBounds h.w x g.n) (sym gk) (subst (λ x. IsWithinBounds h.w h.k x) (sym gn) bounds)) in (
       record {
         limits = limits;
         word_count = c.requires.words ∙ (λ t. sym gn t * sym gw t);

@@ -1,9 +1,10 @@
 use Rattle.std.proofs.Common.{List, ℕ, inl, inr, subst}
 use Rattle.std.proofs.lemmas.Result.{err_from_is_err_and}
-use Rattle.g1_image.specs.Image.{IsTextOf}
+use Rattle.g1_words.specs.declared.limits.Limits.{Limits}
+use Rattle.g1_image.specs.Image.{IsTextWithin}
 use Rattle.g1_image.specs.Front.{IsLaidOut}
 use Rattle.g1_image.specs.Drafted.{IsDraftOf}
-use Rattle.g1_image.specs.Faults.{MayFail, HeapFault}
+use Rattle.g1_image.specs.Faults.{MayFailWithin, HeapFault}
 use Rattle.g1_image.proofs.Assembled.{heap_fault}
 use Rattle.g1_image.proofs.Told.{if_ok, if_err}
 use Rattle.g1_image.proofs.judging.image_of_by.Goals as goal
@@ -19,16 +20,16 @@ returns-in_err-check_heap_by-clause-err g c =
     ])
 
 pub finish-requires-clause-text : goal.finish-requires-clause-text
-finish-requires-clause-text g c = (c.requires.text.0, c.in_ok-drafted.ensures.ok c.requires.text.0 c.requires.text.1)
+finish-requires-clause-text g c = (c.args.limits, c.requires.text.0, c.in_ok-drafted.ensures.ok c.requires.text.0 c.requires.text.1)
 
 pub returns-clause-ok : goal.returns-clause-ok
 returns-clause-ok g c =
-    if_ok c.finish.result (λ i. (bytes : List ℕ) → IsDraftOf bytes c.in_ok-drafted.drafted → IsTextOf bytes i)
-    (λ i. (bytes : List ℕ) → IsLaidOut bytes c.args.front c.args.words.items → IsTextOf bytes i)
-    (λ i h bytes told. h bytes (c.in_ok-drafted.ensures.ok bytes told)) c.finish.ensures.ok
+    if_ok c.finish.result (λ i. (limits : Limits) (bytes : List ℕ) → IsDraftOf limits bytes c.in_ok-drafted.drafted → IsTextWithin limits bytes i)
+    (λ i. (bytes : List ℕ) → IsLaidOut c.args.limits bytes c.args.front c.args.words.items → IsTextWithin c.args.limits bytes i)
+    (λ i h bytes told. h c.args.limits bytes (c.in_ok-drafted.ensures.ok bytes told)) c.finish.ensures.ok
 
 pub returns-clause-err : goal.returns-clause-err
 returns-clause-err g c =
-    if_err c.finish.result (λ e. (bytes : List ℕ) → IsDraftOf bytes c.in_ok-drafted.drafted → MayFail bytes e)
-    (λ e. (bytes : List ℕ) → IsLaidOut bytes c.args.front c.args.words.items → MayFail bytes e)
-    (λ e h bytes told. h bytes (c.in_ok-drafted.ensures.ok bytes told)) c.finish.ensures.err
+    if_err c.finish.result (λ e. (limits : Limits) (bytes : List ℕ) → IsDraftOf limits bytes c.in_ok-drafted.drafted → MayFailWithin limits bytes e)
+    (λ e. (bytes : List ℕ) → IsLaidOut c.args.limits bytes c.args.front c.args.words.items → MayFailWithin c.args.limits bytes e)
+    (λ e h bytes told. h c.args.limits bytes (c.in_ok-drafted.ensures.ok bytes told)) c.finish.ensures.err

@@ -18,7 +18,7 @@ use Rattle.g1_image.proofs.judging.image_without.Goals.{After-heap_without-heap}
 pub returns-in_err-drafted-clause-err : goal.returns-in_err-drafted-clause-err
 returns-in_err-drafted-clause-err c =
     let left = err_from_is_err_and c.from_residual.result c.from_residual.ensures.1 in
-    rw (left.1, left.2) (λ bytes laid. table_without bytes c.args.front.table.items c.args.front.heading.n c.in_err-drafted.field-0.0 c.in_err-drafted.ensures.stage
+    rw (left.1, left.2) (λ bytes laid. table_without c.args.limits bytes c.args.front.table.items c.args.front.heading.n c.in_err-drafted.field-0.0 c.in_err-drafted.ensures.stage
     (c.in_err-drafted.ensures.err bytes laid))
 
 pub returns-in_err-marks-clause-err : goal.returns-in_err-marks-clause-err
@@ -28,7 +28,7 @@ returns-in_err-marks-clause-err c =
     let is = c.in_ok-drafted.ensures.ok bytes laid in
     elim c.in_err-marks.ensures.err [
       | inl m ↦ inl m
-      | inr s ↦ inr (subst (FaultWithout bytes) (sym s.1) (is.file, is.fits, is.text, (is.known, subst (λ h. IsFirstBreach (IsShaped h) h.geometry.n s.0) is.heap s.2)))
+      | inr s ↦ inr (subst (FaultWithout c.args.limits bytes) (sym s.1) (is.file, is.fits, is.text, (is.known, subst (λ h. IsFirstBreach (IsShaped h) h.geometry.n s.0) is.heap s.2)))
     ])
 
 pub check_cards-requires-clause-log : goal.check_cards-requires-clause-log
@@ -61,7 +61,7 @@ returns-in_err-log-clause-err c =
           let first : CardFault (heap_of is.file) is.file.log is.file.remembered x.0 = subst (λ l. CardFault (heap_of is.file) is.file.log l x.0)
           (ap (λ l. map (λ s. s.items) l) c.deref-2.ensures.value ∙ is.remembered)
           (subst (λ l. CardFault (heap_of is.file) l sets x.0) (c.deref.ensures.value ∙ is.log) (subst (λ y. CardFault y log sets x.0) is.heap x.2)) in
-          inr (subst (FaultWithout bytes) (sym x.1) (is.file, is.fits, is.text, is.known, shaped, first))
+          inr (subst (FaultWithout c.args.limits bytes) (sym x.1) (is.file, is.fits, is.text, is.known, shaped, first))
     ])
 
 pub heap_without-heap-requires-clause-pins : goal.heap_without-heap-requires-clause-pins
@@ -73,7 +73,7 @@ pub heap_without-heap-requires-clause-zeros : goal.heap_without-heap-requires-cl
 heap_without-heap-requires-clause-zeros c =
     let told = c.in_ok-drafted.ensures.ok c.requires.text.0 c.requires.text.1 in
     let shaped : AllShaped (heap_of told.file) = subst (λ h. ShapedBelow h h.geometry.n) told.heap c.in_ok-marks.ensures.ok.shaped in
-    subst (λ h. (r i : ℕ) → r < h.geometry.n → (region h r).top ≤ i → i < h.geometry.w → slice_index h.words (start h r + i) ≡ 0) (sym told.heap) (zeros told.file told.fits shaped)
+    subst (λ h. (r i : ℕ) → r < h.geometry.n → (region h r).top ≤ i → i < h.geometry.w → slice_index h.words (start h r + i) ≡ 0) (sym told.heap) (zeros _ told.file told.fits shaped)
 
 -- the image that is made
 abbrev made : After-heap_without-heap → Image
@@ -84,14 +84,14 @@ made c = record {
 }
 
 -- it is the file's, with null in the stale words
-abbrev told_image : (c : After-heap_without-heap) (bytes : List ℕ) → IsDraftOf bytes c.in_ok-drafted.drafted → Image
+abbrev told_image : (c : After-heap_without-heap) (bytes : List ℕ) → IsDraftOf c.args.limits bytes c.in_ok-drafted.drafted → Image
 told_image c bytes is = record {
   heap = without (heap_of is.file) c.in_ok-stale.stale.roots.items c.in_ok-stale.stale.slots.items;
   remembered = is.file.remembered;
   log = is.file.log;
 }
 
-is_told : (c : After-heap_without-heap) (bytes : List ℕ) (is : IsDraftOf bytes c.in_ok-drafted.drafted) → made c ≡ told_image c bytes is
+is_told : (c : After-heap_without-heap) (bytes : List ℕ) (is : IsDraftOf c.args.limits bytes c.in_ok-drafted.drafted) → made c ≡ told_image c bytes is
 is_told c bytes is = λ t. record {
   heap = (c.heap_without-heap.ensures.same ∙ ap (λ x. without x c.in_ok-stale.stale.roots.items c.in_ok-stale.stale.slots.items) is.heap) t;
   remembered = is.remembered t;

@@ -5,4 +5,4 @@ pub returns-clause-evacuation : goal.returns-clause-evacuation
 returns-clause-evacuation c = same_evacuation
 
 pub returns-clause-answer : goal.returns-clause-answer
-returns-clause-answer c = same_answer
+returns-clause-answer c = λ limits cost. same_answer cost limits

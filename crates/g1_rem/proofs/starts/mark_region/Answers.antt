@@ -1,5 +1,6 @@
-use Rattle.std.proofs.Common.{arith, ap, subst, sym, ◌∙◌, ◌≡◌, ◌≤◌, ◌+◌, ◌*◌, ◌^◌, min, ℕ, length, map}
+use Rattle.std.proofs.Common.{arith, ap, subst, sym, ◌∙◌, ◌≡◌, ◌≤◌, ◌+◌, ◌*◌, min, ℕ, length, map}
 use Rattle.std.specs.Prelude.{None}
+use Rattle.g1_words.specs.Geometry.{most_words}
 use Rattle.g1_words.specs.Heap.{start, object_at}
 use Rattle.g1_rem.specs.Marks.{IsMarkedTo}
 use Rattle.g1_rem.specs.Starts.{address_below}
@@ -54,7 +55,7 @@ mark-requires-clause-address c = omega (arith, c.min.ensures, c.requires.until)
 pub mark-requires-clause-room : goal.mark-requires-clause-room
 mark-requires-clause-room c =
     let k : c.card_words-k.result ≡ c.args.heap.now.geometry.k = c.card_words-k.ensures.value ∙ ap (λ g. g.k) c.geometry-geometry.ensures.same in
-    subst (λ k. c.args.from + length c.objects.firsts.items * k ≤ 2 ^ 25) (sym k) c.objects.invariant.1
+    subst (λ k. c.args.from + length c.objects.firsts.items * k ≤ 2 * most_words) (sym k) c.objects.invariant.1
 
 pub mark-requires-in-objects-clause-card : goal.mark-requires-in-objects-clause-card
 mark-requires-in-objects-clause-card c =
@@ -89,7 +90,7 @@ objects-preserved c =
     (subst (λ x. IsMarkedTo mid new c.args.from c.card_words-k.result x (address_below (at + 1))) c.min-in-objects.ensures c.in_ok-mark-2.ensures.marked)) in (
       marking_step c.args.heap.now c.args.from c.args.until c.args.region at c.objects_end-end.result old c.geometry-geometry.ensures.valid
           c.requires.region c.objects.invariant.0 c.objects-test.true mid new size (size_read b.After-size_at-size) gap cards,
-      subst (λ k. c.args.from + length c.mark-in-objects.new.firsts.items * k ≤ 2 ^ 25) k c.mark-in-objects.ensures.room,
+      subst (λ k. c.args.from + length c.mark-in-objects.new.firsts.items * k ≤ 2 * most_words) k c.mark-in-objects.ensures.room,
     )
 
 pub returns-clause-told : goal.returns-clause-told
@@ -100,12 +101,12 @@ returns-clause-told c =
 pub returns-in_err-mark-clause-room : goal.returns-in_err-mark-clause-room
 returns-in_err-mark-clause-room c =
     let k : c.card_words-k.result ≡ c.args.heap.now.geometry.k = c.card_words-k.ensures.value ∙ ap (λ g. g.k) c.geometry-geometry.ensures.same in
-    subst (λ k. c.args.from + length c.mark.new.firsts.items * k ≤ 2 ^ 25) k c.mark.ensures.room
+    subst (λ k. c.args.from + length c.mark.new.firsts.items * k ≤ 2 * most_words) k c.mark.ensures.room
 
 pub returns-in_err-mark-2-clause-room : goal.returns-in_err-mark-2-clause-room
 returns-in_err-mark-2-clause-room c =
     let k : c.card_words-k.result ≡ c.args.heap.now.geometry.k = c.card_words-k.ensures.value ∙ ap (λ g. g.k) c.geometry-geometry.ensures.same in
-    subst (λ k. c.args.from + length c.mark-in-objects.new.firsts.items * k ≤ 2 ^ 25) k c.mark-in-objects.ensures.room
+    subst (λ k. c.args.from + length c.mark-in-objects.new.firsts.items * k ≤ 2 * most_words) k c.mark-in-objects.ensures.room
 
 pub overflow_add-at : goal.overflow_add-at
 overflow_add-at c =

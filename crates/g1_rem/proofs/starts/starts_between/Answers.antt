@@ -1,13 +1,14 @@
-use Rattle.std.proofs.Common.{◌≡◌, ◌≤◌, ◌+◌, ◌*◌, ◌^◌, ◌∙◌, ℕ, ap, arith, length, map, subst, sym}
+use Rattle.std.proofs.Common.{◌≡◌, ◌≤◌, ◌+◌, ◌*◌, ◌∙◌, ℕ, ap, arith, length, map, subst, sym}
 use Rattle.std.proofs.Math.Nat.{mul-le-mul_right}
 use Rattle.std.specs.Prelude.{None}
+use Rattle.g1_words.specs.Geometry.{most_words}
 use Rattle.g1_rem.specs.Marks.{IsMarkedTo}
 use Rattle.g1_rem.specs.Starts.{address_below}
 use Rattle.g1_rem.proofs.Marks.{begin_told, end_told}
 use Rattle.g1_rem.proofs.starts.starts_between.Goals as goal
 
 -- where a region begins, and the last one ends, that is no higher than the heap
-low : (w n r x : ℕ) → x ≡ r * w → r ≤ n → n * w ≤ 2 ^ 24 → x ≤ 2 ^ 24
+low : (w n r x : ℕ) → x ≡ r * w → r ≤ n → n * w ≤ most_words → x ≤ most_words
 low w n r x e le most = let m = mul-le-mul_right w le in omega (arith, e, m, most)
 
 pub overflow_sub-end : goal.overflow_sub-end
@@ -48,7 +49,7 @@ mark-requires-clause-address c =
 pub mark-requires-clause-room : goal.mark-requires-clause-room
 mark-requires-clause-room c =
     let k : c.card_words.result ≡ c.args.heap.now.geometry.k = c.card_words.ensures.value ∙ ap (λ g. g.k) c.geometry-geometry.ensures.same in
-    subst (λ k. c.start-begin.result + length c.loop-region.firsts.items * k ≤ 2 ^ 25) (sym k) c.loop-region.invariant.1
+    subst (λ k. c.start-begin.result + length c.loop-region.firsts.items * k ≤ 2 * most_words) (sym k) c.loop-region.invariant.1
 
 pub loop-region-init : goal.loop-region-init
 loop-region-init c =

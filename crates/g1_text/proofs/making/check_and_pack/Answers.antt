@@ -1,11 +1,12 @@
 use Rattle.std.proofs.Common.{◌≡◌, List, ℕ, inl, inr, sym, ◌∙◌, ap, subst}
+use Rattle.g1_words.specs.declared.limits.Limits.TheVariants.{Wide}
 use Rattle.g1_words.specs.declared.fault.Fault.{Fault}
 use Rattle.g1_words.specs.declared.fault.Fault.TheVariants.{Memory}
 use Rattle.g1_image.specs.declared.cursor.Version.TheVariants.{Two}
 use Rattle.g1_image.specs.Text.{file_text}
-use Rattle.g1_image.specs.Image.{Image, IsTextIn, IsTextOf}
+use Rattle.g1_image.specs.Image.{Image, IsTextIn, IsTextWithin}
 use Rattle.g1_image.specs.Parts.{CountsFit}
-use Rattle.g1_image.specs.Faults.{MayFail}
+use Rattle.g1_image.specs.Faults.{MayFailWithin}
 use Rattle.g1_image.proofs.Images.{file_fits}
 use Rattle.g1_image.proofs.NoFault.{no_fault}
 use Rattle.g1_text.specs.Content.{Content, IsContentOf, file_with}
@@ -20,9 +21,9 @@ module _ (s : Content) (i : Image) (is : IsContentOf s i) where
   pub packed : (bytes : List ℕ) → (CountsFit (file_with s) → bytes ≡ file_text (file_with s)) → IsTextIn Two bytes i
   packed bytes text = (is.image, tt, text fits ∙ ap file_text is.same)
 
-  pub memory : (bytes seen : List ℕ) (e : Fault) → seen ≡ bytes → (CountsFit (file_with s) → bytes ≡ file_text (file_with s)) → MayFail seen e → e ≡ Memory
+  pub memory : (bytes seen : List ℕ) (e : Fault) → seen ≡ bytes → (CountsFit (file_with s) → bytes ≡ file_text (file_with s)) → MayFailWithin Wide seen e → e ≡ Memory
   memory bytes seen e same text (inl m) = m
-  memory bytes seen e same text (inr f) = absurd (no_fault seen i e (Two, subst (λ b. IsTextIn Two b i) (sym same) (packed bytes text)) f)
+  memory bytes seen e same text (inr f) = absurd (no_fault Wide seen i e (Two, subst (λ b. IsTextIn Two b i) (sym same) (packed bytes text), is.image.heap.limits) f)
 
 pub returns-in-Ok-clause-text : goal.returns-in-Ok-clause-text
 returns-in-Ok-clause-text c = λ i is. packed (content c.args.draft.now) i is c.in_ok-bytes.bytes.items (λ fit. c.in_ok-bytes.ensures fit)
@@ -35,4 +36,4 @@ returns-in-Err-clause-text c = λ i is.
 pub returns-in-Ok-clause-only : goal.returns-in-Ok-clause-only
 returns-in-Ok-clause-only c = λ fit.
     made (content c.args.draft.now) c.in_ok-bytes.bytes.items c.in_ok-settle.ensures.only (c.in_ok-bytes.ensures fit)
-    (subst (λ b. (i : Image) × IsTextOf b i) c.as_slice.ensures.value c.in-Ok.ensures.ok)
+    (subst (λ b. (i : Image) × IsTextWithin Wide b i) c.as_slice.ensures.value c.in-Ok.ensures.ok)

@@ -1,5 +1,6 @@
 use Rattle.std.proofs.Common.{false, subst}
-use Rattle.g1_image.specs.Image.{IsImageText}
+use Rattle.g1_words.specs.declared.limits.Limits.TheVariants.{Wide}
+use Rattle.g1_image.specs.Image.{IsImageTextWithin}
 use Rattle.g1_text.specs.Reading.{lines_in}
 use Rattle.g1_text.specs.Forms.{GraphHeading, GraphLine}
 use Rattle.g1_text.specs.Drafts.{AreTaken}
@@ -7,7 +8,7 @@ use Rattle.g1_text.proofs.Formed.{meant_text}
 use Rattle.g1_text.proofs.named.make_graph.Goals as goal
 
 pub returns-in-Ok-clause-image : goal.returns-in-Ok-clause-image
-returns-in-Ok-clause-image c = subst IsImageText c.as_slice.ensures.value c.in-Ok.ensures.ok
+returns-in-Ok-clause-image c = subst (IsImageTextWithin Wide) c.as_slice.ensures.value c.in-Ok.ensures.ok
 
 pub returns-in-Ok-clause-known : goal.returns-in-Ok-clause-known
 returns-in-Ok-clause-known c =

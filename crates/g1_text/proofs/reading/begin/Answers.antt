@@ -1,7 +1,7 @@
 use Rattle.std.proofs.Common.{◌≡◌, [], ◌∷◌, drop, sym, ◌∙◌, ap, subst, arith}
 use Rattle.std.specs.Prelude.{decimal, codes}
 use Rattle.std.proofs.lemmas.Result.{MatchResult-weaker}
-use Rattle.g1_words.specs.Geometry.{IsWithinLimits}
+use Rattle.g1_words.specs.Geometry.{IsWithinBounds}
 use Rattle.g1_text.specs.Lines.{current_word}
 use Rattle.g1_text.specs.Content.{begun}
 use Rattle.g1_text.specs.Forms.{ImageHeading, Sizes, Labelled, Current, ◌▸◌}
@@ -26,7 +26,7 @@ returns-in_default-clause-says c = λ after b.
     let rest = codes "roots" ∷ decimal b.roots ∷ codes "dirty" ∷ decimal b.dirty ∷ codes "current" ∷ current_word b.current ∷ [] in
     let read = c.sizes.ensures.full b.geometry.w b.geometry.k b.geometry.n rest (omega (arith, b.limits.w_most)) (omega (arith, b.limits.k_most)) (omega (arith, b.limits.n_most)) (ap (drop 1) b.line) in
     let sizes = ok_one c.in_ok-told.was read.0 in
-    absurd (c.in_default.ensures.err.1 (subst (λ x. IsWithinLimits x.w x.k x.n) (sym sizes) b.limits))
+    absurd (c.in_default.ensures.err.1 (subst (λ x. IsWithinBounds x.w x.k x.n) (sym sizes) b.limits))
 
 pub returns-clause-says : goal.returns-clause-says
 returns-clause-says c = λ after b.
@@ -37,7 +37,7 @@ returns-clause-says c = λ after b.
     let parts = c.in-Ok.ensures.ok in
     let geometry : c.in-Ok.geometry ≡ b.geometry = λ i. record { w = (parts.0 ∙ ap (λ x. x.w) sizes) i; k = (parts.1 ∙ ap (λ x. x.k) sizes) i; n = (parts.2 ∙ ap (λ x. x.n) sizes) i } in
     let says = (λ i. begun (geometry i) ((heading i).1) ((heading i).0.roots) ((heading i).0.dirty)) ∙ sym b.says in
-    MatchResult-weaker c.new-2.result c.new-2.ensures (λ _ e. e ∙ says) (λ _ m. m)
+    MatchResult-weaker c.new.result c.new.ensures (λ _ e. e ∙ says) (λ _ m. m)
 
 pub returns-clause-form : goal.returns-clause-form
 returns-clause-form c =
@@ -45,6 +45,6 @@ returns-clause-form c =
     let g = c.in-Ok.geometry in
     let behind = Labelled (codes "roots") ▸ Labelled (codes "dirty") ▸ Current in
     let sizes = sizes_read g.w g.k g.n told.w told.k told.n c.in-Ok.ensures.ok c.within_limits.ensures c.in_ok-told.ensures.digits in
-    on_ok c.new-2.result
+    on_ok c.new.result
     (subst (λ word. ImageHeading (word ∷ c.args.words)) (sym (same_word c.args.first.now (codes "heap") c.if-ne.ensures))
     (begins_with (codes "heap") (Sizes ▸ behind) c.args.words (then_all Sizes behind sizes c.in_ok-heading.ensures.form)))

@@ -1,5 +1,5 @@
-use Rattle.std.proofs.Common.{◌≡◌, ◌⊎◌, ◌<◌, ◌≤◌, inl, inr, ◌∙◌, ap, arith, rules}
-use Rattle.g1_words.specs.Geometry.{Geometry, most_roots}
+use Rattle.std.proofs.Common.{◌≡◌, ◌⊎◌, ◌<◌, ◌≤◌, inl, inr, ◌∙◌, ap, subst, arith}
+use Rattle.g1_words.specs.Geometry.{Geometry, IsWithinLimits, most_roots}
 use Rattle.g1_words.specs.declared.fault.Fault.TheVariants.{Memory, Geometry as Outside}
 use Rattle.g1_trace.specs.Run.{empty_image}
 use Rattle.g1_trace.specs.Running.{IsHeapSize}
@@ -14,8 +14,9 @@ returns-in-Ok-clause-ok c =
 
 pub returns-in-Ok-clause-limits : goal.returns-in-Ok-clause-limits
 returns-in-Ok-clause-limits c =
+    let geometry : c.in-Ok.geometry ≡ record { w = c.args.w; k = c.args.k; n = c.args.n } = (λ t. record { w = c.in-Ok.ensures.ok.0 t; k = c.in-Ok.ensures.ok.1 t; n = c.in-Ok.ensures.ok.2 t }) in
     IfOk-weaken c.new-in-Ok.result (λ m. (m ≡ empty_image c.in-Ok.geometry c.args.roots) × (c.args.roots ≤ most_roots)) (λ m. IsHeapSize (record { w = c.args.w; k = c.args.k; n = c.args.n }) c.args.roots)
-    (λ m made. record { sizes = search rules; roots = made.1 }) c.new-in-Ok.ensures.ok
+    (λ m made. record { sizes = subst (λ (x : Geometry). IsWithinLimits x.w x.k x.n) geometry c.in-Ok.ensures.limits; roots = made.1 }) c.new-in-Ok.ensures.ok
 
 pub returns-in-Ok-clause-refused : goal.returns-in-Ok-clause-refused
 returns-in-Ok-clause-refused c =

@@ -6,7 +6,7 @@ use Rattle.g1_image.proofs.cursor.Cursor.opening.Goals as goal
 pub returns-in_err-version-clause-err : goal.returns-in_err-version-clause-err
 returns-in_err-version-clause-err c =
     let same = err_from_is_err_and c.from_residual.result c.from_residual.ensures.1 in
-    rw (same.1, same.2) c.in_err-version.ensures.err
+    rw (same.1, same.2) (c.in_err-version.ensures.err c.args.limits)
 
 pub returns-in-None-clause-err : goal.returns-in-None-clause-err
 returns-in-None-clause-err c = inr (inl (c.in_ok-version.version, c.magic.new.self, c.in_ok-version.ensures.ok, c.in-None.ensures.short))

@@ -2,6 +2,7 @@ use Rattle.std.proofs.Common.{◌≡◌, ◌≤◌, ◌+◌, ◌*◌, inl, inr, 
 use Rattle.std.specs.Prelude.{Ok, Err}
 use Rattle.std.proofs.lemmas.Result.{err_from_is_err_and}
 use Rattle.std.proofs.Math.Nat.{mul-le-mul_right}
+use Rattle.g1_words.specs.Geometry.{most_words}
 use Rattle.g1_image.specs.Draft.{ShapedBelow}
 use Rattle.g1_image.specs.Marks.{StartsOf}
 use Rattle.g1_image.specs.Shapes.{IsShapedRange}
@@ -29,7 +30,7 @@ pub append-requires-clause-room : goal.append-requires-clause-room
 append-requires-clause-room c =
     let h = c.args.self.now.draft.now in
     let range = c.requires.cut.cut.each c.loop-part.part-index c.loop-part-test.true in
-    let most : h.geometry.n * h.geometry.w ≤ 16777216 = omega (arith, c.geometry.ensures.draft.limits.words_most) in
+    let most : h.geometry.n * h.geometry.w ≤ most_words = omega (arith, c.geometry.ensures.draft.limits.words_most) in
     omega (arith, c.loop-part.invariant.starts.count, (marked (goal.at.append-requires-clause-room c).In-Ok).0.count, mul-le-mul_right h.geometry.w range.within, most)
 
 pub returns-in-Err-clause-err : goal.returns-in-Err-clause-err

@@ -2,12 +2,12 @@ use Rattle.std.proofs.Common.{◌≡◌, ◌⊎◌, List, ℕ, inr}
 use Rattle.std.proofs.lemmas.Result.{err_from_is_err_and}
 use Rattle.g1_words.specs.declared.fault.Fault.TheVariants as fault
 use Rattle.g1_words.specs.declared.fault.Device.TheVariants as device
-use Rattle.g1_image.specs.Image.{IsTextOf}
+use Rattle.g1_image.specs.Image.{IsTextWithin}
 use Rattle.g1_image.specs.Front.{IsLaidOut}
-use Rattle.g1_image.specs.Faults.{MayFail}
+use Rattle.g1_image.specs.Faults.{MayFailWithin}
 use Rattle.g1_image.specs.Source.{HoldsOfLeft}
 use Rattle.g1_image.proofs.Told.{if_ok, if_err, mark_stays, read_out_at_end}
-use Rattle.g1_image.proofs.decoding.read.Goals as goal
+use Rattle.g1_image.proofs.decoding.read_within.Goals as goal
 
 pub returns-in_err-front-clause-err : goal.returns-in_err-front-clause-err
 returns-in_err-front-clause-err g c =
@@ -28,15 +28,15 @@ pub returns-clause-ok : goal.returns-clause-ok
 returns-clause-ok g c =
     let left = g.S.Source.left c.args.source.now in
     let is = c.in_ok-front.ensures.ok in
-    if_ok c.image_of.result (λ i. (bytes : List ℕ) → IsLaidOut bytes c.in_ok-front.front c.in_ok-front.words.items → IsTextOf bytes i)
-    (λ i. HoldsOfLeft left (λ xs. IsTextOf xs i)) (λ i h. (is.0, h is.0 is.1, is.2)) c.image_of.ensures.ok
+    if_ok c.image_of.result (λ i. (bytes : List ℕ) → IsLaidOut c.args.limits bytes c.in_ok-front.front c.in_ok-front.words.items → IsTextWithin c.args.limits bytes i)
+    (λ i. HoldsOfLeft left (λ xs. IsTextWithin c.args.limits xs i)) (λ i h. (is.0, h is.0 is.1, is.2)) c.image_of.ensures.ok
 
 pub returns-clause-err : goal.returns-clause-err
 returns-clause-err g c =
     let left = g.S.Source.left c.args.source.now in
     let is = c.in_ok-front.ensures.ok in
-    if_err c.image_of.result (λ e. (bytes : List ℕ) → IsLaidOut bytes c.in_ok-front.front c.in_ok-front.words.items → MayFail bytes e)
-    (λ e. (e ≡ fault.Device device.Input) ⊎ HoldsOfLeft left (λ xs. MayFail xs e))
+    if_err c.image_of.result (λ e. (bytes : List ℕ) → IsLaidOut c.args.limits bytes c.in_ok-front.front c.in_ok-front.words.items → MayFailWithin c.args.limits bytes e)
+    (λ e. (e ≡ fault.Device device.Input) ⊎ HoldsOfLeft left (λ xs. MayFailWithin c.args.limits xs e))
     (λ e h. inr (is.0, h is.0 is.1, is.2)) c.image_of.ensures.err
 
 pub returns-clause-end : goal.returns-clause-end
@@ -45,7 +45,7 @@ returns-clause-end g c = read_out_at_end _ c.image_of.result c.in_ok-front.ensur
 pub returns-clause-marks : goal.returns-clause-marks
 returns-clause-marks g c =
     let is = c.in_ok-front.ensures.ok in
-    mark_stays _ _ is.0 c.image_of.result
-    (if_err c.image_of.result (λ e. (bytes : List ℕ) → IsLaidOut bytes c.in_ok-front.front c.in_ok-front.words.items → MayFail bytes e)
-    (λ e. MayFail is.0 e) (λ e h. h is.0 is.1) c.image_of.ensures.err)
+    mark_stays c.args.limits _ _ is.0 c.image_of.result
+    (if_err c.image_of.result (λ e. (bytes : List ℕ) → IsLaidOut c.args.limits bytes c.in_ok-front.front c.in_ok-front.words.items → MayFailWithin c.args.limits bytes e)
+    (λ e. MayFailWithin c.args.limits is.0 e) (λ e h. h is.0 is.1) c.image_of.ensures.err)
     c.in_ok-front.ensures.marks
