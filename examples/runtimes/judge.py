@@ -56,6 +56,7 @@ class Runtime:
 
 RUNTIMES = {
     "chez": Runtime("chez.ss", "chezscheme", ["scheme", "--script", "{file}"]),
+    "chicken": Runtime("chicken.scm", "chicken-bin", ["{room}/walk"], ["csc", "-O2", "-o", "{room}/walk", "{file}"]),
     "clisp": Runtime("clisp.lisp", "clisp", ["clisp", "-q", "-q", "-norc", "{file}"]),
     "cpython": Runtime("cpython.py", "python3", ["python3", "{file}"], moves=False),
     "ghc": Runtime("ghc.hs", "ghc", ["{room}/walk"], ["ghc", "-O1", "-rtsopts", "-package", "ghc-heap", "-with-rtsopts=-A1g",
