@@ -383,8 +383,8 @@ for step, names in {steps}:
     open(f"{{room}}/{{step}}.txt", "w").write("graph\\n" + "".join(f"object {{name}} 1/0\\n" for name in names))
 for step in {maps}:
     open(f"{{room}}/{{step}}", "w").close()
-for line in {lines}:
-    print(line)
+print(*{lines}, sep="\\n", end={end})
+sys.exit({problem})
 """
     HEAP = """#!{python}
 import sys
@@ -401,10 +401,11 @@ sys.exit(0 if verdict.startswith("same") else 1 if verdict.startswith("differ") 
     FOUND = "differ split at judged.left: object c (Node) before, object a (Leaf) after; c before is d after on an earlier path"
     TORN = "differ data at judged.left: object c (Node) before, object c (Node) after; data word 1, key, is 2 (0x2) before, 3 (0x3) after"
 
-    def judged(self, steps=STEPS, lines=LINES, verdicts=None, words=("ruby",), maps=("names",)):
+    def judged(self, steps=STEPS, lines=LINES, verdicts=None, words=("ruby",), maps=("names",), problem=None, end="\n"):
         """The status and what is printed."""
         with tempfile.TemporaryDirectory() as room:
-            texts = {"ruby": self.RUBY.format(python=sys.executable, steps=steps, lines=lines, maps=maps),
+            texts = {"ruby": self.RUBY.format(python=sys.executable, steps=steps, lines=lines, maps=maps, problem=repr(problem),
+                                              end=repr(end)),
                      "g1heap": self.HEAP.format(python=sys.executable, verdicts={"wrong": self.FOUND} if verdicts is None else verdicts)}
             for name, text in texts.items():
                 (pathlib.Path(room) / name).write_text(text)
@@ -462,11 +463,34 @@ sys.exit(0 if verdict.startswith("same") else 1 if verdict.startswith("differ") 
         self.assertEqual((found, said[-2]), (1, "program 1 collections, 7 freed: it moved 1 objects, and was to move none  FAILED"))
 
     def test_a_program_that_ends_early_fails(self):
-        for lines in (self.LINES[:-1], self.LINES[1:], []):
-            self.assertEqual(self.judged(lines=lines), (1, ["ruby: its program did not come to its end  FAILED", "0 passed, 1 failed"]))
+        for lines, missing in ((self.LINES[:-1], "come to its end, a line 'again'"), (self.LINES[1:], "begin with a line 'before'"),
+                               ([], "begin with a line 'before'")):
+            self.assertEqual(self.judged(lines=lines), (1, [f"ruby: its program did not {missing}  FAILED", "0 passed, 1 failed"]))
         status, lines = self.judged(lines=["a", "b"], steps=3)
         self.assertEqual((status, lines[-1]), (1, "0 passed, 1 failed"))
         self.assertTrue(lines[0].startswith("ruby: ruby: status 1: "), lines)
+
+    def test_what_a_program_did_before_it_failed_is_judged(self):
+        minor, wrong = "ruby minor: same objects 2 words 2, 1 moved", f"ruby planted wrong: {self.FOUND}"
+        end = "ruby: ruby: status 1: no memory  FAILED"
+        for lines, before in ((self.LINES[:2], [minor]), (self.LINES[:3], [minor, wrong]), (self.LINES[:1], []), ([], [])):
+            expected = (1, [*before, end, f"{len(before)} passed, 1 failed"])
+            self.assertEqual(self.judged(lines=lines, problem="no memory"), expected)
+            self.assertEqual(self.judged(lines=[*lines, "planted wr"], problem="no memory", end=""), expected)  # a line that broke off
+        self.assertEqual(self.judged(problem="at the end")[1][-2:], ["ruby: ruby: status 1: at the end  FAILED", "4 passed, 1 failed"])
+        verdict = "differ null at judged: null before, object a after"
+        status, said = self.judged(lines=self.LINES[:2], verdicts={"minor": verdict}, problem="no memory")
+        self.assertEqual((status, said), (1, [f"ruby minor: {verdict}, 0 moved  FAILED", end, "0 passed, 2 failed"]))
+        self.assertEqual(self.judged(lines=self.LINES, steps=self.STEPS[:2], problem="no memory")[1], [end, "0 passed, 1 failed"])
+
+    def test_a_long_report_keeps_its_beginning_and_its_end(self):
+        line = self.judged(lines=[], problem="a" * 150 + " " + "b" * 250)[1][0]
+        self.assertEqual(line, f"ruby: ruby: status 1: {'a' * 100} .. {'b' * 200}  FAILED")
+
+    def test_a_program_that_plants_no_error_fails(self):
+        status, said = self.judged(lines=[*self.LINES[:2], "again"])
+        self.assertEqual((status, said[-2:]), (1, ["ruby 1 collections, 1 moves: no error was planted, so nobody knows whether one would "
+                                                   "be found  FAILED", "2 passed, 1 failed"]))
 
     def test_a_file_that_is_not_there_fails(self):
         self.assertEqual(self.judged(maps=())[1][0], "ruby: its program wrote no file names  FAILED")

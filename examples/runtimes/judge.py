@@ -10,7 +10,8 @@ map of names. docs/RUNTIMES.md says what such a program prints, and --program ju
 that moved are those with another name, which is their address, or those that the program reports. An error passes if it is
 found at its place: the path, the type and the field of the report have to be those that the program says. A runtime fails,
 too, if none of its collections moved an object: then nothing was judged. A runtime that never moves one fails if none of
-its collections freed one.
+its collections freed one. One whose program plants no error fails. If the program fails, it is said behind what is judged
+of the steps that it printed before.
 A line for each; the last line is 'N passed, M failed'.
 Statuses: 0 all passed; 1 one failed; 2 usage, or a program is not there.
 """
@@ -56,6 +57,7 @@ class Runtime:
 
 RUNTIMES = {
     "chez": Runtime("chez.ss", "chezscheme", ["scheme", "--script", "{file}"]),
+    "chicken": Runtime("chicken.scm", "chicken-bin", ["{room}/walk"], ["csc", "-O2", "-o", "{room}/walk", "{file}"]),
     "clisp": Runtime("clisp.lisp", "clisp", ["clisp", "-q", "-q", "-norc", "{file}"]),
     "cpython": Runtime("cpython.py", "python3", ["python3", "{file}"], moves=False),
     "ghc": Runtime("ghc.hs", "ghc", ["{room}/walk"], ["ghc", "-O1", "-rtsopts", "-package", "ghc-heap", "-with-rtsopts=-A1g",
@@ -81,8 +83,13 @@ def said_by(words, room, where=None, settings=None):
     except subprocess.TimeoutExpired:
         raise Problem(f"{words[0]}: was ended after {SECONDS} seconds") from None
     if ran.returncode:
-        raise Problem(f"{pathlib.Path(words[0]).name}: status {ran.returncode}: {' '.join(ran.stderr.split())[-300:]}")
+        raise Problem(f"{pathlib.Path(words[0]).name}: status {ran.returncode}: {shortened(' '.join(ran.stderr.split()))}")
     return ran.stdout
+
+
+def shortened(text):
+    """A text of at most 300 characters, or its beginning and its end: some languages say first what failed, some last."""
+    return text if len(text) <= 300 else f"{text[:100]} .. {text[-200:]}"
 
 
 def step_of(line):
@@ -96,20 +103,29 @@ def step_of(line):
 
 
 def steps(runtime, room, depth):
-    """What the program of a runtime did, in order: the words of each line. V8 prints addresses into its own output, so
-    that is a file."""
+    """What the program of a runtime did, in order: the words of each line; and the problem that ended it, or None. V8
+    prints addresses into its own output, so that is a file."""
     if runtime.build:
         said_by(runtime.command(runtime.build, room), room, settings=runtime.settings)
+    ended = None
     with open(room / "said", "w+", encoding="utf-8", errors="replace") as said:
-        said_by([*runtime.command(runtime.run, room), str(room), str(depth)], room, said, runtime.settings)
+        try:
+            said_by([*runtime.command(runtime.run, room), str(room), str(depth)], room, said, runtime.settings)
+        except Problem as problem:
+            ended = problem
         said.seek(0)
-        found = [words for line in said if (words := step_of(line.rstrip("\n")))]
-    if not found or found[0] != ["before"] or found[-1] != ["again"]:
-        raise Problem("its program did not come to its end")
+        lines = said.readlines()
+    if ended and lines and not lines[-1].endswith("\n"):
+        lines.pop()
+    found = [words for line in lines if (words := step_of(line.rstrip("\n")))]
+    if not found or found[0] != ["before"]:
+        raise ended or Problem("its program did not begin with a line 'before'")
+    if found[-1] != ["again"] and not ended:
+        raise Problem("its program did not come to its end, a line 'again'")
     for name in ["names", *(f"{words[1] if len(words) > 1 else words[0]}.txt" for words in found)]:
         if not (room / name).is_file():
-            raise Problem(f"its program wrote no file {name}")
-    return found
+            raise ended or Problem(f"its program wrote no file {name}")
+    return found, ended
 
 
 def compared(room, before, after):
@@ -132,19 +148,22 @@ class Judged:
 
     def __init__(self, room, moves):
         self.room, self.moves = room, moves
-        self.collections = self.moved = self.freed = 0
+        self.collections = self.moved = self.freed = self.planted = 0
 
     def lines(self, found):
+        """The line of all collections is there if the program came to its end."""
         last = "before"
         for kind, *words in found[1:]:
             name = words[0] if words else "again"
             line, moved = compared(self.room, last, name)
             if kind == "planted":
+                self.planted += 1
                 yield f"planted {name}: {line}", is_found(line, *words[1:])
                 continue
             last, noted = name, self.noted(kind, moved, words)
             yield f"{name}: {line}, {noted}", bool(SAME.fullmatch(line))
-        yield self.end()
+        if found[-1] == ["again"]:
+            yield self.end()
 
     def noted(self, kind, moved, words):
         """Counts a collection, and says what it did."""
@@ -162,6 +181,8 @@ class Judged:
             line, good = f"{self.collections} collections, {self.freed} freed", self.freed > 0 and self.moved == 0
         if not self.moves and self.moved:
             return f"{line}: it moved {self.moved} objects, and was to move none", False
+        if good and not self.planted:
+            return f"{line}: no error was planted, so nobody knows whether one would be found", False
         return line + ("" if good else ": judged nothing"), good
 
 
@@ -172,10 +193,12 @@ def judge(name, runtime, options):
         room = pathlib.Path(folder) if options.keep is None else options.keep.resolve() / name
         room.mkdir(parents=True, exist_ok=True)
         try:
-            found = steps(runtime, room, options.depth)
+            found, ended = steps(runtime, room, options.depth)
             for line, good in Judged(room, runtime.moves).lines(found):
                 passed, failed = passed + good, failed + (not good)
                 print(f"{name} {line}" + ("" if good else "  FAILED"), flush=True)
+            if ended:
+                raise ended
         except Problem as problem:
             print(f"{name}: {problem}  FAILED", flush=True)
             failed += 1
