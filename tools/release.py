@@ -47,7 +47,8 @@ NOTHING_CHANGED = "nothing has changed since the last proved build"
 SECONDS = 120  # that rt may take to say so
 SYSTEM = "x86_64-linux"
 DOC = "share/doc/g1pause"
-OF_SOURCES = {"tools/build.py", "tools/build_judge.py", "tools/release.py"}  # scripts that a release has no use for
+# Scripts that a release has no use for.
+OF_SOURCES = {"tools/build.py", "tools/build_judge.py", "tools/release.py", "bench/phases.py", "bench/hotspot.py"}
 # The scripts of a release that are called by a name of their own.
 NAMED = {"g1challenge": "tools/challenge.py"}
 IMPORT = re.compile(r"^ *(?:import|from) (\w+)", re.M)

@@ -5,6 +5,7 @@ Programs of a few lines of shell stand in for the two that are compared: one tha
 and each that differs from it in one way has to be reported. The hostile images are judged by image_text.py, an independent
 reading of docs/IMAGE.md.
 """
+import contextlib
 import io
 import os
 import pathlib
@@ -24,6 +25,8 @@ sys.path[:0] = [str(TOP / "bench"), str(TOP / "tools"), str(TOP / "tools" / "lib
 
 import compare  # noqa: E402
 import hostile  # noqa: E402
+import hotspot  # noqa: E402
+import phases  # noqa: E402
 import plot  # noqa: E402
 import progress  # noqa: E402
 from image_text import fault_of, graph, read  # noqa: E402
@@ -475,6 +478,243 @@ class Drawn(Folder):
             image = self.drawn("64", "--words", "262144", "--free", share)[2]
             regions = read(image)[3]
             self.assertAlmostEqual(sum(1 for kind, _top, _flags in regions if not kind) / len(regions), float(share), delta=0.06)
+
+
+# What HotSpot logs of its pauses, in the format of JDK 17 with fewer columns: two young pauses, the second in two
+# steps, a full collection between them, and a pause that marks.
+LOG = """\
+[0.101s][info ][gc,phases] GC(0)   Pre Evacuate Collection Set: 0.1ms
+[0.101s][debug][gc,phases] GC(0)     Prepare TLABs: 0.0ms
+[0.101s][info ][gc,phases] GC(0)   Merge Heap Roots: 0.5ms
+[0.101s][info ][gc,phases] GC(0)   Evacuate Collection Set: 8.0ms
+[0.101s][debug][gc,phases] GC(0)     Object Copy (ms):   Min:  7.4, Avg:  7.4, Max:  7.4, Sum:  7.4, Workers: 1
+[0.101s][info ][gc,phases] GC(0)   Post Evacuate Collection Set: 0.3ms
+[0.101s][debug][gc,phases] GC(0)       Merge Per-Thread State (ms):   Min:  0.0, Avg:  0.0, Max:  0.0, Workers: 1
+[0.101s][debug][gc,phases] GC(0)         Copied Bytes     Min: 2000000, Max: 2000000, Sum: 2000000, Workers: 1
+[0.101s][debug][gc,phases] GC(0)         LAB Waste        Min: 1696, Max: 1696, Diff: 0, Sum: 1696, Workers: 1
+[0.101s][info ][gc       ] GC(0) Pause Young (Normal) (G1 Evacuation Pause) 24M->19M(209M) 9.000ms
+[0.350s][info ][gc,phases] GC(1) Phase 1: Mark live objects 20.000ms
+[0.400s][info ][gc       ] GC(1) Pause Full (System.gc()) 21M->10M(44M) 73.190ms
+[0.501s][info ][gc,phases] GC(2)   Evacuate Collection Set: 3.5ms
+[0.501s][info ][gc,phases] GC(2)   Evacuate Optional Collection Set: 1.5ms
+[0.501s][debug][gc,phases] GC(2)         Copied Bytes     Min: 250000, Max: 750000, Sum: 1000000, Workers: 2
+[0.501s][info ][gc       ] GC(2) Pause Young (Mixed) (G1 Evacuation Pause) 30M->12M(209M) 6.500ms
+[0.600s][info ][gc       ] GC(3) Pause Remark 13M->13M(209M) 2.000ms
+"""
+
+
+class Logs(unittest.TestCase):
+    def test_the_young_pauses_of_a_log_are_added_up(self):
+        pauses = hotspot.read_log(LOG)
+        self.assertEqual(pauses, hotspot.Pauses(count=2, evacuating=8.0 + 3.5 + 1.5, whole=9.0 + 6.5, copied=3_000_000))
+        self.assertAlmostEqual(pauses.a_megabyte("evacuating"), 13 / 3)
+        self.assertAlmostEqual(pauses.a_megabyte("whole"), 15.5 / 3)
+
+    def test_a_later_jdk_writes_a_colon_and_another_digit(self):
+        log = LOG.replace("Copied Bytes ", "Copied Bytes:").replace("8.0ms", "8.00ms")
+        self.assertEqual(hotspot.read_log(log), hotspot.read_log(LOG))
+
+    def test_the_lines_of_two_pauses_may_be_mixed(self):
+        lines = LOG.splitlines()
+        self.assertEqual(hotspot.read_log("\n".join(lines[::2] + lines[1::2])), hotspot.read_log(LOG))
+
+    def test_a_pause_that_the_log_has_in_part_does_not_count(self):
+        for part in ("Pause Young (Mixed)", "GC(2)         Copied", "GC(2)   Evacuate"):
+            log = "\n".join(line for line in LOG.splitlines() if part not in line)
+            self.assertEqual(hotspot.read_log(log), hotspot.Pauses(1, 8.0, 9.0, 2_000_000), part)
+
+    def test_a_log_without_a_copy_is_a_failure(self):
+        nothing = LOG.replace("Sum: 2000000", "Sum: 0").replace("Sum: 1000000", "Sum: 0")
+        for log in ("", LOG.replace("Pause Young", "Pause Old"), nothing):
+            with self.assertRaises(phases.Failed):
+                hotspot.read_log(log)
+
+
+# What the program of the phases prints: by it `evacuate` copied 250,000 words, which are 2 MB.
+PHASES = """\
+starts 1000000 2000000
+live 30000000 31000000
+discover 20000000 21000000
+evacuate 9000000 9500000
+copied 250000
+"""
+CHOICE = """\
+region 3 cost 10 garbage 400 taken
+region 1 cost 10 garbage 300 taken
+region 2 cost 50 garbage 10
+total 20
+"""
+
+
+class Phases(Folder):
+    """phases.py and hotspot.py, with programs of a few lines in the place of ours and of java."""
+
+    def setUp(self):
+        super().setUp()
+        self.calls, choice, printed = (self.room / name for name in ("calls", "choice", "printed"))
+        choice.write_text(CHOICE)
+        printed.write_text(PHASES)
+        # A pause has room for a budget of 8,192, and a choice is that of this budget.
+        self.ours = self.program("ours", f"""cat >/dev/null; echo "$@" >>{shlex.quote(str(self.calls))}
+case "$*" in
+"choose --budget 8192") cat {shlex.quote(str(choice))} ;;
+pause*--budget*) test "${{*##* }}" -le 8192 || exit 5 ;;
+esac""")
+        self.driver = self.program("driver", f"cat >/dev/null; cat {shlex.quote(str(printed))}")
+
+    def run_script(self, script, *words):
+        """The status, and what it says, with a driver that is not built."""
+        with unittest.mock.patch.object(phases, "built", lambda: self.driver), \
+                contextlib.redirect_stdout(io.StringIO()) as out, contextlib.redirect_stderr(io.StringIO()) as errors:
+            try:
+                status = script.main([str(word) for word in words])
+            except SystemExit as ended:
+                status = ended.code
+        return status, out.getvalue(), "\n".join(progress.without_signs(errors.getvalue().splitlines()))
+
+    def timed(self, *words, name="small.img"):
+        return self.run_script(phases, *words, "--program", self.ours, self.inputs / name)
+
+    def rows(self, text, first):
+        """The cells of the rows whose first cell is this."""
+        lines = [line.strip("|").split("|") for line in text.splitlines() if line.startswith("|")]
+        return [[cell.strip() for cell in cells[1:]] for cells in lines if cells[0].strip() == first]
+
+    def test_what_the_program_prints_is_read(self):
+        found = phases.read_phases(PHASES)
+        self.assertEqual(found.copied, 2_000_000)
+        self.assertEqual(found.times["discover"], phases.Time(20.0, 21.0))
+
+    def test_a_phase_that_is_missing_is_a_failure(self):
+        without = PHASES.partition("\n")[2]
+        for text in ("", without, PHASES.replace("copied", "moved"), PHASES + "another 1 1\n"):
+            with self.assertRaises(phases.Failed):
+                phases.read_phases(text)
+
+    def test_the_least_of_all_rounds_counts(self):
+        figures = phases.Figures(pathlib.Path("a.img"), phases.Goal([1], ["1"]))
+        for workers, wall, cpu in ((1, 9.0, 7.0), (1, 8.0, 9.0), (4, 6.0, 20.0), (4, 7.0, 18.0)):
+            figures.add("`evacuate`", workers, phases.Time(wall, cpu))
+            figures.add("starts", workers, phases.Time(wall / 4, cpu))
+        figures.copied = 2_000_000
+        self.assertEqual(figures.least("`evacuate`", 1), phases.Time(8.0, 7.0))
+        self.assertEqual(figures.ratio("`evacuate`", 4, 1), 0.75)
+        self.assertEqual([figures.a_megabyte(1), figures.a_megabyte(4)], [4.0, 3.0])
+        self.assertEqual(figures.a_megabyte(1, ("starts",)), 3.0)
+        figures.copied = 0
+        self.assertIsNone(figures.a_megabyte(1))
+
+    def test_the_set_is_what_the_greatest_budget_with_room_buys(self):
+        status, text, errors = self.timed("--rounds", "1")
+        self.assertEqual((status, errors), (0, ""))
+        self.assertEqual(self.rows(text, "small")[-1], ["`--budget 8192`", "2", "2.0", "4.50", "4.50", "4.00", "4.00"])
+        calls = self.calls.read_text().splitlines()
+        self.assertEqual([f"pause --budget {1 << power}" for power in range(25, 12, -1)], calls[:13])
+        counts = [f"{command} --workers {count}{budget}" for count in (1, 4)
+                  for command, budget in (("live", ""), ("pause", " --budget 8192"))]
+        self.assertEqual(calls[13:], ["choose --budget 8192", *counts])
+
+    def test_each_phase_has_a_row_and_a_mean(self):
+        _status, text, _errors = self.timed("--rounds", "2", "--workers", "1,2,4", "--budget", "8192")
+        rows = {row[0]: row[1:] for row in self.rows(text, "small")[:-1]}
+        self.assertEqual(list(rows), ["starts", "`discover`, all", "`discover`, the set", "`evacuate`", "`live`",
+                                      "`pause --budget`"])
+        self.assertEqual(rows["`discover`, all"], ["30.0", "31.0"] * 3 + ["1.00", "1.00"])
+        self.assertEqual(self.rows(text, "`discover`, all"), [["1", "1.00", "1.00"]])
+
+    def test_a_set_may_be_given(self):
+        status, text, _errors = self.timed("--rounds", "1", "--regions", "1,3-4")
+        self.assertEqual(status, 0)
+        self.assertEqual(self.rows(text, "small")[-1][:3], ["given", "3", "2.0"])
+        self.assertIn("pause --workers 4 1 3 4", self.calls.read_text().splitlines())
+
+    def test_a_program_that_fails_is_told_with_what_it_says(self):
+        self.driver = self.program("driver", "echo 'phases: set region 9' >&2; exit 1")
+        status, text, errors = self.timed("--budget", "8192")
+        self.assertEqual((status, text), (1, ""))
+        self.assertEqual(errors, "phases.py: small.img: driver 1 1 3: status 1: phases: set region 9")
+
+    def test_what_is_no_image_is_refused(self):
+        for name in ("small.trace", "other.txt", "nothing"):
+            status, _text, errors = self.timed(name=name)
+            self.assertEqual(status, 2)
+            self.assertIn(f"{name} is no image", errors)
+
+    def test_figures_are_written_between_the_marks_alone(self):
+        page = self.room / "page.md"
+        page.write_text(f"Before\n{phases.BEGIN}\nold\n{phases.END}\nAfter\n")
+        self.timed("--rounds", "1", "--budget", "8192", "--write", page)
+        written = page.read_text()
+        self.assertTrue(written.startswith(f"Before\n{phases.BEGIN}\n\nSeen on "))
+        self.assertTrue(written.endswith(f"\n\n{phases.END}\nAfter\n"))
+        self.assertNotIn("old", written)
+        for secret in (socket.gethostname(), str(self.room), str(TOP), "/dev/shm"):
+            self.assertNotIn(secret, written)
+
+    # HotSpot
+
+    def java(self, body='cat "$LOG_OF_TEST" >"$log"'):
+        """A folder with a java and a javac."""
+        (self.room / "log").write_text(LOG)
+        self.program("javac", "exit 0")
+        return self.program("java", f"""case "$1" in -version) echo 'openjdk version "17.0.1"' >&2; exit 0;; esac
+for word; do case "$word" in -Xlog:*) log=${{word#*file=}}; log=${{log%%:*}};; esac; done
+LOG_OF_TEST={shlex.quote(str(self.room / 'log'))}
+{body}""")
+
+    def images(self):
+        folder = self.room / "images"
+        folder.mkdir()
+        for name in hotspot.PROGRAMS:
+            (folder / f"{name}.g1").write_bytes((TOP / "examples/one_object.img").read_bytes())
+        return folder
+
+    def test_a_jdk_that_is_not_there_is_one_line(self):
+        status, text, errors = self.run_script(hotspot, self.room / "no" / "java")
+        self.assertEqual((status, text), (2, ""))
+        self.assertEqual(errors, f"hotspot.py: there is no java '{self.room}/no/java'")
+
+    def test_hotspot_stands_beside_evacuate(self):
+        words = ("--rounds", "1", "--images", self.images(), "--program", self.ours)
+        status, text, errors = self.run_script(hotspot, *words, self.java())
+        self.assertEqual((status, errors), (0, ""))
+        # 13/3 and 15.5/3; 9/2 and 8/2; these two divided by 13/3
+        wanted = ["2", "3.0", "4.33", "5.17", "2", "2.0", "4.50", "4.00", "1.04", "0.92"]
+        for name in hotspot.PROGRAMS:
+            self.assertEqual(self.rows(text, name), [["1", *wanted], ["4", *wanted]])
+        self.assertIn("### HotSpot 17.0.1, G1, beside g1pause", text)
+
+    def test_without_images_hotspot_stands_alone(self):
+        status, text, _errors = self.run_script(hotspot, "--rounds", "1", self.java())
+        self.assertEqual(status, 0)
+        wanted = ["2", "3.0", "4.33", "5.17"]
+        self.assertEqual(self.rows(text, "java_graph"), [["1", *wanted], ["4", *wanted]])
+
+    def test_the_threads_and_more_options_are_handed_on(self):
+        seen = self.room / "seen"
+        java = self.java(f'echo "$*" >>{shlex.quote(str(seen))}; cat "$LOG_OF_TEST" >"$log"')
+        self.run_script(hotspot, "--rounds", "1", "--workers", "2", "--option=-XX:-UseCompressedOops", java)
+        calls = seen.read_text().splitlines()
+        wanted = "-XX:+UseG1GC -XX:ParallelGCThreads=2 -Xmx512m -XX:-UseCompressedOops "
+        self.assertEqual(len(calls), len(hotspot.PROGRAMS))
+        for call in calls:
+            self.assertTrue(call.startswith(f"{wanted}-Xlog:gc,gc+phases=debug:"), call)
+
+    def test_the_best_round_counts(self):
+        body = ('test -e "$LOG_OF_TEST.2" && sed s/8.0ms/2.0ms/ "$LOG_OF_TEST" >"$log" || cat "$LOG_OF_TEST" >"$log"\n'
+                'touch "$LOG_OF_TEST.2"')
+        _status, text, _errors = self.run_script(hotspot, "--rounds", "2", "--workers", "1", self.java(body))
+        self.assertEqual(self.rows(text, "java_trees"), [["1", "2", "3.0", "2.33", "5.17"]])  # 7/3
+
+    def test_a_java_that_fails_is_told(self):
+        status, text, errors = self.run_script(hotspot, self.java("echo 'Error: no such class' >&2; exit 1"))
+        self.assertEqual((status, text), (1, ""))
+        self.assertEqual(errors, "hotspot.py: java_trees: java ended with status 1: Error: no such class")
+
+    def test_a_log_without_pauses_is_told(self):
+        status, _text, errors = self.run_script(hotspot, self.java(': >"$log"'))
+        self.assertEqual(status, 1)
+        self.assertIn("the log has no young pause that copied anything", errors)
 
 
 if __name__ == "__main__":
