@@ -110,8 +110,9 @@ static inline int g1w_begin(g1_writer *w, uint32_t region_words) {
   return G1W_GOOD;
 }
 
-/* Has a pointer that is no object's written as a stale word, which g1_same reports as a fault of that root or slot, and
-   `g1heap same` as a difference with its path; g1w_stale has the pointer. Without this it is a fault of the writer. */
+/* Has a pointer that is no object's written as a stale word. Of the second image g1_same reports it as a difference, with
+   its path, and of the first as a fault of that root or slot; g1w_stale has the pointer. Without this it is a fault of the
+   writer. */
 static inline void g1w_keep_stale(g1_writer *w) { w->keeps_stale = 1; }
 
 /* Gives back all memory of the writer, the bytes of the image too. */
@@ -439,13 +440,13 @@ static inline uint64_t g1w_at(const g1_writer *w, uint64_t address, uint64_t *wo
 }
 
 /* After the end: the pointer of the object that a reference word references, as `before` and `after` of an answer do; 0
-   for null and for a word that references none. */
+   for null and for a word that references none, such as `after` of G1_STALE. */
 static inline uint64_t g1w_named(const g1_writer *w, uint64_t reference) {
   uint64_t word, pointer = reference ? g1w_at(w, reference - 1, &word) : 0;
   return pointer && !word ? pointer : 0;
 }
 
-/* After the end: the pointer that a stale word was written for; 0 if the word is none. */
+/* After the end: the pointer that a stale word was written for, as `after` of G1_STALE; 0 if the word is none. */
 static inline uint64_t g1w_stale(const g1_writer *w, uint64_t word) {
   const uint64_t first = g1w_first_stale(w);
   return w->is_ended && word >= first && word - first < w->stale ? w->strays[word - first] : 0;

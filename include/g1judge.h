@@ -26,11 +26,11 @@ extern "C" {
 
 /* The version of this header. A program compares it with g1_version() before its first call. A new field or another
    meaning is a new version. */
-#define G1_VERSION 1u
+#define G1_VERSION 2u
 
 /* What a call returns: the statuses of g1heap and g1pause. */
 #define G1_GOOD 0u      /* it is so */
-#define G1_DIFFER 1u    /* the images show two graphs, or the second does not keep something */
+#define G1_DIFFER 1u    /* the images show two graphs, or the second has a stale word or does not keep something */
 #define G1_NO_IMAGE 3u  /* bytes that are no image's: a fault */
 #define G1_UNCOVERED 4u /* a slot that is not covered */
 #define G1_NO_SET 5u    /* a set of regions that the first image does not allow: a fault */
@@ -38,7 +38,8 @@ extern "C" {
 
 /* answer.kind: how two images differ, with the numbers of each kind in first, second, third. `before` and `after` are
    the reference words that the path leads to; an object is said by its address, and that is 1 less than the reference
-   word. All addresses count words of 8 bytes from the start of the image's heap. */
+   word. Of G1_STALE `after` is the stale word: it is not null and references no object, as the word of a slot that was not
+   updated. All addresses count words of 8 bytes from the start of the image's heap. */
 #define G1_ROOTS 1u       /* how many roots before, after; there is no path */
 #define G1_NULL_BEFORE 2u /* null before, an object after */
 #define G1_NULL_AFTER 3u  /* an object before, null after */
@@ -47,6 +48,7 @@ extern "C" {
 #define G1_SIZE 6u        /* words before, after */
 #define G1_SLOTS 7u       /* slots before, after */
 #define G1_DATA 8u        /* which data word, from 0; its value before, after */
+#define G1_STALE 20u      /* a stale word after; it has no other numbers */
 
 /* answer.kind of g1_kept: what the second image does not keep, with its numbers in first, second, third. An object is said
    by its two addresses, before and after: the two are one object, or the second was found as the copy of the first. */
@@ -73,7 +75,7 @@ typedef struct g1_answer {
   uint32_t image;   /* whose fault it is: 1 the first image's, 2 the second's, 0 neither's */
   uint32_t fault;   /* its number in docs/IMAGE.md; 9 uncovered; 10 set; 13 memory; 0 none */
   uint32_t place;   /* G1_NOWHERE .. G1_LOG */
-  uint32_t kind;    /* G1_ROOTS .. G1_DATA, of g1_kept G1_LOST_SIZES .. G1_LOST_SLOT, or 0 */
+  uint32_t kind;    /* G1_ROOTS .. G1_DATA, G1_STALE, of g1_kept G1_LOST_SIZES .. G1_LOST_SLOT, or 0 */
   uint64_t at;
   uint64_t root;    /* the path to a difference: this root, */
   uint64_t slots;   /* and so many slots, however many the caller's buffer holds */
@@ -106,14 +108,17 @@ uint32_t g1_version(void);
    G1_DIFFER: they do not. The answer is the first difference: of all paths from a root that lead to one, the shortest,
      and of those the one with the lowest numbers. path[0 .. path_length) gets its slots, counted from 0, as far as there
      is room; the path is whole if answer->slots <= path_length. The rest of the buffer stays as it is.
-   G1_NO_IMAGE: a fault of the first bytes, else of the second.
+     A stale word of the second image is a difference, too, if a path leads to it and the second bytes have no other
+     fault. A stale word in an object that no root reaches does not count if there is another difference.
+   G1_NO_IMAGE: a fault of the first bytes, else of the second. A stale word of the first image is one, and so is one of
+     the second if nothing differs, or if the second bytes have another fault, too.
    G1_MEMORY.
    It takes time in the length of both images, and memory of 4 bytes for each word of both heaps, and 24 for each reached
-   object, beside the heaps themselves. 2^28 words are the most that a heap can have. */
+   object, beside the heaps themselves, and 16 for each stale word. 2^28 words are the most that a heap can have. */
 uint32_t g1_same(const uint8_t *before, size_t before_length, const uint8_t *after, size_t after_length, uint64_t *path,
                  size_t path_length, g1_answer *answer);
 
-/* Are the bytes an image? G1_GOOD, G1_NO_IMAGE, G1_MEMORY. It takes time in their length, and memory for the heap. */
+/* Are the bytes an image? A stale word is a fault here, as it is to all calls below. G1_GOOD, G1_NO_IMAGE, G1_MEMORY. It takes time in their length, and memory for the heap. */
 uint32_t g1_image(const uint8_t *bytes, size_t length, g1_answer *answer);
 
 /* Are they an image, and is each slot that leads into another region covered, by that region's remembered set or by the

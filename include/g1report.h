@@ -6,9 +6,9 @@
      status = g1r_same(&report, path, 64, &answer);            (g1_same of the two images)
      if (status != G1_GOOD) g1r_print(stdout, &report, status, &answer, path, 64);
 
-   Of bytes alone, the line is that of g1heap, byte for byte: objects are addresses. A fault is behind `before: ` or `after: `,
-   and a stale word of the second image is one, while g1heap calls it a difference. With writers, objects are your
-   pointers. With `name`, the path and the data words have your names, and data are in hexadecimal, too. */
+   Of bytes alone, the line is that of g1heap, byte for byte: objects are addresses. A fault is behind `before: ` or `after: `.
+   With writers, objects are your pointers, and so is a stale word. With `name`, the path and the data words have your
+   names, and data are in hexadecimal, too. */
 #ifndef G1REPORT_H
 #define G1REPORT_H
 
@@ -111,6 +111,10 @@ static inline g1r_image g1r_open(const uint8_t *bytes, size_t length) {
   return i;
 }
 
+static inline uint32_t g1r_kind(const g1r_image *i, uint64_t region) {
+  return (uint32_t)g1r_get(i, 32 + i->entry * (size_t)region, 4);
+}
+
 static inline uint32_t g1r_top(const g1r_image *i, uint64_t region) {
   return (uint32_t)g1r_get(i, 36 + i->entry * (size_t)region, 4);
 }
@@ -119,14 +123,36 @@ static inline uint64_t g1r_root(const g1r_image *i, uint64_t root) {
   return root < i->roots ? g1r_get(i, 32 + i->entry * i->regions + 8 * (size_t)root, 8) : 0;
 }
 
-/* The word at an address. */
-static inline uint64_t g1r_at(const g1r_image *i, uint64_t address) {
-  const uint64_t region = i->region_words ? address / i->region_words : i->regions;
+/* Where the words of a region begin. */
+static inline size_t g1r_place(const g1r_image *i, uint64_t region) {
   size_t at = i->words;
   uint64_t r;
-  if (region >= i->regions || address % i->region_words >= g1r_top(i, region)) return 0;
   for (r = 0; r < region; r++) at += 8 * (size_t)g1r_top(i, r);
-  return g1r_get(i, at + 8 * (size_t)(address % i->region_words), 8);
+  return at;
+}
+
+/* The region of an address; there is none behind the last one. */
+static inline uint64_t g1r_region(const g1r_image *i, uint64_t address) {
+  return i->region_words && address / i->region_words < i->regions ? address / i->region_words : i->regions;
+}
+
+/* The word at an address. */
+static inline uint64_t g1r_at(const g1r_image *i, uint64_t address) {
+  const uint64_t region = g1r_region(i, address);
+  if (region == i->regions || address % i->region_words >= g1r_top(i, region)) return 0;
+  return g1r_get(i, g1r_place(i, region) + 8 * (size_t)(address % i->region_words), 8);
+}
+
+/* Whether an object starts at an address: a large one does at the start of its first region, and others lie end to end. */
+static inline int g1r_starts(const g1r_image *i, uint64_t address) {
+  const uint64_t region = g1r_region(i, address);
+  uint64_t at = 0, size = 1, wanted;
+  size_t place;
+  if (region == i->regions || g1r_kind(i, region) == 0 || g1r_kind(i, region) == 3) return 0;
+  wanted = address % i->region_words;
+  if (g1r_kind(i, region) == 2 || wanted >= g1r_top(i, region)) return !wanted;
+  for (place = g1r_place(i, region); at < wanted && size; at += size) size = g1r_get(i, place + 8 * (size_t)at, 8) >> 32;
+  return at == wanted;
 }
 
 /* ---- names and objects */
@@ -270,6 +296,34 @@ static inline void g1r_difference(g1r_text *t, const g1_report *r, const g1_answ
   if (a->kind == G1_DATA) g1r_data(t, r, a);
 }
 
+/* A stale word of the second image: your pointer, or the word, where it leads, and what was there before. */
+static inline void g1r_stale(g1r_text *t, const g1_report *r, const g1_answer *a, const uint64_t *path, size_t path_length) {
+  static const char *const kinds[] = {"free", "ordinary", "humongous", "continuation"};
+  const g1_writer *old = r->before_writer, *now = r->after_writer;
+  const g1r_image before = g1r_open(r->before, r->before_length), after = g1r_open(r->after, r->after_length);
+  const uint64_t pointer = now ? g1w_stale(now, a->after) : 0, address = a->after - 1;
+  const uint64_t region = g1r_region(&after, address);
+  const int is_same = old ? pointer && pointer == g1w_named(old, a->before) : !now && a->before == a->after;
+  g1r_put(t, "differ stale at ");
+  g1r_path(t, r, a, path, path_length);
+  g1r_word(t, r, 1, ": ", a->before);
+  g1r_put(t, " before; the word %s ", is_same ? "still is" : "is");
+  if (pointer) {
+    g1r_put(t, "0x%llx, which no object after has", (unsigned long long)pointer);
+    return;
+  }
+  g1r_number(t, "", a->after);
+  if (region == after.regions) {
+    g1r_put(t, ", outside the heap");
+    return;
+  }
+  g1r_put(t, ", in region %llu, %s after", (unsigned long long)region, kinds[g1r_kind(&after, region) & 3]);
+  if (old) return;
+  g1r_put(t, ", where %s", !g1r_starts(&before, address)    ? "no object starts"
+                           : a->before == a->after ? "the object was before"
+                                                   : "another object was before");
+}
+
 /* What the second image does not keep. */
 static inline void g1r_loss(g1r_text *t, const g1_report *r, const g1_answer *a) {
   static const char *const of_tables[] = {"sizes: the heaps have other regions",
@@ -324,6 +378,7 @@ static inline void g1r_all(g1r_text *t, const g1_report *r, uint32_t status, con
   } else if (status != G1_DIFFER) g1r_fault(t, r, a);
   else if (a->kind >= G1_LOST_SIZES && a->kind <= G1_LOST_SLOT) g1r_loss(t, r, a);
   else if (a->kind >= G1_ROOTS && a->kind <= G1_DATA) g1r_difference(t, r, a, path, room);
+  else if (a->kind == G1_STALE) g1r_stale(t, r, a, path, room);
 }
 
 /* ---- the calls */

@@ -10,6 +10,8 @@ tools/build_judge.py makes it; a second time with the sanitizers for addresses a
   mark     that nothing is proved of the archive, in each program linked with it if it is in the archive, and else in none
   calls    all pairs of the example images, with room for the path, with none, with too little: status, fault, path and
            numbers are compared with what `g1heap same` prints; each image, and N damaged ones, with image_text.py
+  stale    pairs of which the second image has words that reference no object: the answers in lib/stale_pairs.py, which are
+           worked out by hand, and those of `g1heap same`; that g1_kept, g1_image and g1_covered refuse them
   broken   the same images with g1_broken: the rule is the second line of `g1heap print`, or of `g1heap same --covered`
   kept     all pairs of the example images, with no region, each region, one that is not there, one twice, and two: status,
            fault, loss and numbers are compared with what `g1heap same --set` prints, and with losses.py; and N / 20 heaps that
@@ -50,6 +52,7 @@ import image_text  # noqa: E402
 import losses  # noqa: E402
 import progress  # noqa: E402
 import release  # noqa: E402
+import stale_pairs  # noqa: E402
 from heap_image import FIRST, CONTINUATION, FREE, MOST_REGIONS, NULL, ORDINARY, Image, from_bytes  # noqa: E402
 from opponent import NoRoom, Opponent, refused  # noqa: E402
 from plant_errors import ERRORS as COLLECTOR_ERRORS, MORE_ERRORS, Planter  # noqa: E402
@@ -57,7 +60,7 @@ from programs import OUT, program  # noqa: E402
 from random_heaps import drawn  # noqa: E402
 
 TOP = pathlib.Path(__file__).resolve().parent.parent
-KINDS = {"split": 4, "joined": 5, "size": 6, "slots": 7, "data": 8}
+KINDS, STALE = {"split": 4, "joined": 5, "size": 6, "slots": 7, "data": 8}, 20
 PLACES = {"region": 1, "root": 2, "slot": 3, "log place": 4}
 FIELDS = ("image", "fault", "place", "kind", "at", "root", "slots", "before", "after", "first", "second", "third", "objects",
           "words")
@@ -107,6 +110,10 @@ def of_difference(line):
     roots = re.fullmatch(r"differ roots: (\d+) before, (\d+) after", line)
     if roots:
         return answer(kind=1, first=int(roots[1]), second=int(roots[2]))
+    stale = re.fullmatch(r"differ stale at root (\d+)((?: slot \d+)*): (.*?) before; the word (?:still )?is (\d+), .*", line)
+    if stale:
+        path = [int(slot) for slot in re.findall(r"\d+", stale[2])]
+        return answer(kind=STALE, root=int(stale[1]), slots=len(path), before=reference(stale[3]), after=int(stale[4])) + path
     found = re.fullmatch(r"differ (\w+) at root (\d+)((?: slot \d+)*): (.*?) before, (.*?) after(?:; (.*))?", line)
     kind, detail = found[1], [int(number) for number in re.findall(r"\d+", found[6] or "")]
     before, after = reference(found[4]), reference(found[5])
@@ -133,13 +140,13 @@ def by_heap(heap, before, after):
         objects, words = re.findall(r"\d+", line)
         return [0] + answer(objects=int(objects), words=int(words))
     if ran.returncode == 1:
-        return refused_after(heap, after) or [1] + of_difference(line)
+        return [1] + of_difference(line)
     return fault_of(ran, before) or [ran.returncode, line]
 
 
 def refused_after(heap, after):
-    """What the call has to say of a second text that is no image. Where `g1heap same` compares it, for its words without an
-    object, the call refuses it. None if it is an image."""
+    """What g1_kept has to say of a second text that is no image. Where `g1heap same` compares it, for its words without an
+    object, g1_kept refuses it. None if it is an image."""
     ran = subprocess.run([heap, "print", "--summary", after], capture_output=True, text=True)
     found = re.match(r"g1heap: .*: fault (\d+: .*)\n", ran.stderr)
     return [3] + of_fault(2, found[1]) if found else None
@@ -312,7 +319,7 @@ def check_pairs(tally, programs, options):
         lines = programs.lines(tally, name, "pairs", text="".join(listed))
         wrong = differing(lines, expected)
         tally.count(f"{name}: planted pairs", len(expected), wrong)
-    kinds = {error: {wanted[4] or -wanted[0] for wanted, e in zip(expected, planted) if e == error} for error in ERRORS}
+    kinds = {error: {wanted[4] for wanted, e in zip(expected, planted) if e == error} for error in ERRORS}
     for error, wanted in ERRORS_SAY.items():
         tally.expect(f"planted {error}", kinds[error] - {0} >= {wanted}, True)
     lengths = [wanted[7] for wanted in expected]
@@ -345,6 +352,35 @@ def check_each(tally, programs, options):
     faults = sorted({wanted[2] for wanted in expected})
     print(f"calls: {len(texts)} images, with the faults {faults}")
     shutil.rmtree(each)
+
+
+def check_stale(tally, programs, options):
+    """Words of the second image that reference no object."""
+    room = programs.room / "stale_pairs"
+    room.mkdir()
+    listed, seconds = [], []
+    expected, refusals, agreed = [], [], 0
+    for number, (row, before, after) in enumerate(stale_pairs.pairs()):
+        files = room / f"{number}a", room / f"{number}b"
+        for file, data in zip(files, (before, after)):
+            file.write_bytes(data)
+        said = dict(row.answer)
+        expected.append([said.pop("status")] + answer(slots=len(row.path), **said) + row.path)
+        agreed += by_heap(options.heap, *files) == expected[-1]
+        faults = [image_text.fault_of(data, False) for data in (before, after)]
+        whose = 0 if faults[0] else 1
+        refusals.append([3] + of_fault(whose + 1, faults[whose]))
+        listed.append("{} {}\n".format(*map(programs.name, files)))
+        seconds.append(files[whose])
+    tally.count("stale: g1heap same", len(expected), len(expected) - agreed)
+    for name in ("test", "test_checked"):
+        for i, line in enumerate(programs.lines(tally, name, "pairs", text="".join(listed))):
+            tally.expect(f"{name}: stale: {stale_pairs.ROWS[i].name}", numbers(line), expected[i])
+        tally.count(f"{name}: stale: g1_kept", len(refusals), differing(programs.lines(tally, name, "kept", text="".join(listed)), refusals))
+        alone = [[3, 1] + refusal[2:] for refusal in refusals for _ in range(2)]
+        tally.count(f"{name}: stale: g1_image and g1_covered", len(alone), differing(programs.lines(tally, name, "each", *seconds), alone))
+    print(f"stale: {len(expected)} pairs, {sum(wanted[4] == STALE for wanted in expected)} of them reported as stale")
+    shutil.rmtree(room)
 
 
 def rule_by_heap(heap, file):
@@ -455,10 +491,10 @@ def check_kept(tally, programs, options):
 
 def line_by_heap(heap, before, after, *words):
     """The line that g1heap prints of two files: on standard output, or a fault, with the image that has it in the place of its
-    file. Where the call refuses a second text that `g1heap same` compares, its fault."""
+    file. Where g1_kept refuses a second text that `g1heap same --set` compares, its fault."""
     ran = subprocess.run([heap, "same", before, after, *words], capture_output=True, text=True)
     refusal = ran.stderr
-    if ran.returncode == 1 and ran.stdout.startswith("differ"):
+    if "--set" in words and ran.returncode == 1 and ran.stdout.startswith("differ"):
         refusal = subprocess.run([heap, "print", "--summary", after], capture_output=True, text=True).stderr
     found = re.match(r"g1heap: (.*): (fault .*)\n", refusal)
     if found:
@@ -535,8 +571,14 @@ def line_cases(options, room, rng):
         for file, data in zip(files, pair(rng, rng.choice((3, 10, 40, 150)), ERRORS[i % len(ERRORS)])):
             file.write_bytes(data)
         yield *files, ()
+    for i, (_, *texts) in enumerate(stale_pairs.pairs()):
+        files = room / f"{i}stale", room / f"{i}stale_after"
+        for file, data in zip(files, texts):
+            file.write_bytes(data)
+        yield *files, ()
     for before, after, chosen in collected(rng, room, max(3, options.graphs // 100)):
         yield before, after, tuple(chosen)
+        yield before, after, ()
 
 
 def expected_lines(options, room, cases):
@@ -568,8 +610,10 @@ def check_lines(tally, programs, options):
             tally.count(f"{name}: lines {how} {most}", len(wanted), len(wrong) + abs(len(said) - len(wanted)),
                         "".join(f"\n  {case}" for case in wrong[:3]))
     kinds = {" ".join(line.split()[:2]) for line in plain}
-    for word in ("roots:", "null", "split", "joined", "size", "slots", "data", "sizes:", "region", "root", "object"):
+    for word in ("roots:", "stale", "null", "split", "joined", "size", "slots", "data", "sizes:", "region", "root", "object"):
         tally.expect(f"lines of {word}", f"differ {word}" in kinds, True)
+    ends = {re.sub(".*; the word ([a-z ]+) .*?(outside|where [a-z]+).*", r"\1 \2", line) for line in plain if line.startswith("differ stale")}
+    tally.expect("ends of stale lines", ends, {"is outside", "is where no", "is where another", "still is where the"})
     long = sum(" steps .." in line for line in named)
     tally.expect("lines with many steps, and with steps that repeat", long > 2 and sum(" x " in line for line in named) > 4, True)
     print(f"lines: {len(found)} pairs and sets, {sum(' x ' in line for line in named)} with a step that repeats, {long} with steps left out")
@@ -627,8 +671,8 @@ def make_stale(rng, graph, error, slots, roots, pointers):
 
 
 def check_told(tally, programs, options):
-    """Lines in pointers: those of g1heap for the same objects by name. A word that references no object is a fault of the call,
-    while `g1heap same` compares it."""
+    """Lines in pointers: those of g1heap for the same objects by name. A word that references no object is a fault if no path
+    leads to it and nothing else differs; the line of g1heap has the place in the text, and that of the call in the image."""
     rng = random.Random(options.seed + 7)
     texts, expected = [], []
     for i in range(options.graphs // 4):
@@ -638,8 +682,7 @@ def check_told(tally, programs, options):
         for file, (_, lines) in zip(files, two):
             file.write_text(lines)
         ran = subprocess.run([options.heap, "same", *files], capture_output=True, text=True)
-        made = subprocess.run([options.heap, "make", files[1]], capture_output=True)
-        expected.append("after: fault 7" if made.returncode else ran.stdout.rstrip("\n"))
+        expected.append("after: fault 7" if ran.returncode == 3 else ran.stdout.rstrip("\n"))
     for name in ("test", "test_checked"):
         said = programs.lines(tally, name, "told", text="".join(texts))
         wrong = [(line, wanted) for line, wanted in zip(said, expected)
@@ -679,7 +722,7 @@ def check_threads(tally, programs, options):
 
 def check_refuse(tally, programs, options):
     rng = random.Random(options.seed + 2)
-    cases = [(*pair(rng, 300, error), 0) for error in ("none", "data")]
+    cases = [(*pair(rng, 300, error), 0) for error in ("none", "data", "stale root")]
     copies = {}
     while len(copies) < 3:
         before, opponent, after = collection(rng, most_regions=1)
@@ -761,7 +804,7 @@ class Graph:
 
 ERRORS = ("none", "roots", "null before", "null after", "split", "joined", "size", "slots", "data", "stale root", "stale slot")
 ERRORS_SAY = {"roots": 1, "null before": 2, "null after": 3, "split": 4, "joined": 5, "size": 6, "slots": 7, "data": 8,
-              "stale root": -3, "stale slot": -3}  # the kind, or less than 0 the status
+              "stale root": STALE, "stale slot": STALE}  # the kind
 
 
 def plant(rng, graph, p, error):
@@ -932,8 +975,8 @@ def check_writer(tally, programs, options):
 
 
 VM_LINES = {  # by error
-    "slot": r"after: fault 7: reference in (root \d+|slot \d+, which is slot \d+ of object 0x[0-9a-f]+): "
-            r"it is 0x[0-9a-f]+, which no object has",
+    "slot": r"differ stale at root \d+( slot \d+| x \d+)*: object (0x[0-9a-f]+) before; "
+            r"the word still is \2, which no object after has",
     "twice": r"differ split at root \d+( slot \d+| x \d+)*: object (0x[0-9a-f]+) before, object 0x[0-9a-f]+ after; "
              r"\2 before is 0x[0-9a-f]+ after on an earlier path",
     "torn": r"differ data at root \d+( slot \d+| x \d+)*: object 0x[0-9a-f]+ before, object 0x[0-9a-f]+ after; "
@@ -973,7 +1016,7 @@ def check_rust(tally, programs, options):
     env = {**os.environ, "G1JUDGE": str(folder), "CARGO_TARGET_DIR": str(programs.room / "target")}
     made = subprocess.run(["cargo", "build", "--offline", "--release", "--quiet"], cwd=TOP / "examples/judge-rust", env=env)
     tally.expect("rust: cargo build", made.returncode, 0)
-    files = examples()[:6] + sorted(TOP.glob("examples/refused/*.img"))[:2]
+    files = examples()[:6] + [TOP / "examples/refused" / name for name in ("flags.img", "root.img", "slot.img")]
     wrong = 0
     for a in files:
         for b in files:
@@ -1018,7 +1061,7 @@ def check_page(tally, programs, options):
     print(f"page: {steps} commands")
 
 
-CHECKS = {"headers": check_headers, "pc": check_pc, "mark": check_mark, "calls": check_calls, "broken": check_broken, "kept": check_kept, "lines": check_lines, "null": check_null, "threads": check_threads,
+CHECKS = {"headers": check_headers, "pc": check_pc, "mark": check_mark, "calls": check_calls, "stale": check_stale, "broken": check_broken, "kept": check_kept, "lines": check_lines, "null": check_null, "threads": check_threads,
           "refuse": check_refuse, "writer": check_writer, "vm": check_vm, "rust": check_rust, "page": check_page}
 
 

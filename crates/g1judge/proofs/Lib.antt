@@ -1,3 +1,4 @@
 pub mod Reached
+pub mod StaleTexts
 pub mod Statuses
 pub mod Texts

@@ -3,19 +3,29 @@ use Rattle.std.proofs.Common.{◌≡◌, ◌⊎◌, ◌↔◌, ℕ, inl, inr, Li
 use Rattle.g1_words.specs.declared.limits.Limits.TheVariants.{Wide}
 use Rattle.g1_words.specs.Graph.{SameGraph}
 use Rattle.g1_words.specs.Valid.{IsValid}
+use Rattle.g1_words.specs.declared.fault.Fault.TheVariants as fault
 use Rattle.g1_image.specs.Cards.{Covered, uncovered}
 use Rattle.g1_image.specs.Image.{Image, IsTextWithin, IsImageTextWithin}
 use Rattle.g1_image.specs.Laws.{OneImage, NoFaultOfText}
+use Rattle.g1_same.specs.Laws.{NeverBoth}
 use Rattle.g1_choose.specs.Laws.{AcceptedNotBad}
 use Rattle.g1_choose.specs.Named.{AreTakeable}
 use Rattle.g1_kept.specs.Keeps.{Keeps}
-use Rattle.g1judge.specs.declared.verdict.Verdict.TheVariants.{Good, Same, Differ, NoImage, Uncovered, Loss, NoSet, Memory}
+use Rattle.g1judge.specs.declared.verdict.Verdict.TheVariants.{Good, Same, Differ, Stale, NoImage, Uncovered, Loss, NoSet, Memory}
 use Rattle.g1judge.specs.Judged.{JudgesCover}
-use Rattle.g1judge.specs.Laws.{ShowOneGraph, ShowTwoGraphs, HasFault, IsCoveredText, IsBareText, ShowKept, ShowLost, ShowNoSet}
-use Rattle.g1judge.specs.Laws.{PairStatus, ImageStatus, CoverStatus, KeptStatus, MemoryStatus}
+use Rattle.g1judge.specs.Stale.{ShowsStale}
+use Rattle.g1judge.specs.Laws.{ShowOneGraph, ShowTwoGraphs, ShowStaleWords, HasFault, IsCoveredText, IsBareText, ShowKept, ShowLost, ShowNoSet}
+use Rattle.g1judge.specs.Laws.{SaysOfPair, PairStatus, ImageStatus, CoverStatus, KeptStatus, MemoryStatus}
 
 other : {A : Type 0} (m n : ℕ) → (m ≡ n → ⊥) → (A → ⊥) → (m ≡ n) ↔ A
 other m n f g = ((λ e. absurd (f e)), λ a. absurd (g a))
+
+valid_of : (bytes : List ℕ) (i : Image) → IsTextWithin Wide bytes i → IsValid i.heap
+valid_of bytes i (v, text, within) = text.0.heap
+
+-- bytes with stale words have a fault
+stale_fault : (before after : List ℕ) → ShowStaleWords before after → HasFault after
+stale_fault before after (g, s, (h, r, t, stale, shown)) = (fault.Reference stale.fault.0, stale.fault.1)
 
 module _ (one : OneImage) (none : NoFaultOfText) where
   no_fault : (bytes : List ℕ) → IsImageTextWithin Wide bytes → HasFault bytes → ⊥
@@ -30,36 +40,81 @@ module _ (one : OneImage) (none : NoFaultOfText) where
   both before after (g, h, s, t, same) (i, j, u, v, never) =
       never (subst (λ z. SameGraph i.heap z.heap) (one Wide after h j t v) (subst (λ z. SameGraph z.heap h.heap) (one Wide before g i s u) same))
 
-  pub pair_status : PairStatus
-  pair_status before after Good j = absurd j
-  pair_status before after (Same objects words) (g, h, s, t, shown) =
-      let shows : ShowOneGraph before after = (g, h, s, t, shown.2.same) in
-      inr record {
+  no_two : (before after : List ℕ) → HasFault before ⊎ HasFault after → ShowTwoGraphs before after → ⊥
+  no_two before after bad (g, h, s, t, never) = neither before after (g, s) (h, t) bad
+
+  no_one : (before after : List ℕ) → HasFault before ⊎ HasFault after → ShowOneGraph before after → ⊥
+  no_one before after bad (g, h, s, t, same) = neither before after (g, s) (h, t) bad
+
+  no_stale : (before after : List ℕ) → HasFault before → ShowStaleWords before after → ⊥
+  no_stale before after bad (g, s, shown) = no_fault before (g, s) bad
+
+  -- an image's bytes show as those of no other image
+  stays : (before after : List ℕ) (g : Image) → IsTextWithin Wide before g → (ShowsStale g after → ⊥) → ShowStaleWords before after → ⊥
+  stays before after g s hidden (i, u, shown) = hidden (subst (λ z. ShowsStale z after) (one Wide before i g u s) shown)
+
+  refused : (before after : List ℕ) → IsImageTextWithin Wide before → IsImageTextWithin Wide after → HasFault before ⊎ (HasFault after × (ShowStaleWords before after → ⊥)) → ⊥
+  refused before after s t (inl f) = no_fault before s f
+  refused before after s t (inr f) = no_fault after t f.0
+
+  one_graph : (before after : List ℕ) → ShowOneGraph before after → SaysOfPair before after 0
+  one_graph before after (g, h, s, t, same) =
+      let shows : ShowOneGraph before after = (g, h, s, t, same) in
+      record {
         zero = ((λ e. shows), λ z. refl);
-        one = other 0 1 (λ e. omega (arith, e)) (both before after shows);
-        three = other 0 3 (λ e. omega (arith, e)) (neither before after (g, s) (h, t));
+        one = other 0 1 (λ e. omega (arith, e)) (λ z. elim z [ inl two ↦ both before after shows two | inr stale ↦ no_fault after (h, t) (stale_fault before after stale) ]);
+        three = other 0 3 (λ e. omega (arith, e)) (refused before after (g, s) (h, t));
         no_other = inl refl;
       }
-  pair_status before after (Differ d ends) (g, h, s, t, shown) =
-      let shows : ShowTwoGraphs before after = (g, h, s, t, shown.never) in
-      inr record {
+
+  two_graphs : (before after : List ℕ) → ShowTwoGraphs before after → SaysOfPair before after 1
+  two_graphs before after (g, h, s, t, never) =
+      let shows : ShowTwoGraphs before after = (g, h, s, t, never) in
+      record {
         zero = other 1 0 (λ e. omega (arith, e)) (λ z. both before after z shows);
-        one = ((λ e. shows), λ z. refl);
-        three = other 1 3 (λ e. omega (arith, e)) (neither before after (g, s) (h, t));
+        one = ((λ e. inl shows), λ z. refl);
+        three = other 1 3 (λ e. omega (arith, e)) (refused before after (g, s) (h, t));
         no_other = inr (inl refl);
       }
-  pair_status before after (NoImage image e) j =
-      let bad : HasFault before ⊎ HasFault after = elim j [ inl k ↦ inl (e, k.1) | inr k ↦ inr (e, k.2) ] in
-      inr record {
-        zero = other 3 0 (λ e. omega (arith, e)) (λ z. neither before after (z.0, z.2) (z.1, z.3) bad);
-        one = other 3 1 (λ e. omega (arith, e)) (λ z. neither before after (z.0, z.2) (z.1, z.3) bad);
-        three = ((λ e. bad), λ z. refl);
-        no_other = inr (inr refl);
-      }
-  pair_status before after (Uncovered slot) j = absurd j
-  pair_status before after (Loss l) j = absurd j
-  pair_status before after (NoSet region) j = absurd j
-  pair_status before after Memory j = inl refl
+
+  stale_words : (before after : List ℕ) → ShowStaleWords before after → SaysOfPair before after 1
+  stale_words before after shows = record {
+    zero = other 1 0 (λ e. omega (arith, e)) (no_one before after (inr (stale_fault before after shows)));
+    one = ((λ e. inr shows), λ z. refl);
+    three = other 1 3 (λ e. omega (arith, e)) (λ z. elim z [ inl f ↦ no_stale before after f shows | inr f ↦ f.1 shows ]);
+    no_other = inr (inl refl);
+  }
+
+  first_fault : (before after : List ℕ) → HasFault before → SaysOfPair before after 3
+  first_fault before after bad = record {
+    zero = other 3 0 (λ e. omega (arith, e)) (no_one before after (inl bad));
+    one = other 3 1 (λ e. omega (arith, e)) (λ z. elim z [ inl two ↦ no_two before after (inl bad) two | inr stale ↦ no_stale before after bad stale ]);
+    three = ((λ e. inl bad), λ z. refl);
+    no_other = inr (inr refl);
+  }
+
+  second_fault : (before after : List ℕ) → HasFault after → (ShowStaleWords before after → ⊥) → SaysOfPair before after 3
+  second_fault before after bad hidden = record {
+    zero = other 3 0 (λ e. omega (arith, e)) (no_one before after (inr bad));
+    one = other 3 1 (λ e. omega (arith, e)) (λ z. elim z [ inl two ↦ no_two before after (inr bad) two | inr stale ↦ hidden stale ]);
+    three = ((λ e. inr (bad, hidden)), λ z. refl);
+    no_other = inr (inr refl);
+  }
+
+  pub pair_status : NeverBoth → PairStatus
+  pair_status never before after Good (g, s, j) = absurd j
+  pair_status never before after (Same objects words) (g, s, (h, t, shown)) = inr (one_graph before after (g, h, s, t, shown.2.same))
+  pair_status never before after (Differ d ends) (g, s, inl (h, t, shown)) = inr (two_graphs before after (g, h, s, t, shown.never))
+  pair_status never before after (Differ d ends) (g, s, inr (h, r, t, stale, judged)) =
+      inr (stale_words before after (g, s, (h, r, t, stale, inl (never g.heap h.heap d (valid_of before g s) judged.0.0.is))))
+  pair_status never before after (Stale end) (g, s, (h, r, t, stale, judged)) =
+      inr (stale_words before after (g, s, (h, r, t, stale, inr (end.root ∷ end.slots.items, end.before, end.word, judged.1))))
+  pair_status never before after (NoImage image e) (inl k) = inr (first_fault before after (e, k.1))
+  pair_status never before after (NoImage image e) (inr (g, s, (k, found, hidden))) = inr (second_fault before after (e, found) (stays before after g s hidden))
+  pair_status never before after (Uncovered slot) (g, s, j) = absurd j
+  pair_status never before after (Loss l) (g, s, j) = absurd j
+  pair_status never before after (NoSet region) (g, s, j) = absurd j
+  pair_status never before after Memory j = inl refl
 
   pub image_status : ImageStatus
   image_status bytes Good j = inr record {
@@ -69,6 +124,7 @@ module _ (one : OneImage) (none : NoFaultOfText) where
   }
   image_status bytes (Same objects words) j = absurd j
   image_status bytes (Differ d ends) j = absurd j
+  image_status bytes (Stale end) j = absurd j
   image_status bytes (NoImage image e) j =
       let bad : HasFault bytes = (e, j.1) in
       inr record {
@@ -96,6 +152,7 @@ module _ (one : OneImage) (none : NoFaultOfText) where
   }
   cover_status bytes (Same objects words) j = absurd j
   cover_status bytes (Differ d ends) j = absurd j
+  cover_status bytes (Stale end) j = absurd j
   cover_status bytes (NoImage image e) j =
       let bad : HasFault bytes = (e, j.1) in
       inr record {
@@ -115,9 +172,6 @@ module _ (one : OneImage) (none : NoFaultOfText) where
   cover_status bytes (Loss l) j = absurd j
   cover_status bytes (NoSet region) j = absurd j
   cover_status bytes Memory j = inl refl
-
-valid_of : (bytes : List ℕ) (i : Image) → IsTextWithin Wide bytes i → IsValid i.heap
-valid_of bytes i (v, text, within) = text.0.heap
 
 module _ (one : OneImage) (none : NoFaultOfText) (accepted : AcceptedNotBad) where
   -- an image that allows the set is no other one that does not
@@ -140,6 +194,7 @@ module _ (one : OneImage) (none : NoFaultOfText) (accepted : AcceptedNotBad) whe
       }
   kept_status before after set (Same objects words) (g, h, s, t, j) = absurd j
   kept_status before after set (Differ d ends) (g, h, s, t, j) = absurd j
+  kept_status before after set (Stale end) (g, h, s, t, j) = absurd j
   kept_status before after set (NoImage image e) j =
       let bad : HasFault before ⊎ HasFault after = elim j [ inl k ↦ inl (e, k.1) | inr k ↦ inr (e, k.2) ] in
       inr record {
@@ -174,6 +229,7 @@ pub memory_status : MemoryStatus
 memory_status Good = ((λ e. absurd (omega (arith, e))), λ e. cc)
 memory_status (Same objects words) = ((λ e. absurd (omega (arith, e))), λ e. cc)
 memory_status (Differ d ends) = ((λ e. absurd (omega (arith, e))), λ e. cc)
+memory_status (Stale end) = ((λ e. absurd (omega (arith, e))), λ e. cc)
 memory_status (NoImage image e) = ((λ e. absurd (omega (arith, e))), λ e. cc)
 memory_status (Uncovered slot) = ((λ e. absurd (omega (arith, e))), λ e. cc)
 memory_status (Loss l) = ((λ e. absurd (omega (arith, e))), λ e. cc)

@@ -13,14 +13,16 @@ use Rattle.g1_kept.specs.declared.lost.Lost.{Lost}
 use Rattle.g1_kept.specs.declared.lost.Lost.TheVariants as lost
 use Rattle.g1judge.specs.declared.answer.Answer.{Answer}
 use Rattle.g1_same.specs.declared.ending.Ends.{Ends}
+use Rattle.g1_same.specs.declared.comparing_stale.StaleEnd.{StaleEnd}
 use Rattle.g1judge.specs.declared.verdict.Verdict.{Verdict}
-use Rattle.g1judge.specs.declared.verdict.Verdict.TheVariants.{Good, Same, Differ, NoImage, Uncovered, Loss, NoSet, Memory}
+use Rattle.g1judge.specs.declared.verdict.Verdict.TheVariants.{Good, Same, Differ, Stale, NoImage, Uncovered, Loss, NoSet, Memory}
 
 -- THE STATUS that a call returns
 abbrev pub status_of : Verdict → ℕ
 status_of Good = 0
 status_of (Same objects words) = 0
 status_of (Differ d ends) = 1
+status_of (Stale end) = 1
 status_of (NoImage image e) = 3
 status_of (Uncovered slot) = 4
 status_of (Loss l) = 1
@@ -80,6 +82,10 @@ abbrev pub answer_difference : Difference → Ends → Answer
 answer_difference (Roots m n) e = numbers 1 m n 0
 answer_difference (At k ss how) e = record (answer_how how e) { root = k; slots = length ss.items; before = e.before; after = e.after }
 
+-- a stale word, where its path ends
+abbrev pub answer_stale : StaleEnd → Answer
+answer_stale e = record nothing { kind = 20; root = e.root; slots = length e.slots.items; before = e.before; after = e.word }
+
 -- what is lost, and where
 abbrev pub answer_loss : Lost → Answer
 answer_loss lost.Sizes = numbers 9 0 0 0
@@ -99,15 +105,17 @@ abbrev pub answer_of : Verdict → Answer
 answer_of Good = nothing
 answer_of (Same objects words) = record nothing { objects = objects; words = words }
 answer_of (Differ d e) = answer_difference d e
+answer_of (Stale end) = answer_stale end
 answer_of (NoImage image e) = answer_fault image e
 answer_of (Uncovered slot) = answer_fault 1 (fault.Uncovered slot)
 answer_of (Loss l) = answer_loss l
 answer_of (NoSet region) = answer_fault 1 (fault.Set region)
 answer_of Memory = answer_fault 0 fault.Memory
 
--- the slots of the path to a difference
+-- the slots of the path to a difference or to a stale word
 abbrev pub path_of : Verdict → List ℕ
 path_of (Differ (At k ss how) e) = ss.items
+path_of (Stale end) = end.slots.items
 path_of _ = []
 
 -- the slots stand in a buffer from its start on as far as there is room, and what is behind them stays

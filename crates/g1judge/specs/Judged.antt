@@ -11,6 +11,8 @@ use Rattle.g1_image.specs.Cards.{Covered, uncovered}
 use Rattle.g1_choose.specs.Named.{AreTakeable, IsFirstBad}
 use Rattle.g1_same.specs.declared.difference.Difference.{Difference}
 use Rattle.g1_same.specs.Same.{IsFirstDifference, IsRenaming}
+use Rattle.g1_same.specs.declared.comparing_stale.Earliest.TheVariants as earliest
+use Rattle.g1_same.specs.Earliest.{IsEarliestOf}
 use Rattle.g1_kept.specs.declared.lost.Lost.{Lost}
 use Rattle.g1_kept.specs.Keeps.{Keeps}
 use Rattle.g1_kept.specs.Lost.{IsLoss}
@@ -18,7 +20,8 @@ use Rattle.g1_kept.specs.Order.{IsEarliestLoss}
 use Rattle.g1_same.specs.declared.ending.Ends.{Ends}
 use Rattle.g1_same.specs.Ends.{AreEnds}
 use Rattle.g1judge.specs.declared.verdict.Verdict.{Verdict}
-use Rattle.g1judge.specs.declared.verdict.Verdict.TheVariants.{Good, Same, Differ, NoImage, Uncovered, Loss, NoSet, Memory}
+use Rattle.g1judge.specs.declared.verdict.Verdict.TheVariants.{Good, Same, Differ, Stale, NoImage, Uncovered, Loss, NoSet, Memory}
+use Rattle.g1judge.specs.Stale.{IsStaleText, ShowsStale}
 
 -- the words of the objects at these addresses, together
 abbrev pub words_of : Heap → List ℕ → ℕ
@@ -40,6 +43,27 @@ JudgesImages g h (Same objects words) = ShowSame g.heap h.heap objects words
 JudgesImages g h (Differ d e) = ShowOther g.heap h.heap d e
 JudgesImages g h Memory = Unit {0}
 JudgesImages g h _ = ⊥
+
+-- what a heap is to one with these stale words: the first difference, or the stale word that comes before all
+abbrev pub JudgesStale : Heap → Heap → List (ℕ × ℕ) → List (ℕ × ℕ) → Verdict → Type 0
+JudgesStale g h roots slots (Differ d e) = IsEarliestOf g h roots slots (earliest.Differ d) × AreEnds g h d e
+JudgesStale g h roots slots (Stale end) = IsEarliestOf g h roots slots (earliest.Stale end)
+JudgesStale g h roots slots Memory = Unit {0}
+JudgesStale g h roots slots _ = ⊥
+
+-- what an image is to the one of these bytes, by its stale words too
+abbrev pub IsBesideStale : Image → List ℕ → Verdict → Type 0
+IsBesideStale g after v =
+    (h : Image) × (roots : List (ℕ × ℕ)) × (slots : List (ℕ × ℕ)) × IsStaleText after h roots slots × JudgesStale g.heap h.heap roots slots v
+
+-- what an image is to bytes: they are an image's text, or they have stale words and no other fault, or they are refused for their fault
+abbrev pub JudgesAfter : Image → List ℕ → Verdict → Type 0
+JudgesAfter g after (Same objects words) = (h : Image) × IsTextWithin Wide after h × ShowSame g.heap h.heap objects words
+JudgesAfter g after (Differ d e) = ((h : Image) × IsTextWithin Wide after h × ShowOther g.heap h.heap d e) ⊎ IsBesideStale g after (Differ d e)
+JudgesAfter g after (Stale end) = IsBesideStale g after (Stale end)
+JudgesAfter g after (NoImage image e) = (image ≡ 2) × FaultWithin Wide after e × (ShowsStale g after → ⊥)
+JudgesAfter g after Memory = Unit {0}
+JudgesAfter g after _ = ⊥
 
 -- what an image is by its slots
 abbrev pub JudgesSlots : Image → Verdict → Type 0
@@ -89,15 +113,11 @@ AreUnread before after (NoImage image e) = IsPairFault before after image e
 AreUnread before after Memory = Unit {0}
 AreUnread before after _ = ⊥
 
--- THE VERDICT of two byte strings. Memory may be refused at any time.
+-- THE VERDICT of two byte strings: the fault of the first, or what its image is to the second. Memory may be refused at any time.
 abbrev pub JudgesPair : List ℕ → List ℕ → Verdict → Type 0
-JudgesPair before after (Same objects words) =
-    (g : Image) × (h : Image) × IsTextWithin Wide before g × IsTextWithin Wide after h × ShowSame g.heap h.heap objects words
-JudgesPair before after (Differ d e) =
-    (g : Image) × (h : Image) × IsTextWithin Wide before g × IsTextWithin Wide after h × ShowOther g.heap h.heap d e
-JudgesPair before after (NoImage image e) = IsPairFault before after image e
+JudgesPair before after (NoImage image e) = ((image ≡ 1) × FaultWithin Wide before e) ⊎ ((g : Image) × IsTextWithin Wide before g × JudgesAfter g after (NoImage image e))
 JudgesPair before after Memory = Unit {0}
-JudgesPair before after _ = ⊥
+JudgesPair before after v = (g : Image) × IsTextWithin Wide before g × JudgesAfter g after v
 
 -- THE VERDICT of bytes: an image's text, or their fault
 abbrev pub JudgesImage : List ℕ → Verdict → Type 0

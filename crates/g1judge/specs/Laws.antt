@@ -12,6 +12,7 @@ use Rattle.g1judge.specs.declared.verdict.Verdict.{Verdict}
 use Rattle.g1judge.specs.declared.verdict.Verdict.TheVariants.{Memory}
 use Rattle.g1judge.specs.Judged.{JudgesPair, JudgesImage, JudgesCover, JudgesKept}
 use Rattle.g1judge.specs.Answered.{status_of}
+use Rattle.g1judge.specs.Stale.{ShowsStale}
 
 -- the bytes are the texts of two images that show one graph from their roots
 abbrev pub ShowOneGraph : List ℕ → List ℕ → Type 0
@@ -20,6 +21,10 @@ ShowOneGraph before after = (g : Image) × (h : Image) × IsTextWithin Wide befo
 -- the bytes are the texts of two images that do not
 abbrev pub ShowTwoGraphs : List ℕ → List ℕ → Type 0
 ShowTwoGraphs before after = (g : Image) × (h : Image) × IsTextWithin Wide before g × IsTextWithin Wide after h × (SameGraph g.heap h.heap → ⊥)
+
+-- the first bytes are an image's text, and the second show their stale words, or another graph beside them
+abbrev pub ShowStaleWords : List ℕ → List ℕ → Type 0
+ShowStaleWords before after = (g : Image) × IsTextWithin Wide before g × ShowsStale g after
 
 -- the bytes are no image's text: they have a fault
 abbrev pub HasFault : List ℕ → Type 0
@@ -50,8 +55,8 @@ ShowNoSet before after set = (g : Image) × (h : Image) × IsTextWithin Wide bef
 -- what the status of g1_same says, each way round
 pub record SaysOfPair (before after : List ℕ) (status : ℕ) : Type 0 where
   pub zero : (status ≡ 0) ↔ ShowOneGraph before after
-  pub one : (status ≡ 1) ↔ ShowTwoGraphs before after
-  pub three : (status ≡ 3) ↔ (HasFault before ⊎ HasFault after)
+  pub one : (status ≡ 1) ↔ (ShowTwoGraphs before after ⊎ ShowStaleWords before after)
+  pub three : (status ≡ 3) ↔ (HasFault before ⊎ (HasFault after × (ShowStaleWords before after → ⊥)))
   pub no_other : (status ≡ 0) ⊎ (status ≡ 1) ⊎ (status ≡ 3)
 
 -- what the status of g1_image says

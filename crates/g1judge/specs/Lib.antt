@@ -1,3 +1,4 @@
+pub mod Stale
 pub mod Judged
 pub mod Answered
 pub mod Laws

@@ -1,10 +1,10 @@
 ghost use Rattle.std.specs.Prelude.{◌≡◌};
-ghost use Rattle.g1judge.specs.Answered.{status_of, place_of, at_of, nothing, answer_fault, numbers, answer_how, answer_difference, answer_loss, answer_of, path_of, written};
+ghost use Rattle.g1judge.specs.Answered.{status_of, place_of, at_of, nothing, answer_fault, numbers, answer_how, answer_difference, answer_stale, answer_loss, answer_of, path_of, written};
 
 use crate::answer::Answer;
 use crate::verdict::Verdict;
 use g1_kept::Lost;
-use g1_same::{Difference, Ends, How};
+use g1_same::{Difference, Ends, How, StaleEnd};
 use g1_words::{Fault, Place, Stand};
 
 // The status of a verdict.
@@ -14,6 +14,7 @@ fn status(verdict: &Verdict) -> u32
     match verdict {
         Verdict::Good | Verdict::Same { .. } => 0,
         Verdict::Differ { .. } => 1,
+        Verdict::Stale(_) => 1,
         Verdict::Loss(_) => 1,
         Verdict::NoImage { .. } => 3,
         Verdict::Uncovered(_) => 4,
@@ -132,6 +133,19 @@ fn of_difference(difference: &Difference, ends: &Ends) -> Answer
     }
 }
 
+fn of_stale(end: &StaleEnd) -> Answer
+    ensures { result ≡ answer_stale end.now }
+{
+    Answer {
+        kind: 20,
+        root: end.root,
+        slots: end.slots.len() as u64,
+        before: end.before,
+        after: end.word,
+        ..no_answer()
+    }
+}
+
 fn of_loss(loss: &Lost) -> Answer
     ensures { result ≡ answer_loss loss.now }
 {
@@ -169,6 +183,7 @@ fn answer_to(verdict: &Verdict) -> Answer
             ..no_answer()
         },
         Verdict::Differ { difference, ends } => of_difference(difference, ends),
+        Verdict::Stale(end) => of_stale(end),
         Verdict::NoImage { image, fault } => of_fault(*image, fault),
         Verdict::Uncovered(slot) => of_fault(1, &Fault::Uncovered(*slot)),
         Verdict::Loss(loss) => of_loss(loss),
@@ -177,7 +192,7 @@ fn answer_to(verdict: &Verdict) -> Answer
     }
 }
 
-// The slots of the path to a difference.
+// The slots of the path to a difference or to a stale word.
 fn path(verdict: &Verdict) -> &[u64]
     ensures { result.now ≡ path_of verdict.now }
 {
@@ -186,6 +201,7 @@ fn path(verdict: &Verdict) -> &[u64]
             difference: Difference::At { slots, .. },
             ..
         } => slots.as_slice(),
+        Verdict::Stale(end) => end.slots.as_slice(),
         _ => &[],
     }
 }

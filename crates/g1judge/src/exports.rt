@@ -14,12 +14,13 @@ use std::alloc::Global;
 /// The version of these calls: of their names, of what they take, and of what an answer says.
 #[unsafe(no_mangle)]
 pub extern "C" fn g1_version() -> u32
-    ensures { result ≡ 1 }
+    ensures { result ≡ 2 }
 {
-    1
+    2
 }
 
-/// Whether two byte strings are the texts of two images that show one graph from their roots.
+/// Whether two byte strings are the texts of two images that show one graph from their roots. A word of the second that
+/// references no object is a difference if a path leads to it.
 #[unsafe(no_mangle)]
 pub extern "C" fn g1_same(
     alloc: Global,

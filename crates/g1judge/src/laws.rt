@@ -1,12 +1,15 @@
 ghost use Rattle.g1judge.specs.Laws.{PairStatus, ImageStatus, CoverStatus, KeptStatus, MemoryStatus};
 
 /// Where memory was not refused, `g1_same` returns 0 exactly where both byte strings are images' texts
-/// that show one graph, 1 exactly where they are and show two, and 3 exactly where one has a fault.
+/// that show one graph, and 1 exactly where they are and show two, or where the second have stale words and no
+/// other fault and show them, or another graph beside them. It returns 3 exactly where the first have a fault, or where
+/// the second have one and don't.
 pub fn pair_status()
     ensures { PairStatus }
 {
     g1_image::laws::one_text();
     g1_image::laws::one_fault();
+    g1_same::laws::never_both();
 }
 
 /// The same of `g1_image`: 0 exactly where the bytes are an image's text, and 3 where they have a fault.

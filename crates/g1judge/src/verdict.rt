@@ -1,5 +1,5 @@
 use g1_kept::Lost;
-use g1_same::{Difference, Ends};
+use g1_same::{Difference, Ends, StaleEnd};
 use g1_words::Fault;
 
 /// What bytes are found to be.
@@ -11,6 +11,8 @@ pub enum Verdict {
     Same { objects: u64, words: u64 },
     /// Two images differ.
     Differ { difference: Difference, ends: Ends },
+    /// A word of the second image references no object, and nothing that a path leads to earlier differs.
+    Stale(StaleEnd),
     /// The bytes of the first image or of the second are no image's text.
     NoImage { image: u32, fault: Fault },
     /// The lowest slot of an image that is not covered.

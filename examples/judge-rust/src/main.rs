@@ -33,7 +33,7 @@ fn kept(a: &[u8], b: &[u8], set: &[u32]) -> (u32, Answer) {
 }
 
 fn main() -> std::io::Result<()> {
-    assert_eq!((unsafe { g1_version() }, std::mem::size_of::<Answer>()), (1, 96));
+    assert_eq!((unsafe { g1_version() }, std::mem::size_of::<Answer>()), (2, 96));
     let words: Vec<String> = std::env::args().skip(1).collect();
     let [a, b, set @ ..] = &words[..] else { panic!("judge-rust BEFORE AFTER [REGION ..]") };
     let set: Vec<u32> = set.iter().map(|word| word.parse().expect("a number of a region")).collect();
