@@ -1,7 +1,7 @@
 -- Forms of words that are read one after the other.
-use Rattle.std.proofs.Common.{◌≡◌, ◌≢◌, ◌⊎◌, inl, inr, ⊎_elim, Bool, true, false, ℕ, ◌+◌, ◌-◌, ◌<◌, ◌≤◌, ◌^◌, List, [], ◌∷◌, ◌++◌, min, length, length-append, replicate, take, append-nil, append_assoc, refl, sym, ◌∙◌, ap, subst, arith}
+use Rattle.std.proofs.Common.{◌≡◌, ◌≢◌, ◌⊎◌, inl, inr, ⊎_elim, Bool, true, false, ℕ, ◌+◌, ◌-◌, ◌<◌, ◌≤◌, ◌^◌, List, [], ◌∷◌, ◌++◌, min, length, length-append, replicate, take, drop, zero, suc, append-nil, append_assoc, refl, sym, ◌∙◌, ap, subst, arith}
 use Rattle.std.specs.Prelude.{Option, Some, None, MatchOption, MatchBool, codes, All}
-use Rattle.std.proofs.lemmas.List.Elements.{All-nil, All-cons, All-append, All-replicate}
+use Rattle.std.proofs.lemmas.List.Elements.{All-nil, All-cons, All-append, All-replicate, All-drop}
 use Rattle.std.proofs.lemmas.List.{length-replicate}
 use Rattle.std.proofs.Math.Seq.{take-append_seam, take-append-add}
 use Rattle.std.specs.Prelude.{not}
@@ -10,6 +10,8 @@ use Rattle.std.proofs.lemmas.Bool.{false≢true}
 use Rattle.std.proofs.lemmas.Slice.Eq.{bytes_eq-Decides}
 use Rattle.g1_words.specs.Geometry.{IsWithinBounds}
 use Rattle.g1_text.specs.Forms.{Form, Spells, IsBelow, IsDataWord, IsCurrentWord, Word, Single, Maybe, ◌▸◌, Number, Labelled, Current, Many, Abridges, Holding, Sizes, IsTarget, HasFront, HasFirst}
+use Rattle.g1_text.specs.Graphs.{Shortens}
+use Rattle.g1_text.specs.ByName.{Fills}
 
 pub read_one : (Sort : List ℕ → Type 0) {before left : List (List ℕ)} → HasFirst Sort before left → HasFront (Single Sort) before left
 read_one Sort r = (r.0 ∷ [], r.1, (r.0, refl, r.2))
@@ -113,6 +115,12 @@ module _ (dash naught : List ℕ) (slots count given : ℕ) (refs : List (List �
       ∙ ap (λ ws. take (length refs + length (v ∷ vs)) (ws ++ ((v ∷ vs) ++ zeros))) (none_missing refs slots dash full)
       ∙ take-append-add refs ((v ∷ vs) ++ zeros) (length (v ∷ vs)) ∙ ap (λ ws. refs ++ ws) (take-append_seam (v ∷ vs) zeros)
 
+-- what is left out is all this word
+rest_is : (word : List ℕ) (xs : List (List ℕ)) (n m : ℕ) → length xs ≤ n → All (λ w. w ≡ word) (drop n (xs ++ replicate m word))
+rest_is word [] n m fits = All-drop (λ w. w ≡ word) n (replicate m word) (All-replicate (λ w. w ≡ word) m word refl)
+rest_is word (x ∷ xs) zero m fits = absurd (omega (arith, fits))
+rest_is word (x ∷ xs) (suc n) m fits = rest_is word xs n m (omega (arith, fits))
+
 no_more : {A : Type 0} (xs : List A) → length xs ≡ 0 → xs ≡ []
 no_more [] e = refl
 no_more (x ∷ xs) e = absurd (omega (arith, e))
@@ -149,6 +157,31 @@ module _ (Sort : List ℕ → Type 0) (null : Sort (codes "-")) (slots count giv
     abridged how,
   )
 
+  spelled : ((missing ≡ 0) × (words ≡ new)) ⊎ (words ≡ new ++ codes ".." ∷ [])
+      → Shortens (refs ++ replicate (slots - length refs) (codes "-")) (values ++ replicate (count - length values) (codes "0")) words
+  spelled (inl e) =
+      let full : length refs ≡ slots = omega (arith, e.0, sum, some, fewer) in
+      let rest : length values ≡ count = omega (arith, e.0, sum, some, more, fewer) in
+      inl (e.1 ∙ whole ∙ (λ i. sym (none_missing refs slots (codes "-") full) i ++ sym (none_missing values count (codes "0") rest) i))
+  spelled (inr e) =
+      let full = (filled Sort (codes "-") refs slots are_refs null (omega (arith, some, fewer))).0 in
+      inr (
+        given,
+        e ∙ ap (λ ws. ws ++ codes ".." ∷ []) (whole ∙ sym (front_of (codes "-") (codes "0") slots count given refs values (omega (arith, some, fewer)) (omega (arith, some, more, fewer)))),
+        rest_is (codes "-") refs given (slots - length refs) (omega (arith, some, fewer)),
+        rest_is (codes "0") values (given - length (refs ++ replicate (slots - length refs) (codes "-"))) (count - length values) (omega (arith, some, more, fewer, full)),
+      )
+
+  filling_of : ((missing ≡ 0) × (words ≡ new)) ⊎ (words ≡ new ++ codes ".." ∷ [])
+      → (references data_words : List (List ℕ)) × Many Sort slots references × Many IsDataWord count data_words × Shortens references data_words words
+  filling_of how = (
+    refs ++ replicate (slots - length refs) (codes "-"),
+    values ++ replicate (count - length values) (codes "0"),
+    filled Sort (codes "-") refs slots are_refs null (omega (arith, some, fewer)),
+    filled IsDataWord (codes "0") values count are_values naught_is (omega (arith, some, more, fewer, sum)),
+    spelled how,
+  )
+
 pub holding : (Sort : List ℕ → Type 0) → Sort (codes "-") → (slots count given missing many : ℕ) {words new middle left : List (List ℕ)}
     → (given ≡ length new) × (given + missing ≡ slots + count) × (((missing ≡ 0) × (words ≡ new)) ⊎ (words ≡ new ++ codes ".." ∷ []))
     → many ≡ min slots given → HasFront (Many Sort many) new middle → HasFront (Many IsDataWord (given - many)) middle left → Holding Sort slots count words
@@ -173,6 +206,13 @@ same_word word other e = (bytes_eq-Decides word other).0 (by (bytes_eq word othe
 pub dash_is_target : IsTarget (codes "-")
 dash_is_target e = let l : 1 ≡ 2 = ap length e in absurd (omega (arith, l))
 
+-- so many names, and so many data words behind them
+pub filling : (slots count given missing many : ℕ) {words new middle left : List (List ℕ)}
+    → (given ≡ length new) × (given + missing ≡ slots + count) × (((missing ≡ 0) × (words ≡ new)) ⊎ (words ≡ new ++ codes ".." ∷ []))
+    → many ≡ min slots given → HasFront (Many IsTarget many) new middle → HasFront (Many IsDataWord (given - many)) middle left → Fills slots count words
+filling slots count given missing many {words = words} {new = new} {middle = middle} {left = left} told fewer r s =
+    filling_of IsTarget dash_is_target slots count given missing many words new middle left told.0 told.1 fewer r.0 s.0 r.1 s.1 r.2.0 s.2.0 r.2.1 s.2.1 told.2
+
 pub other_word : (word other : List ℕ) → false ≡ bytes_eq word other → word ≢ other
 other_word word other e same = false≢true (e ∙ (bytes_eq-Decides word other).1 same)
 
@@ -196,3 +236,6 @@ if_some a (word ∷ words) f = f
 
 pub held_as : (Sort : List ℕ → Type 0) (a b slots count : ℕ) (ws words : List (List ℕ)) → a ≡ slots → b ≡ count → ws ≡ words → Holding Sort a b ws → Holding Sort slots count words
 held_as Sort a b slots count ws words e f g h = subst (λ x. Holding Sort x count words) e (subst (λ x. Holding Sort a x words) f (subst (Holding Sort a b) g h))
+
+pub fills_as : (a b slots count : ℕ) (ws words : List (List ℕ)) → a ≡ slots → b ≡ count → ws ≡ words → Fills a b ws → Fills slots count words
+fills_as a b slots count ws words e f g h = subst (λ x. Fills x count words) e (subst (λ x. Fills a x words) f (subst (Fills a b) g h))

@@ -27,3 +27,6 @@ pub mod Comments
 pub mod GraphLines
 pub mod Fronts
 pub mod Written
+pub mod ByName
+pub mod NamedLines
+pub mod OneGraph

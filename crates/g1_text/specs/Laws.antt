@@ -3,6 +3,7 @@ use Rattle.std.specs.Prelude.{◌≡◌, ℕ, List, ◌∷◌, Option, map}
 use Rattle.g1_image.specs.Image.{Image, IsImage}
 use Rattle.g1_text.specs.Lines.{image_text, image_lines, heading}
 use Rattle.g1_text.specs.Reading.{HasLines}
+use Rattle.g1_text.specs.Graphs.{NamedGraph, SaysGraph}
 use Rattle.g1_text.specs.Content.{Content, Line, Begins, Says, Adds, IsContentOf, SaysImage, words_of}
 
 -- a full text is that of one image
@@ -29,3 +30,7 @@ LinesSayOne = (before : Option Content) (words : List (List ℕ)) (c d : Content
 -- a text says at most one image
 abbrev pub TextsSayOne : Type 0
 TextsSayOne = (text : List ℕ) (i j : Image) → SaysImage text i → SaysImage text j → i ≡ j
+
+-- a text says at most one graph by name
+abbrev pub TextsSayOneGraph : Type 0
+TextsSayOneGraph = (text : List ℕ) (g h : NamedGraph) → SaysGraph text g → SaysGraph text h → g ≡ h

@@ -6,3 +6,5 @@ pub mod Laws
 pub mod Counted
 pub mod Refused
 pub mod Forms
+pub mod Graphs
+pub mod ByName

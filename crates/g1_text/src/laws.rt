@@ -1,4 +1,4 @@
-ghost use Rattle.g1_text.specs.Laws.{OneImage, LinesAddUp, LinesSayImage, TextsSayImage, LinesSayOne, TextsSayOne};
+ghost use Rattle.g1_text.specs.Laws.{OneImage, LinesAddUp, LinesSayImage, TextsSayImage, LinesSayOne, TextsSayOne, TextsSayOneGraph};
 
 /// An image has one full text, and a full text is that of one image.
 pub fn one_full_text()
@@ -17,4 +17,9 @@ pub fn full_lines_add_up()
 pub fn one_meaning()
     ensures line { LinesSayOne }
     ensures text { TextsSayOne }
+{}
+
+/// A text says at most one graph by name.
+pub fn one_graph()
+    ensures { TextsSayOneGraph }
 {}

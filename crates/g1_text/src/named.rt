@@ -1,9 +1,13 @@
 //! Lines of objects by name, without regions and addresses.
-ghost use Rattle.std.specs.Prelude.{◌≡◌, ◌<◌, ◌↔◌, ◌-◌, ◌^◌, [], ◌∷◌, true, false, IsUtf8, map, codes, All, IsTrue, IfErr, IfOk, OnOk, MatchOption};
+ghost use Rattle.std.specs.Prelude.{◌≡◌, ◌<◌, ◌↔◌, ◌-◌, ◌^◌, ℕ, Option, None, Some, [], ◌∷◌, ◌++◌, true, false, IsUtf8, map, codes, All, IsTrue, IfErr, IfOk, IfSome, OnOk, MatchOption};
+ghost use Rattle.g1_words.specs.Geometry.{Geometry as GeometryOf};
 ghost use Rattle.g1_image.specs.Image.{IsImageTextWithin};
 ghost use Rattle.g1_text.specs.Reading.{words_in, says_something, parts_of, lines_in, AreGraphLines};
 ghost use Rattle.g1_text.specs.Forms.{GraphHeading, GraphLine, NamedRootLine, NamedObjectLine, HasMeaning, HasSize, IsTarget, IsName, IsDataWord, Sizes, Maybe, Single, Word, ◌▸◌, Many, Holding, HasFront};
 ghost use Rattle.g1_text.specs.Drafts.{is_begun, IsTaken, AreTaken};
+ghost use Rattle.g1_text.specs.Graphs.{NamedGraph, SaysGraph, SaysSizes, SaysNamed, SayNamed, AddsRoot, AddsObject, empty_graph};
+ghost use Rattle.g1_text.specs.ByName.{HasRead, IsRead, AreSizes, Fills, read_holder, holder_of, holders_from};
+ghost use Rattle.std.specs.Option.{option_copied};
 ghost use Rattle.g1_text.specs.Refused.{IsLineOrMemory};
 
 use crate::covering::cover;
@@ -67,6 +71,7 @@ pub fn is_graph(text: &[u8]) -> bool
 pub fn read_graph<'a>(alloc: Global, text: &'a [u8]) -> Result<Graph<'a>, Wrong>
     ensures fault { IfErr result IsLineOrMemory }
     ensures known { OnOk result (HasMeaning GraphHeading GraphLine text.now) }
+    ensures says { IfOk result (λ r. (g : NamedGraph) × SaysGraph text.now g × (map read_holder r.root_names.items ≡ holders_from 0 g.roots)) }
 {
     let mut lines = read_lines(alloc, text)?;
     let mut graph = place_and_fill(alloc, &mut lines)?;
@@ -79,15 +84,22 @@ pub fn read_graph<'a>(alloc: Global, text: &'a [u8]) -> Result<Graph<'a>, Wrong>
 fn place_and_fill<'a>(alloc: Global, lines: &mut Lines<'a>) -> Result<Graph<'a>, Wrong>
     ensures fault { IfErr result IsLineOrMemory }
     ensures begun { OnOk result (is_begun lines.old ≡ true) }
+    ensures holders { OnOk result (lines.new.holders ≡ lines.old.holders) }
 {
-    match lay_out(alloc, lines) {
-        Ok(mut draft) => fill(alloc, &mut draft, lines),
+    let mut order = Vec::new(alloc);
+    match lay_out(alloc, lines, &mut order) {
+        Ok(mut draft) => fill(alloc, &mut draft, lines, order.as_slice()),
         Err(refusal) => Err(refusal.at(lines.heading)),
     }
 }
 
 // Fills the places that were found.
-fn fill<'a>(alloc: Global, draft: &mut Draft, lines: &Lines<'a>) -> Result<Graph<'a>, Wrong>
+fn fill<'a>(
+    alloc: Global,
+    draft: &mut Draft,
+    lines: &Lines<'a>,
+    order: &[u64],
+) -> Result<Graph<'a>, Wrong>
     ensures fault { IfErr result IsLineOrMemory }
 {
     let mut graph = Graph {
@@ -100,7 +112,7 @@ fn fill<'a>(alloc: Global, draft: &mut Draft, lines: &Lines<'a>) -> Result<Graph
         first_stale: None,
     };
     fill_roots(&mut graph, &mut draft.roots, lines)?;
-    fill_objects(alloc, &mut graph, draft, lines)?;
+    fill_objects(alloc, &mut graph, draft, lines, order)?;
     cover(draft)?;
     graph.text = pack(alloc, draft)?;
     Ok(graph)
@@ -115,6 +127,7 @@ pub fn make_graph(alloc: Global, text: &[u8]) -> Result<Vec<u8>, Wrong>
     ensures image { IfOk result (λ v. IsImageTextWithin Limits.Wide v.items) }
     ensures fault { IfErr result IsLineOrMemory }
     ensures known { OnOk result (HasMeaning GraphHeading GraphLine text.now) }
+    ensures says { OnOk result ((g : NamedGraph) × SaysGraph text.now g) }
 {
     let mut lines = read_lines(alloc, text)?;
     let Graph {
@@ -146,13 +159,12 @@ struct Lines<'a> {
     places: HashMap<&'a str, u64>,
     // The texts among the data words, by the words that stand for them.
     texts: HashMap<u64, &'a str>,
-    // The places of the entries in the order of their addresses.
-    order: Vec<u64>,
 }
 
 fn read_lines<'a>(alloc: Global, text: &'a [u8]) -> Result<Lines<'a>, Wrong>
     ensures fault { IfErr result IsLineOrMemory }
     ensures known { IfOk result (λ l. All IsUtf8 (parts_of text.now) × AreTaken GraphHeading GraphLine false (lines_in text.now) (is_begun l)) }
+    ensures says { IfOk result (λ l. (g : Option NamedGraph) × SayNamed None (lines_in text.now) g × IsRead l g) }
 {
     let mut lines = Lines {
         heading: 0,
@@ -162,7 +174,6 @@ fn read_lines<'a>(alloc: Global, text: &'a [u8]) -> Result<Lines<'a>, Wrong>
         entries: Vec::new(alloc),
         places: HashMap::new(alloc),
         texts: HashMap::new(alloc),
-        order: Vec::new(alloc),
     };
     let mut words = Vec::new(alloc);
     let mut number = 0u64;
@@ -183,6 +194,8 @@ impl<'a> Lines<'a> {
         ensures utf8 { OnOk result (IsUtf8 line.now) }
         ensures known { 0 < number → says_something (words_in line.now) ≡ true → OnOk result (IsTaken GraphHeading GraphLine (is_begun self.old) (words_in line.now) (is_begun self.new)) }
         ensures nothing { says_something (words_in line.now) ≡ false → OnOk result (is_begun self.new ≡ is_begun self.old) }
+        ensures says { (g : Option NamedGraph) → 0 < number → says_something (words_in line.now) ≡ true → IsRead self.old g → OnOk result ((h : NamedGraph) × SaysNamed g (words_in line.now) h × IsRead self.new (Some h)) }
+        ensures kept { (g : Option NamedGraph) → says_something (words_in line.now) ≡ false → IsRead self.old g → OnOk result (IsRead self.new g) }
     {
         let Ok(line) = str::from_utf8(line) else {
             return Err(Refusal::Expected(Expected::Text));
@@ -195,6 +208,8 @@ impl<'a> Lines<'a> {
     fn read_words(&mut self, number: u64, line: &'a str, words: &[&'a str]) -> Result<(), Refusal>
         ensures known { 0 < number → says_something (map (λ t. t.now) words.now) ≡ true → OnOk result (IsTaken GraphHeading GraphLine (is_begun self.old) (map (λ t. t.now) words.now) (is_begun self.new)) }
         ensures nothing { says_something (map (λ t. t.now) words.now) ≡ false → OnOk result (is_begun self.new ≡ is_begun self.old) }
+        ensures says { (g : Option NamedGraph) → 0 < number → map (λ t. t.now) words.now ≡ words_in line.now → says_something (words_in line.now) ≡ true → IsRead self.old g → OnOk result ((h : NamedGraph) × SaysNamed g (words_in line.now) h × IsRead self.new (Some h)) }
+        ensures kept { (g : Option NamedGraph) → map (λ t. t.now) words.now ≡ words_in line.now → says_something (words_in line.now) ≡ false → IsRead self.old g → OnOk result (IsRead self.new g) }
     {
         let Some((first, rest)) = words.split_first() else {
             return Ok(());
@@ -216,6 +231,7 @@ impl<'a> Lines<'a> {
     fn begin(&mut self, number: u64, first: &str, told: &[&str]) -> Result<(), Refusal>
         ensures form { OnOk result (GraphHeading (first.now ∷ map (λ t. t.now) told.now)) }
         ensures number { OnOk result (self.new.heading ≡ number) }
+        ensures says { HasRead self.old (empty_graph None) → OnOk result ((sizes : Option GeometryOf) × SaysSizes sizes (first.now ∷ map (λ t. t.now) told.now) × HasRead self.new (empty_graph sizes)) }
     {
         if first != "graph" {
             return Err(Refusal::Expected(Expected::Graph));
@@ -229,15 +245,14 @@ impl<'a> Lines<'a> {
     fn add_root(&mut self, number: u64, words: &[&'a str]) -> Result<(), Refusal>
         ensures form { OnOk result (NamedRootLine (codes "root" ∷ map (λ t. t.now) words.now)) }
         ensures heading { OnOk result (self.new.heading ≡ self.old.heading) }
+        ensures says { (g : NamedGraph) → HasRead self.old g → OnOk result ((h : NamedGraph) × AddsRoot g (codes "root" ∷ map (λ t. t.now) words.now) h × HasRead self.new h) }
     {
         let most = u64::from(MOST_ROOTS);
         if self.roots.len() as u64 >= most {
             return Err(Refusal::Expected(Expected::Roots(most)));
         }
         let (name, holder) = root_words(words)?;
-        if let Some(holder) = holder {
-            self.holders.push((self.roots.len() as u64, holder))?;
-        }
+        keep_holder(&mut self.holders, self.roots.len() as u64, holder)?;
         self.roots.push((number, name))?;
         Ok(())
     }
@@ -246,6 +261,7 @@ impl<'a> Lines<'a> {
     fn add_object(&mut self, number: u64, line: &'a str, words: &[&'a str]) -> Result<(), Refusal>
         ensures form { OnOk result (NamedObjectLine (codes "object" ∷ map (λ t. t.now) words.now)) }
         ensures heading { OnOk result (self.new.heading ≡ self.old.heading) }
+        ensures says { (g : NamedGraph) → codes "object" ∷ map (λ t. t.now) words.now ≡ words_in line.now → HasRead self.old g → OnOk result ((h : NamedGraph) × AddsObject g (words_in line.now) h × HasRead self.new h) }
     {
         let Some((name, rest)) = words.split_first() else {
             return Err(Refusal::Expected(Expected::Name));
@@ -283,9 +299,24 @@ impl<'a> Lines<'a> {
     }
 }
 
+// Keeps what holds a root, if its line says that.
+fn keep_holder<'a>(
+    holders: &mut Vec<(u64, &'a str)>,
+    number: u64,
+    holder: Option<&'a str>,
+) -> Result<(), AllocError>
+    ensures { OnOk result (map read_holder holders.new.items ≡ map read_holder holders.old.items ++ holder_of number (option_copied holder.entry)) }
+{
+    if let Some(holder) = holder {
+        holders.push((number, holder))?;
+    }
+    Ok(())
+}
+
 // [W K N]
 fn all_sizes(told: &[&str]) -> Result<Option<HeapSizes>, Expected>
-    ensures { OnOk result (Maybe Sizes (map (λ t. t.now) told.now)) }
+    ensures form { OnOk result (Maybe Sizes (map (λ t. t.now) told.now)) }
+    ensures says { IfOk result (λ s. (sizes : Option GeometryOf) × AreSizes s sizes × SaysSizes sizes (codes "graph" ∷ map (λ t. t.now) told.now)) }
 {
     let mut words = Words::new(told);
     if words.len() == 0 {
@@ -306,6 +337,8 @@ fn all_sizes(told: &[&str]) -> Result<Option<HeapSizes>, Expected>
 fn root_words<'a>(words: &[&'a str]) -> Result<(&'a str, Option<&'a str>), Expected>
     ensures words { IfOk result (λ r. MatchOption r.1 (map (λ t. t.now) words.now ≡ r.0.now ∷ []) (λ h. map (λ t. t.now) words.now ≡ r.0.now ∷ codes "as" ∷ h.now ∷ [])) }
     ensures form { OnOk result ((Single IsTarget ▸ Maybe (Word (codes "as") ▸ Single IsName)) (map (λ t. t.now) words.now)) }
+    ensures target { IfOk result (λ r. IsTarget r.0.now) }
+    ensures holder { IfOk result (λ r. IfSome r.1 (λ h. IsName h.now)) }
 {
     match words.split_first() {
         Some((name, rest)) if *name != ".." => Ok((*name, holder(rest)?)),
@@ -317,6 +350,7 @@ fn root_words<'a>(words: &[&'a str]) -> Result<(&'a str, Option<&'a str>), Expec
 fn holder<'a>(words: &[&'a str]) -> Result<Option<&'a str>, Expected>
     ensures words { IfOk result (λ r. MatchOption r (map (λ t. t.now) words.now ≡ []) (λ h. map (λ t. t.now) words.now ≡ codes "as" ∷ h.now ∷ [])) }
     ensures form { OnOk result (Maybe (Word (codes "as") ▸ Single IsName) (map (λ t. t.now) words.now)) }
+    ensures name { IfOk result (λ r. IfSome r (λ h. IsName h.now)) }
 {
     let Some((first, rest)) = words.split_first() else {
         return Ok(None);
@@ -359,7 +393,8 @@ fn short_size(text: &str) -> Result<(u32, u32), Expected>
 
 // NAME .. WORD .. [..]
 fn check_content(content: &[&str], size: u32, slots: u32) -> Result<(), Expected>
-    ensures { slots < size → OnOk result (Holding IsTarget slots (size - slots - 1) (map (λ t. t.now) content.now)) }
+    ensures form { slots < size → OnOk result (Holding IsTarget slots (size - slots - 1) (map (λ t. t.now) content.now)) }
+    ensures fills { slots < size → OnOk result (Fills slots (size - slots - 1) (map (λ t. t.now) content.now)) }
 {
     let mut words = Words::new(content);
     let slots = u64::from(slots);
@@ -417,9 +452,11 @@ fn keep_texts<'a>(
     Ok(())
 }
 
-// A heap of the sizes that the first line has, or of chosen ones, in which each object has an address.
-fn lay_out(alloc: Global, lines: &mut Lines<'_>) -> Result<Draft, Refusal>
-    ensures { OnOk result (is_begun lines.old ≡ true) }
+// A heap of the sizes that the first line has, or of chosen ones, in which each object has an address. Adds the places of
+// the entries in the order of their addresses.
+fn lay_out(alloc: Global, lines: &mut Lines<'_>, order: &mut Vec<u64>) -> Result<Draft, Refusal>
+    ensures begun { OnOk result (is_begun lines.old ≡ true) }
+    ensures holders { OnOk result (lines.new.holders ≡ lines.old.holders) }
 {
     let geometry = match sizes_of(lines) {
         Ok(geometry) => geometry,
@@ -431,7 +468,7 @@ fn lay_out(alloc: Global, lines: &mut Lines<'_>) -> Result<Draft, Refusal>
         dirty: None,
     };
     let mut draft = Draft::new(alloc, geometry, None, heading)?;
-    place(&mut draft, lines.entries.as_mut_slice(), &mut lines.order)?;
+    place(&mut draft, lines.entries.as_mut_slice(), order)?;
     Ok(draft)
 }
 
@@ -480,11 +517,12 @@ fn fill_objects<'a>(
     graph: &mut Graph<'a>,
     draft: &mut Draft,
     lines: &Lines<'a>,
+    order: &[u64],
 ) -> Result<(), Wrong>
     ensures fault { IfErr result IsLineOrMemory }
 {
     let mut words = Vec::new(alloc);
-    for place in &lines.order {
+    for place in order {
         let Some(entry) = lines.entries.get(*place as usize) else {
             continue;
         };

@@ -1,6 +1,6 @@
 use Rattle.std.proofs.Common.{◌≡◌, ℕ, List, [], ◌∷◌, map, Bor, refl, sym, ◌∙◌, ap, subst}
 use Rattle.std.specs.Prelude.{codes}
-use Rattle.g1_text.specs.Forms.{Form, Word, Single, Maybe, IsName, ◌▸◌}
+use Rattle.g1_text.specs.Forms.{Form, Word, Single, IsName, ◌▸◌}
 use Rattle.g1_text.proofs.Fronts.{begins_with, same_word, not_word, no_words, if_some}
 use Rattle.g1_text.proofs.named.holder.Goals as goal
 
@@ -16,5 +16,6 @@ returns-in-Some-default-empty c =
     let named : IsName holder = (not_word holder (codes "-") c.if-ne-2.ensures, not_word holder (codes "..") c.if-ne-3.ensures) in
     record {
       words = all;
+      name = named;
       form = if_some form (texts c.args.words.now) (subst form (sym all) (begins_with (codes "as") (Single IsName) (holder ∷ []) (holder, refl, named)));
     }

@@ -5,6 +5,7 @@ use Rattle.g1_text.specs.Reading.{lines_in}
 use Rattle.g1_text.specs.Forms.{GraphHeading, GraphLine}
 use Rattle.g1_text.specs.Drafts.{AreTaken}
 use Rattle.g1_text.proofs.Formed.{meant_text}
+use Rattle.g1_text.proofs.NamedLines.{graph_said, begun_is}
 use Rattle.g1_text.proofs.named.make_graph.Goals as goal
 
 pub returns-in-Ok-clause-image : goal.returns-in-Ok-clause-image
@@ -14,3 +15,10 @@ pub returns-in-Ok-clause-known : goal.returns-in-Ok-clause-known
 returns-in-Ok-clause-known c =
     let read = c.in_ok-lines.ensures.known in
     meant_text GraphHeading GraphLine c.args.text.now (read.0, subst (AreTaken GraphHeading GraphLine false (lines_in c.args.text.now)) c.in_ok-bytes.ensures.begun read.1)
+
+pub returns-in-Ok-clause-says : goal.returns-in-Ok-clause-says
+returns-in-Ok-clause-says c =
+    let read = c.in_ok-lines.ensures in
+    let lines = c.in_ok-lines.lines in
+    let said = graph_said c.args.text.now lines read.known.0 (begun_is lines.heading c.in_ok-bytes.ensures.begun) read.says in
+    (said.0, said.1)

@@ -1,4 +1,6 @@
-use Rattle.std.proofs.Common.{false, subst}
+use Rattle.std.proofs.Common.{Vec, Global, ℕ, List, Bor, map, false, ◌∙◌, ap, subst}
+use Rattle.g1_text.specs.ByName.{read_holder}
+use Rattle.g1_text.proofs.NamedLines.{graph_said, begun_is}
 use Rattle.g1_text.specs.Reading.{lines_in}
 use Rattle.g1_text.specs.Forms.{GraphHeading, GraphLine}
 use Rattle.g1_text.specs.Drafts.{AreTaken}
@@ -9,3 +11,10 @@ pub returns-clause-known : goal.returns-clause-known
 returns-clause-known c =
     let read = c.in_ok-lines.ensures.known in
     meant_text GraphHeading GraphLine c.args.text.now (read.0, subst (AreTaken GraphHeading GraphLine false (lines_in c.args.text.now)) c.in_ok-graph.ensures.begun read.1)
+
+pub returns-clause-says : goal.returns-clause-says
+returns-clause-says c =
+    let read = c.in_ok-lines.ensures in
+    let lines = c.in_ok-lines.lines in
+    let said = graph_said c.args.text.now lines read.known.0 (begun_is lines.heading c.in_ok-graph.ensures.begun) read.says in
+    (said.0, said.1, ap (λ (hs : Vec (ℕ × Bor (List ℕ)) Global). map read_holder hs.items) c.in_ok-graph.ensures.holders ∙ said.2.holders)

@@ -1,7 +1,12 @@
-use Rattle.std.proofs.Common.{ℕ, List, [], ◌∷◌, map, Bor, refl, ap}
+use Rattle.std.proofs.Common.{◌≡◌, ◌++◌, sym, ◌∙◌, subst, arith, ℕ, List, [], ◌∷◌, map, Bor, refl, ap}
 use Rattle.std.specs.Prelude.{codes}
 use Rattle.g1_text.specs.Forms.{Single, IsName, IsTarget, SizeAndWords, ◌▸◌}
 use Rattle.g1_text.proofs.Fronts.{begins_with}
+use Rattle.g1_text.proofs.ByName.{object_said, entries_more, is_new_name, not_some, places_more}
+use Rattle.g1_text.specs.declared.placing.Entry.{Entry}
+use Rattle.g1_text.specs.ByName.{IsEntryOf, place_of}
+use Rattle.std.proofs.lemmas.Slice.Zip.{AllZip-long}
+use Rattle.std.specs.Prelude.{None}
 use Rattle.g1_text.proofs.named.Lines.add_object.Goals as goal
 
 pub returns-clause-form : goal.returns-clause-form
@@ -20,6 +25,32 @@ returns-clause-form c =
         c.in_ok-size.slots,
         within.0,
         within.1,
-        (size ∷ [], texts c.in-Some-split_first.content.now, ap texts c.in-Some-split_first.ensures.cases.0, (size, refl, c.in_ok-size.ensures.form), c.in_ok-check_content.ensures within.0),
+        (size ∷ [], texts c.in-Some-split_first.content.now, ap texts c.in-Some-split_first.ensures.cases.0, (size, refl, c.in_ok-size.ensures.form), c.in_ok-check_content.ensures.form within.0),
       ),
+    )
+
+pub returns-clause-says : goal.returns-clause-says
+returns-clause-says c = λ g line h.
+    let texts = map (λ (t : Bor (List ℕ)). t.now) in
+    let name = c.in-Some.name.now.now in
+    let size = c.in-Some-split_first.size.now.now in
+    let within = c.in_ok-size.ensures.within in
+    let content = texts c.in-Some-split_first.content.now in
+    let words = sym line ∙ ap (λ ws. codes "object" ∷ ws) (ap texts c.in-Some.ensures.cases.0 ∙ ap (λ ws. name ∷ ws) (ap texts c.in-Some-split_first.ensures.cases.0)) in
+    let o = object_said name size c.in_ok-size.size c.in_ok-size.slots content _ c.in_ok-check_name.ensures within.0 within.1 c.in_ok-size.ensures.form (c.in_ok-check_content.ensures.fills within.0) words in
+    let e : Entry = record { name = c.in-Some.name.now; size = c.in_ok-size.size; slots = c.in_ok-size.slots; number = c.args.number; line = c.args.line; at = 0 } in
+    let entry : IsEntryOf e o.0 = record { name = o.1; size = o.2; slots = o.3; line = o.4 } in
+    let count = AllZip-long IsEntryOf c.args.self.now.entries.items g.objects h.entries in
+    let none : c.in_ok-insert.field-0 ≡ None = not_some c.in_ok-insert.field-0 (sym c.is_some.ensures ∙ c.if-is_some.false) in
+    let fresh : place_of name g.objects ≡ None = sym (h.places name) ∙ sym c.in_ok-insert.ensures.old ∙ none in (
+      record g { objects = g.objects ++ o.0 ∷ [] },
+      (o.0, o.4, is_new_name o.0.name g (subst (λ n. place_of n g.objects ≡ None) o.1 fresh), refl),
+      record {
+        sizes = h.sizes;
+        roots = h.roots;
+        targets = h.targets;
+        holders = h.holders;
+        entries = entries_more c.args.self.now.entries.items _ g.objects e o.0 h.entries c.in_ok-push.ensures.items entry;
+        places = places_more c.args.self.now.places c.insert.new.self g.objects o.0 name c.len-place.result o.1 h.places (omega (arith, count, c.len-place.ensures)) fresh c.in_ok-insert.ensures.updates;
+      },
     )

@@ -1,0 +1,195 @@
+-- What lines of objects by name say, and what is kept of it.
+use Rattle.std.proofs.Common.{◌≡◌, ◌≢◌, Bool, true, false, cond, ℕ, suc, ◌+◌, ◌-◌, ◌<◌, ◌^◌, List, [], ◌∷◌, ◌++◌, length, map, append-nil, append_assoc, refl, sym, ◌∙◌, ap, subst, arith}
+use Rattle.std.specs.Prelude.{Option, Some, None, MatchOption, IfSome, codes, All}
+use Rattle.std.specs.Borrow.{Bor}
+use Rattle.std.specs.List.{AllZip, position_from}
+use Rattle.std.specs.Option.{option_copied, is_some}
+use Rattle.std.specs.Str.{bytes_eq}
+use Rattle.std.specs.HashMap.{HashMap, UpdatesBy, get_by}
+use Rattle.std.proofs.lemmas.Bool.{false≢true}
+use Rattle.std.proofs.lemmas.Slice.Eq.{bytes_eq-Decides}
+use Rattle.std.proofs.lemmas.List.Elements.{All-nil, All-cons}
+use Rattle.std.proofs.lemmas.Map.Text.{hash_map_updates_str}
+use Rattle.g1_words.specs.Geometry.{IsWithinBounds}
+use Rattle.g1_text.specs.declared.placing.Entry.{Entry}
+use Rattle.g1_text.specs.Forms.{Single, Spells, HasSize, IsTarget, IsName, ◌▸◌, HasFront}
+use Rattle.g1_text.specs.Graphs.{NamedObject, NamedRoot, NamedGraph, SaysSizes, SaysRoot, SaysObject, IsTargetName, IsNewName, Shortens, size_of, target_word}
+use Rattle.g1_text.specs.ByName.{IsEntryOf, Fills, read_root, root_word, holder_of, holders_from, place_of}
+use Rattle.g1_text.proofs.Gathering.{map_count, map_push}
+
+some_none : {A : Type 0} {x : A} → ◌≡◌ {A = Option A} (Some x) None → ⊥
+some_none e = cc
+
+-- TARGETS
+
+-- null for a dash, and a name for each other word
+abbrev pub target_of : List ℕ → Option (List ℕ)
+target_of word = cond (bytes_eq word (codes "-")) None (Some word)
+
+pub word_of_target : (word : List ℕ) → target_word (target_of word) ≡ word
+word_of_target word = at (bytes_eq word (codes "-")) refl
+  where
+    at : (b : Bool) → bytes_eq word (codes "-") ≡ b → target_word (cond b None (Some word)) ≡ word
+    at true e = sym ((bytes_eq-Decides word (codes "-")).0 e)
+    at false e = refl
+
+pub target_is : (word : List ℕ) → IsTarget word → IsTargetName (target_of word)
+target_is word is = at (bytes_eq word (codes "-")) refl
+  where
+    at : (b : Bool) → bytes_eq word (codes "-") ≡ b → IsTargetName (cond b None (Some word))
+    at true e = tt
+    at false e = ((λ same. false≢true (sym e ∙ (bytes_eq-Decides word (codes "-")).1 same)), is)
+
+words_of_targets : (words : List (List ℕ)) → map target_word (map target_of words) ≡ words
+words_of_targets [] = refl
+words_of_targets (word ∷ words) = let first = word_of_target word in let rest = words_of_targets words in λ i. first i ∷ rest i
+
+targets_are : (words : List (List ℕ)) → All IsTarget words → All IsTargetName (map target_of words)
+targets_are [] all = All-nil IsTargetName
+targets_are (word ∷ words) all =
+    All-cons IsTargetName (target_of word) (map target_of words) (target_is word (all 0 [] (omega arith))) (targets_are words (λ k d lt. all (suc k) d (omega (arith, lt))))
+
+-- THE HEADING
+pub sizes_said : (w k n x y z : ℕ) {before left : List (List ℕ)} → (w ≡ x) × (k ≡ y) × (n ≡ z) → IsWithinBounds w k n
+    → HasFront (Single (Spells (2 ^ 64) x) ▸ Single (Spells (2 ^ 64) y) ▸ Single (Spells (2 ^ 64) z)) before left → left ≡ []
+    → SaysSizes (Some (record { w = x; k = y; n = z })) (codes "graph" ∷ before)
+sizes_said w k n x y z e limits r end =
+    let within = subst (λ a. IsWithinBounds a y z) e.0 (subst (λ a. IsWithinBounds w a z) e.1 (subst (λ a. IsWithinBounds w k a) e.2 limits)) in
+    let first = r.2.3 in
+    let second = r.2.4.3 in
+    let third = r.2.4.4 in
+    let words = r.1 ∙ ap (λ ws. r.0 ++ ws) end ∙ append-nil r.0 ∙ r.2.2 ∙ (λ i. first.1 i ++ r.2.4.2 i) ∙ (λ i. first.0 ∷ (second.1 i ++ third.1 i)) in
+    (first.0, second.0, third.0, ap (λ ws. codes "graph" ∷ ws) words, within, first.2, second.2, third.2)
+
+pub no_sizes_said : (words : List (List ℕ)) → length words ≡ 0 → SaysSizes None (codes "graph" ∷ words)
+no_sizes_said [] e = refl
+no_sizes_said (word ∷ words) e = absurd (omega (arith, e))
+
+-- A ROOT
+pub root_said : (name : Bor (List ℕ)) (holder : Option (Bor (List ℕ))) (words : List (List ℕ))
+    → MatchOption holder (words ≡ name.now ∷ []) (λ h. words ≡ name.now ∷ codes "as" ∷ h.now ∷ []) → IsTarget name.now → IfSome holder (λ h. IsName h.now)
+    → SaysRoot (record { target = target_of name.now; holder = option_copied holder }) (codes "root" ∷ words)
+root_said name None words m target named = record {
+  target = target_is name.now target;
+  holder = tt;
+  line = ap (λ ws. codes "root" ∷ ws) m ∙ ap (λ w. codes "root" ∷ w ∷ []) (sym (word_of_target name.now));
+}
+root_said name (Some holder) words m target named = record {
+  target = target_is name.now target;
+  holder = named;
+  line = ap (λ ws. codes "root" ∷ ws) m ∙ ap (λ w. codes "root" ∷ w ∷ codes "as" ∷ holder.now ∷ []) (sym (word_of_target name.now));
+}
+
+-- the holders with one more root
+holders_push : (n : ℕ) (roots : List NamedRoot) (r : NamedRoot) → holders_from n (roots ++ r ∷ []) ≡ holders_from n roots ++ holder_of (n + length roots) r.holder
+holders_push n [] r = let z : n + 0 ≡ n = omega arith in append-nil (holder_of n r.holder) ∙ ap (λ m. holder_of m r.holder) (sym z)
+holders_push n (x ∷ roots) r =
+    let same : n + 1 + length roots ≡ n + length (x ∷ roots) = omega arith in
+    ap (λ hs. holder_of n x.holder ++ hs) (holders_push (n + 1) roots r ∙ ap (λ m. holders_from (n + 1) roots ++ holder_of m r.holder) same)
+    ∙ sym (append_assoc (holder_of n x.holder) (holders_from (n + 1) roots) (holder_of (n + length (x ∷ roots)) r.holder))
+
+-- AN OBJECT
+pub object_said : (name size : List ℕ) (n slots : ℕ) (content words : List (List ℕ)) → IsName name → slots < n → n < 2 ^ 32 → HasSize n slots size → Fills slots (n - slots - 1) content
+    → words ≡ codes "object" ∷ name ∷ size ∷ content → (o : NamedObject) × (name ≡ o.name) × (n ≡ size_of o) × (slots ≡ length o.slots) × SaysObject o words
+object_said name size n slots content words named less fits sized filled line =
+    let o : NamedObject = record { name = name; slots = map target_of filled.0; written = filled.1 } in
+    let many = map_count target_of filled.0 in
+    let some = filled.2.0 in
+    let rest = filled.3.0 in
+    let same_size : n ≡ size_of o = omega (arith, many, some, rest, less) in
+    let same_slots : slots ≡ length o.slots = omega (arith, many, some) in (
+      o,
+      refl,
+      same_size,
+      same_slots,
+      record {
+        name = named;
+        targets = targets_are filled.0 filled.2.1;
+        size = size;
+        has_size = subst (λ s. HasSize s (length o.slots) size) same_size (subst (λ s. HasSize n s size) same_slots sized);
+        fits = subst (λ s. s < 2 ^ 32) same_size fits;
+        are_data = filled.3.1;
+        content = content;
+        shortens = subst (λ ws. Shortens ws filled.1 content) (sym (words_of_targets filled.0)) filled.4;
+        line = line;
+      },
+    )
+
+-- the place of a name, where one more object has a name of its own
+place_other : (name : List ℕ) (n : ℕ) (objects : List NamedObject) (o : NamedObject) → bytes_eq name o.name ≡ false
+    → position_from (λ x. bytes_eq name x.name) n (objects ++ o ∷ []) ≡ position_from (λ x. bytes_eq name x.name) n objects
+place_other name n [] o e = ap (λ b. cond b (Some n) None) e
+place_other name n (x ∷ objects) o e = ap (cond (bytes_eq name x.name) (Some n)) (place_other name (n + 1) objects o e)
+
+past : (b : Bool) (n : ℕ) (r s t : Option ℕ) → cond b (Some n) r ≡ None → (r ≡ None → s ≡ t) → cond b (Some n) s ≡ t
+past true n r s t e f = absurd (some_none e)
+past false n r s t e f = f e
+
+place_new : (name : List ℕ) (n : ℕ) (objects : List NamedObject) (o : NamedObject) → bytes_eq name o.name ≡ true → position_from (λ x. bytes_eq name x.name) n objects ≡ None
+    → position_from (λ x. bytes_eq name x.name) n (objects ++ o ∷ []) ≡ Some (n + length objects)
+place_new name n [] o e none = let z : n ≡ n + 0 = omega arith in ap (λ b. cond b (Some n) None) e ∙ ap Some z
+place_new name n (x ∷ objects) o e none =
+    let same : n + 1 + length objects ≡ n + length (x ∷ objects) = omega arith in
+    past (bytes_eq name x.name) n (position_from (λ x. bytes_eq name x.name) (n + 1) objects) (position_from (λ x. bytes_eq name x.name) (n + 1) (objects ++ o ∷ [])) (Some (n + length (x ∷ objects))) none
+    (λ f. place_new name (n + 1) objects o e f ∙ ap Some same)
+
+-- no object has a name without a place
+apart : (b : Bool) (name other : List ℕ) (n : ℕ) (r : Option ℕ) → bytes_eq name other ≡ b → cond b (Some n) r ≡ None → (other ≢ name) × (r ≡ None)
+apart true name other n r e f = absurd (some_none f)
+apart false name other n r e f = ((λ same. false≢true (sym e ∙ (bytes_eq-Decides name other).1 (sym same))), f)
+
+new_name : (name : List ℕ) (n : ℕ) (objects : List NamedObject) → position_from (λ x. bytes_eq name x.name) n objects ≡ None → All (λ o. o.name ≢ name) objects
+new_name name n [] none = All-nil (λ o. o.name ≢ name)
+new_name name n (x ∷ objects) none =
+    let p = apart (bytes_eq name x.name) name x.name n (position_from (λ x. bytes_eq name x.name) (n + 1) objects) refl none in
+    All-cons (λ o. o.name ≢ name) x objects p.0 (new_name name (n + 1) objects p.1)
+
+zip_push : {A B : Type 0} (R : A → B → Type 0) (xs : List A) (ys : List B) (x : A) (y : B) → AllZip R xs ys → R x y → AllZip R (xs ++ x ∷ []) (ys ++ y ∷ [])
+zip_push R [] [] x y all r = (r, tt)
+zip_push R [] (b ∷ ys) x y all r = elim all [ ]
+zip_push R (a ∷ xs) [] x y all r = elim all [ ]
+zip_push R (a ∷ xs) (b ∷ ys) x y all r = (all.0, zip_push R xs ys x y all.1 r)
+
+-- WHAT IS KEPT OF A LINE
+pub root_count : (old : List (ℕ × Bor (List ℕ))) (roots : List NamedRoot) → map read_root old ≡ map root_word roots → length old ≡ length roots
+root_count old roots e = sym (map_count read_root old) ∙ ap length e ∙ map_count root_word roots
+
+pub roots_more : (old new : List (ℕ × Bor (List ℕ))) (roots : List NamedRoot) (r : NamedRoot) (number : ℕ) (name : Bor (List ℕ)) → map read_root old ≡ map root_word roots
+    → new ≡ old ++ (number, name) ∷ [] → target_word r.target ≡ name.now → map read_root new ≡ map root_word (roots ++ r ∷ [])
+roots_more old new roots r number name e push word =
+    ap (map read_root) push ∙ map_push read_root old (number, name) ∙ (λ i. e i ++ sym word i ∷ []) ∙ sym (map_push root_word roots r)
+
+pub holders_more : (old new : List (ℕ × List ℕ)) (roots : List NamedRoot) (r : NamedRoot) (n : ℕ) → old ≡ holders_from 0 roots → new ≡ old ++ holder_of n r.holder → n ≡ length roots
+    → new ≡ holders_from 0 (roots ++ r ∷ [])
+holders_more old new roots r n e push count =
+    let place : n ≡ 0 + length roots = omega (arith, count) in
+    push ∙ (λ i. e i ++ holder_of (place i) r.holder) ∙ sym (holders_push 0 roots r)
+
+pub entries_more : (old new : List Entry) (objects : List NamedObject) (e : Entry) (o : NamedObject) → AllZip IsEntryOf old objects → new ≡ old ++ e ∷ [] → IsEntryOf e o → AllZip IsEntryOf new (objects ++ o ∷ [])
+entries_more old new objects e o all push is = subst (λ es. AllZip IsEntryOf es (objects ++ o ∷ [])) (sym push) (zip_push IsEntryOf old objects e o all is)
+
+-- a name without an object is new
+pub is_new_name : (name : List ℕ) (g : NamedGraph) → place_of name g.objects ≡ None → IsNewName name g
+is_new_name name g none = new_name name 0 g.objects none
+
+-- a value that is none
+pub not_some : (o : Option ℕ) → is_some o ≡ false → o ≡ None
+not_some None e = refl
+not_some (Some n) e = absurd (false≢true (sym e))
+
+pub places_more : {S : Type 0} (old new : HashMap (Bor (List ℕ)) ℕ S) (objects : List NamedObject) (o : NamedObject) (name : List ℕ) (count : ℕ) → name ≡ o.name
+    → ((query : List ℕ) → get_by (λ k. bytes_eq query k.now) old ≡ place_of query objects) → count ≡ length objects → place_of name objects ≡ None
+    → UpdatesBy (λ x y. bytes_eq x.now y.now) (λ k. bytes_eq name k.now) old new (Some count) → (query : List ℕ) → get_by (λ k. bytes_eq query k.now) new ≡ place_of query (objects ++ o ∷ [])
+places_more old new objects o name count same places many fresh more query =
+    hash_map_updates_str name old new (Some count) more query ∙ place (bytes_eq name query) refl
+  where
+    differs : bytes_eq name query ≡ false → (b : Bool) → bytes_eq query o.name ≡ b → b ≡ false
+    differs f false e = refl
+    differs f true e = absurd (false≢true (sym f ∙ (bytes_eq-Decides name query).1 (same ∙ sym ((bytes_eq-Decides query o.name).0 e))))
+
+    place : (b : Bool) → bytes_eq name query ≡ b → cond b (Some count) (get_by (λ k. bytes_eq query k.now) old) ≡ place_of query (objects ++ o ∷ [])
+    place true t =
+        let is : name ≡ query = (bytes_eq-Decides name query).0 t in
+        let here : 0 + length objects ≡ count = omega (arith, many) in
+        sym (place_new query 0 objects o ((bytes_eq-Decides query o.name).1 (sym is ∙ same)) (subst (λ k. place_of k objects ≡ None) is fresh) ∙ ap Some here)
+    place false f = places query ∙ sym (place_other query 0 objects o (differs f (bytes_eq query o.name) refl))
