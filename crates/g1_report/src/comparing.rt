@@ -24,7 +24,8 @@ pub struct Sides<'a> {
     /// The numbers of the first one's roots of which its lines say what holds them, rising, and what that is called.
     pub holders: &'a [(u64, &'a str)],
     /// The names of the objects of each, if they have names in place of addresses.
-    pub labels: [Labels<'a>; 2],
+    pub labels_before: Labels<'a>,
+    pub labels_after: Labels<'a>,
     /// The texts that data words of the first one stand for, and those of the second one.
     pub texts_before: &'a HashMap<u64, &'a str>,
     pub texts_after: &'a HashMap<u64, &'a str>,
@@ -88,8 +89,8 @@ pub fn push_found_line(
     }
 }
 
-// The number of a root, and those of slots behind it.
-type Steps<'a> = (u64, &'a [u64]);
+/// The number of a root, and those of slots behind it.
+pub type Steps<'a> = (u64, &'a [u64]);
 
 // The line of a path that leads to words which disagree like this.
 fn push_how_line(
@@ -109,8 +110,8 @@ fn push_how_line(
     text.push('\n')
 }
 
-// The line of a path that leads to a stale word, where the heap before has this other word.
-fn push_stale_line(
+/// The line of a path that leads to a stale word, where the heap before has this other word.
+pub fn push_stale_line(
     alloc: Global,
     text: &mut String,
     sides: Sides<'_>,
@@ -135,7 +136,7 @@ fn push_stale_name(
     name: &str,
 ) -> Result<(), AllocError> {
     let still = match old.checked_sub(1) {
-        Some(address) if label(sides.labels[0], address) == Some(name) => "still is",
+        Some(address) if label(sides.labels_before, address) == Some(name) => "still is",
         _ => "is",
     };
     write!(
@@ -152,8 +153,7 @@ fn push_stale_word(
     old: u64,
     word: u64,
 ) -> Result<(), AllocError> {
-    let [before, _] = sides.labels;
-    let named = before.is_some();
+    let named = sides.labels_before.is_some();
     let still = if word == old && !named {
         "still is"
     } else {
@@ -230,7 +230,7 @@ fn push_root(text: &mut String, sides: Sides<'_>, root: u64) -> Result<(), Alloc
 }
 
 fn push_before(text: &mut String, sides: Sides<'_>, word: u64) -> Result<(), AllocError> {
-    push_word(text, ": ", sides.labels[0], word)?;
+    push_word(text, ": ", sides.labels_before, word)?;
     if let (Some(names), Some(object)) = (sides.names, object_of(sides.before, word)) {
         push_named_object(text, names, &object)?;
     }
@@ -238,7 +238,7 @@ fn push_before(text: &mut String, sides: Sides<'_>, word: u64) -> Result<(), All
 }
 
 fn push_after(text: &mut String, sides: Sides<'_>, word: u64) -> Result<(), AllocError> {
-    push_word(text, ", ", sides.labels[1], word)?;
+    push_word(text, ", ", sides.labels_after, word)?;
     if let Some(kind) = kind_after(sides, word) {
         push_kind(text, kind)?;
     }
@@ -292,7 +292,7 @@ fn push_detail(
     how: &How,
     ends: &Ends,
 ) -> Result<(), AllocError> {
-    let [old_names, new_names] = sides.labels;
+    let (old_names, new_names) = (sides.labels_before, sides.labels_after);
     match how {
         How::NullBefore => Ok(()),
         How::NullAfter => Ok(()),

@@ -4,7 +4,7 @@
 //!    (`open_stale`), or that of lines of objects by name (`open_lines`). `Names` is what a program
 //!    calls its roots, its objects and the words in them.
 //! 2. `report` is asked of two sides. It compares their graphs by `compare` of g1_same. If the second has
-//!    stale words, it takes the first of its `Differences`, of which they are some. That is the finding.
+//!    stale words, it asks `compare_stale`, which looks for them, too. That is the finding.
 //! 3. If the graphs are the same and regions of a pause are given, `kept` of g1_kept says whether the
 //!    second heap keeps what that pause keeps.
 //! 4. The verdict is made of what was found: a status, and a first line with the path from a root, what

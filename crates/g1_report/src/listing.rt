@@ -1,9 +1,15 @@
 //! The lines of all differences: the first ones, and how many there are of each kind.
+ghost use Rattle.std.specs.Prelude.{◌≡◌, [], OnOk, IfErr};
+ghost use Rattle.g1_same.specs.Behind.{IsThere};
+ghost use Rattle.g1_same.specs.Underway.{IsUnderway};
+ghost use Rattle.g1_report.specs.Finding.{IsFault};
+ghost use Rattle.g1_report.specs.Taken.{TakesFirst};
+
 use crate::comparing::{Sides, push_found_line};
 use crate::lines::Lines;
 use crate::reporting::{Asked, Refused};
 use crate::sides::Strays;
-use g1_same::{Differences, How, StaleWords, What};
+use g1_same::{Differences, Found, How, StaleWords, What};
 use std::alloc::{AllocError, Global};
 
 // The kinds of differences, as lines have them.
@@ -20,12 +26,17 @@ pub fn list_all<L: Lines>(
     first: &str,
     most: u64,
     out: &mut L,
-) -> Result<(), Refused> {
+) -> Result<(), Refused>
+    ensures first { OnOk result (TakesFirst (L.taken out.old) (L.taken out.new) first.now) }
+    ensures fault { IfErr result IsFault }
+{
     let mut counts = [0u64; 8];
     if sides.before.roots().len() != sides.after.roots().len() {
         counts[0] = 1;
     }
-    let mut goes_on = out.take(first)?;
+    if !out.take(first)? {
+        return Ok(());
+    }
     // The walk finds no difference of the numbers of roots, and finds each other first one again.
     let mut lines = counts[0];
     let stale = stale_words(&asked.after.stale);
@@ -33,13 +44,8 @@ pub fn list_all<L: Lines>(
     let mut text = String::new(alloc);
     'differences: while let Some(found) = walk.next()? {
         add_one(&mut counts, kind_of(&found.what));
-        if 0 < lines && lines < most {
-            let path = walk.path_to(alloc, &found)?;
-            text.clear();
-            push_found_line(alloc, &mut text, sides, &path, &found)?;
-            goes_on = out.take(text.as_str())?;
-        }
-        if !goes_on {
+        let listed = 0 < lines && lines < most;
+        if !take_found(alloc, sides, &walk, &found, listed, &mut text, out)? {
             return Ok(());
         }
         lines = lines.saturating_add(1);
@@ -50,17 +56,51 @@ pub fn list_all<L: Lines>(
     Ok(())
 }
 
-/// The stale words of a side, by their places.
-pub fn stale_words<'a>(stale: &'a Option<Strays<'_>>) -> StaleWords<'a> {
+// Hands on the line of a difference, if it is listed. Returns whether further ones have a reader.
+fn take_found<L: Lines>(
+    alloc: Global,
+    sides: Sides<'_>,
+    walk: &Differences<'_>,
+    found: &Found,
+    listed: bool,
+    text: &mut String,
+    out: &mut L,
+) -> Result<bool, Refused>
+    requires underway { IsUnderway walk.now }
+    requires before { walk.now.before.now ≡ sides.before.now }
+    requires after { walk.now.after.now ≡ sides.after.now }
+    requires there { IsThere walk.now.before.now walk.now.after.now walk.now.walk found.now }
+    ensures taken { OnOk result (TakesFirst (L.taken out.old) (L.taken out.new) []) }
+    ensures fault { IfErr result IsFault }
+{
+    if !listed {
+        return Ok(true);
+    }
+    let path = walk.path_to(alloc, found)?;
+    text.clear();
+    push_found_line(alloc, text, sides, &path, found)?;
+    Ok(out.take(text.as_str())?)
+}
+
+// The stale words of a side, by their places.
+fn stale_words<'a>(stale: &'a Option<Strays<'_>>) -> StaleWords<'a> {
     match stale {
         None => StaleWords {
             roots: &[],
             slots: &[],
         },
-        Some(strays) => StaleWords {
-            roots: strays.words.roots.as_slice(),
-            slots: strays.words.slots.as_slice(),
-        },
+        Some(strays) => words_of(strays),
+    }
+}
+
+/// Stale words by their places.
+pub fn words_of<'a>(strays: &'a Strays<'_>) -> StaleWords<'a>
+    ensures roots { result.roots.now ≡ strays.now.words.roots.items }
+    ensures slots { result.slots.now ≡ strays.now.words.slots.items }
+{
+    StaleWords {
+        roots: strays.words.roots.as_slice(),
+        slots: strays.words.slots.as_slice(),
     }
 }
 

@@ -34,8 +34,14 @@ pub fn push_moved_line(
     let by = way_of(sides);
     let (mut moved, mut all) = (0u64, 0u64);
     for (before, after) in renaming.before.iter().zip(renaming.after.iter()) {
-        let old = mark_at(sides.before, by, sides.labels[0], sides.names, *before);
-        let new = mark_at(sides.after, by, sides.labels[1], sides.names_after, *after);
+        let old = mark_at(sides.before, by, sides.labels_before, sides.names, *before);
+        let new = mark_at(
+            sides.after,
+            by,
+            sides.labels_after,
+            sides.names_after,
+            *after,
+        );
         if let (Some(old), Some(new)) = (old, new) {
             all = all.saturating_add(1);
             if !is_equal(old, new) {
@@ -53,10 +59,9 @@ pub fn push_moved_line(
 
 // By identifiers if both heaps have a program's names, and else by what the files have.
 fn way_of(sides: Sides<'_>) -> By {
-    let [before, _] = sides.labels;
     if sides.names_after.is_some() {
         By::Identifier
-    } else if before.is_some() {
+    } else if sides.labels_before.is_some() {
         By::Name
     } else {
         By::Address

@@ -1,10 +1,15 @@
 //! What is asked of two heaps, and the answer in lines.
+ghost use Rattle.std.specs.Prelude.{◌≡◌, None, OnOk, IfOk, IfErr, string_bytes};
+ghost use Rattle.std.specs.Io.KnownBytes.{Appends};
+ghost use Rattle.g1_report.specs.Finding.{IsFault, IsRefusal, IsVerdict, IsUntouched};
+ghost use Rattle.g1_report.specs.Taken.{TakesFirst};
+
 use crate::comparing::{Labels, Sides};
 use crate::lines::Lines;
 use crate::listing::list_all;
 use crate::names::Names;
 use crate::sides::Side;
-use crate::verdict::{Finding, find, verdict_on};
+use crate::verdict::{Finding, Verdict, find, verdict_on};
 use g1_text::Wrong;
 use g1_words::Fault;
 use std::alloc::{AllocError, AllocFailed, Global};
@@ -42,18 +47,35 @@ pub enum Refused {
 }
 
 impl From<Fault> for Refused {
+    ghost use Rattle.std.specs.Prelude.{◌≡◌};
+    ghost use Rattle.g1_report.specs.declared.reporting.Refused.TheVariants.{Fault as OfFault};
+
+    ghost from_gives = { λ f e. e ≡ OfFault f };
+
     fn from(fault: Fault) -> Refused {
         Refused::Fault(fault)
     }
 }
 
 impl From<AllocError> for Refused {
+    ghost use Rattle.std.specs.Prelude.{◌≡◌};
+    ghost use Rattle.g1_words.specs.declared.fault.Fault.TheVariants.{Memory};
+    ghost use Rattle.g1_report.specs.declared.reporting.Refused.TheVariants.{Fault as OfFault};
+
+    ghost from_gives = { λ _ e. e ≡ OfFault Memory };
+
     fn from(_error: AllocError) -> Refused {
         Refused::Fault(Fault::Memory)
     }
 }
 
 impl<T: Drop> From<AllocFailed<T>> for Refused {
+    ghost use Rattle.std.specs.Prelude.{◌≡◌};
+    ghost use Rattle.g1_words.specs.declared.fault.Fault.TheVariants.{Memory};
+    ghost use Rattle.g1_report.specs.declared.reporting.Refused.TheVariants.{Fault as OfFault};
+
+    ghost from_gives = { λ _ e. e ≡ OfFault Memory };
+
     fn from(_error: AllocFailed<T>) -> Refused {
         Refused::Fault(Fault::Memory)
     }
@@ -64,29 +86,54 @@ impl<T: Drop> From<AllocFailed<T>> for Refused {
 ///
 /// # Errors
 ///
-/// `Refused` says why there is no verdict. Then `out` has taken nothing, unless all differences are listed: memory may run
-/// out behind some of their lines.
-pub fn report<L: Lines>(alloc: Global, asked: &Asked<'_>, out: &mut L) -> Result<u8, Refused> {
+/// `Refused` says why there is no verdict. If it is the set or a stale word, `out` has taken nothing. A fault may come
+/// behind some of the lines.
+pub fn report<L: Lines>(alloc: Global, asked: &Asked<'_>, out: &mut L) -> Result<u8, Refused>
+    ensures status { IfOk result (λ s. IsVerdict asked.now.before.now.image.heap asked.now.after.now.image.heap asked.now.after.now.stale asked.now.set.now asked.now.fill s) }
+    ensures refused { IfErr result (λ e. IsRefusal asked.now.before.now.image.heap asked.now.after.now.image.heap asked.now.after.now.stale asked.now.set.now e) }
+    ensures untouched { IfErr result (λ e. IsUntouched (L.taken out.old) (L.taken out.new) e) }
+{
     let sides = sides_of(asked);
-    let finding = find(alloc, sides, &asked.after.stale)?;
+    let finding = find(alloc, sides.before, sides.after, &asked.after.stale)?;
     let verdict = verdict_on(alloc, asked, sides, &finding)?;
-    match (&finding, asked.all) {
-        (Finding::Same(_), _) | (_, None) => {
-            out.take(verdict.text.as_str())?;
-        }
-        (_, Some(most)) => list_all(alloc, asked, sides, verdict.text.as_str(), most, out)?,
-    }
+    hand_on(alloc, asked, sides, &finding, &verdict, out)?;
     Ok(verdict.status)
 }
 
-fn sides_of<'a>(asked: &Asked<'a>) -> Sides<'a> {
+// Hands on the text of a verdict. If all differences are listed, they go on behind it.
+fn hand_on<L: Lines>(
+    alloc: Global,
+    asked: &Asked<'_>,
+    sides: Sides<'_>,
+    finding: &Finding,
+    verdict: &Verdict,
+    out: &mut L,
+) -> Result<(), Refused>
+    ensures first { OnOk result (TakesFirst (L.taken out.old) (L.taken out.new) (string_bytes verdict.now.text)) }
+    ensures alone { asked.now.all ≡ None → OnOk result (Appends (L.taken out.old) (L.taken out.new) (string_bytes verdict.now.text)) }
+    ensures fault { IfErr result IsFault }
+{
+    match (finding, asked.all) {
+        (Finding::Same(_), _) | (_, None) => {
+            out.take(verdict.text.as_str())?;
+            Ok(())
+        }
+        (_, Some(most)) => list_all(alloc, asked, sides, verdict.text.as_str(), most, out),
+    }
+}
+
+fn sides_of<'a>(asked: &Asked<'a>) -> Sides<'a>
+    ensures before { result.before.now ≡ asked.now.before.now.image.heap }
+    ensures after { result.after.now ≡ asked.now.after.now.image.heap }
+{
     Sides {
         before: asked.before.image.heap(),
         after: asked.after.image.heap(),
         names: asked.names,
         names_after: asked.names_after,
         holders: asked.before.holders.as_slice(),
-        labels: [asked.before.labels(), asked.after.labels()],
+        labels_before: asked.before.labels(),
+        labels_after: asked.after.labels(),
         texts_before: &asked.before.texts,
         texts_after: &asked.after.texts,
         stale_names: stale_names_of(asked.after),
@@ -95,7 +142,7 @@ fn sides_of<'a>(asked: &Asked<'a>) -> Sides<'a> {
 
 fn stale_names_of<'a>(side: &'a Side<'_>) -> Labels<'a> {
     match &side.stale {
-        Some(strays) => Some(strays.names.as_slice()),
-        None => None,
+        Some(strays) if !strays.names.is_empty() => Some(strays.names.as_slice()),
+        _ => None,
     }
 }

@@ -1,16 +1,20 @@
 //! What is found first of two heaps, and what is said of it.
-ghost use Rattle.std.specs.Prelude.{IfOk};
-ghost use Rattle.g1_report.specs.Finding.{IsFinding};
+ghost use Rattle.std.specs.Prelude.{◌≡◌, ℕ, List, Option, Some, None, AllPairs, IsTrue, IsFalse, IfOk, IfErr, IfSome, IfNone};
+ghost use Rattle.g1_image.specs.Stale.{HasLowerPlace};
+ghost use Rattle.g1_same.specs.Same.{IsRenaming};
+ghost use Rattle.g1_report.specs.Agreement.{used, KeepsSet};
+ghost use Rattle.g1_report.specs.Finding.{IsFinding, IsRefusal, IsVerdict, Loses};
+ghost use Rattle.g1_report.specs.declared.sides.Strays.{Strays};
 
-use crate::comparing::{Sides, push_difference_line, push_found_line, push_same_line};
-use crate::listing::stale_words;
+use crate::comparing::{Sides, push_difference_line, push_same_line, push_stale_line};
+use crate::listing::words_of;
 use crate::moving::push_moved_line;
 use crate::reporting::{Asked, Refused};
 use crate::sides::Strays;
 use g1_choose::given;
 use g1_kept::{Lost, kept};
-use g1_same::{Difference, Differences, Found, Path, Renaming, StaleWords, compare};
-use g1_words::Heap;
+use g1_same::{Difference, Earliest, Renaming, StaleEnd, compare, compare_stale};
+use g1_words::{Fault, Heap};
 use std::alloc::{AllocError, Global};
 
 /// What is found first of two heaps.
@@ -20,8 +24,8 @@ pub enum Finding {
     Same(Renaming),
     /// They differ here.
     Differ(Difference),
-    /// This path leads to words that differ: the one after references no object, or they differ otherwise.
-    Found(Path, Found),
+    /// A path ends at this stale word.
+    Stale(StaleEnd),
 }
 
 /// What is said of two heaps, and the exit status that says so.
@@ -32,39 +36,59 @@ pub struct Verdict {
 }
 
 /// What comes first: a difference between the graphs, or a stale word that the roots reach.
-pub fn find(alloc: Global, sides: Sides<'_>, stale: &Option<Strays<'_>>) -> Result<Finding, Refused>
-    ensures { IfOk result (λ f. IsFinding sides.entry f) }
+pub fn find(
+    alloc: Global,
+    before: &Heap,
+    after: &Heap,
+    stale: &Option<Strays<'_>>,
+) -> Result<Finding, Refused>
+    ensures found { IfOk result (λ f. IsFinding before.now after.now stale.now f) }
+    ensures refused { IfErr result (λ e. (set : List ℕ) → IsRefusal before.now after.now stale.now set e) }
 {
     match stale {
-        None => match compare(alloc, sides.before, sides.after)? {
+        None => match compare(alloc, before, after)? {
             Ok(renaming) => Ok(Finding::Same(renaming)),
             Err(difference) => Ok(Finding::Differ(difference)),
         },
-        Some(strays) => find_stale(alloc, sides, strays, stale_words(stale)),
+        Some(strays) => find_stale(alloc, before, after, strays),
     }
 }
 
-// The first difference of a walk that stale words are differences of, too.
+// The first difference of two heaps, or the first stale word of the second that a path leads to. Words that are not in
+// the order of their places are refused unread.
 fn find_stale(
     alloc: Global,
-    sides: Sides<'_>,
+    before: &Heap,
+    after: &Heap,
     strays: &Strays<'_>,
-    stale: StaleWords<'_>,
 ) -> Result<Finding, Refused>
-    ensures { IfOk result (λ f. IsFinding sides.entry f) }
+    ensures found { IfOk result (λ f. IsFinding before.now after.now (Some strays.now) f) }
+    ensures refused { IfErr result (λ e. (set : List ℕ) → IsRefusal before.now after.now (Some strays.now) set e) }
 {
-    let (before, after) = (sides.before.roots().len(), sides.after.roots().len());
-    if before != after {
-        return Ok(Finding::Differ(Difference::Roots {
-            before: before as u64,
-            after: after as u64,
-        }));
+    if !rises(strays.words.roots.as_slice()) || !rises(strays.words.slots.as_slice()) {
+        return Err(Refused::Stale(strays.wrong));
     }
-    let mut walk = Differences::new(alloc, sides.before, sides.after, stale)?;
-    match walk.next()? {
+    g1_words::laws::valid(before);
+    g1_same::laws::never_both();
+    let stale = words_of(strays);
+    match compare_stale(alloc, before, after, &stale)? {
         None => Err(Refused::Stale(strays.wrong)),
-        Some(found) => Ok(Finding::Found(walk.path_to(alloc, &found)?, found)),
+        Some(Earliest::Differ(difference)) => Ok(Finding::Differ(difference)),
+        Some(Earliest::Stale(end)) => Ok(Finding::Stale(end)),
     }
+}
+
+// Whether each place is below the next one.
+fn rises(list: &[(u64, u64)]) -> bool
+    ensures rising { IsTrue result → AllPairs HasLowerPlace list.now }
+    ensures other { IsFalse result → AllPairs HasLowerPlace list.now → ⊥ }
+{
+    for place in 1..list.len() {
+        if list[place].0 <= list[place - 1].0 {
+            return false;
+        }
+    }
+    true
 }
 
 /// The verdict on two heaps of which this was found. What a pause keeps is looked at only if they show one
@@ -75,62 +99,85 @@ pub fn verdict_on(
     sides: Sides<'_>,
     finding: &Finding,
 ) -> Result<Verdict, Refused>
-    requires { IsFinding sides finding.now }
+    requires { IsFinding sides.before.now sides.after.now asked.now.after.now.stale finding.now }
+    ensures verdict { IfOk result (λ v. IsVerdict sides.entry.before.now sides.entry.after.now asked.now.after.now.stale asked.now.set.now asked.now.fill v.status) }
+    ensures refused { IfErr result (λ e. IsRefusal sides.entry.before.now sides.entry.after.now asked.now.after.now.stale asked.now.set.now e) }
 {
-    let lost = match finding {
-        Finding::Same(_) => lost(alloc, asked, sides)?,
-        _ => None,
-    };
-    let mut text = String::new(alloc);
-    match (finding, &lost) {
-        (_, Some(lost)) => write!(text, "differ {lost}\n")?,
-        (Finding::Same(renaming), None) => {
-            push_same_line(&mut text, sides.before, renaming)?;
-            if asked.moved {
-                push_moved_line(&mut text, sides, renaming)?;
-            }
-            if !asked.set.is_empty() {
-                text.push_str("kept\n")?;
-            }
-        }
-        (Finding::Differ(difference), None) => {
+    match finding {
+        Finding::Same(renaming) => verdict_on_same(alloc, asked, sides, renaming),
+        Finding::Differ(difference) => {
+            let mut text = String::new(alloc);
             push_difference_line(alloc, &mut text, sides, difference)?;
+            Ok(Verdict { text, status: 1 })
         }
-        (Finding::Found(path, found), None) => {
-            push_found_line(alloc, &mut text, sides, path, found)?;
+        Finding::Stale(end) => {
+            let mut text = String::new(alloc);
+            let path = (end.root, end.slots.as_slice());
+            push_stale_line(alloc, &mut text, sides, path, end.before, end.word)?;
+            Ok(Verdict { text, status: 1 })
         }
     }
-    let status = status_of(finding, &lost);
-    Ok(Verdict { text, status })
 }
 
-// 0 if the heaps show one graph and nothing is lost that a pause of the set keeps, and 1 else.
-fn status_of(finding: &Finding, lost: &Option<Lost>) -> u8 {
-    match (finding, lost) {
-        (Finding::Same(_), None) => 0,
-        _ => 1,
+// The verdict on two heaps that show one graph: they differ if something is lost that a pause of the set keeps.
+fn verdict_on_same(
+    alloc: Global,
+    asked: &Asked<'_>,
+    sides: Sides<'_>,
+    renaming: &Renaming,
+) -> Result<Verdict, Refused>
+    requires graph { IsRenaming sides.before.now sides.after.now renaming.now.before.items renaming.now.after.items }
+    requires none { asked.now.after.now.stale ≡ None }
+    ensures verdict { IfOk result (λ v. IsVerdict sides.entry.before.now sides.entry.after.now asked.now.after.now.stale asked.now.set.now asked.now.fill v.status) }
+    ensures refused { IfErr result (λ e. IsRefusal sides.entry.before.now sides.entry.after.now asked.now.after.now.stale asked.now.set.now e) }
+{
+    let mut text = String::new(alloc);
+    if let Some(lost) = lost(alloc, sides.before, sides.after, asked.set, asked.fill)? {
+        write!(text, "differ {lost}\n")?;
+        return Ok(Verdict { text, status: 1 });
     }
+    push_same_line(&mut text, sides.before, renaming)?;
+    if asked.moved {
+        push_moved_line(&mut text, sides, renaming)?;
+    }
+    if !asked.set.is_empty() {
+        text.push_str("kept\n")?;
+    }
+    Ok(Verdict { text, status: 0 })
 }
 
 // The first thing that a pause of the set would have kept, if a set is given. Its regions are looked for in the heap
 // before.
-fn lost(alloc: Global, asked: &Asked<'_>, sides: Sides<'_>) -> Result<Option<Lost>, Refused> {
-    if asked.set.is_empty() {
+fn lost(
+    alloc: Global,
+    before: &Heap,
+    after: &Heap,
+    set: &[u32],
+    fill: bool,
+) -> Result<Option<Lost>, Refused>
+    ensures keeps { IfOk result (λ o. IfNone o (KeepsSet before.now after.now set.now fill)) }
+    ensures lost { IfOk result (λ o. IfSome o (λ l. Loses before.now after.now set.now fill l)) }
+    ensures refused { IfErr result (λ e. (stale : Option Strays) → IsRefusal before.now after.now stale set.now e) }
+{
+    if set.is_empty() {
         return Ok(None);
     }
-    let used = used(alloc, sides.before, asked.set)?;
-    let set = match given(alloc, sides.before, used.as_slice()) {
+    let used = used(alloc, before, set)?;
+    let set = match given(alloc, before, used.as_slice()) {
         Ok(set) => set,
-        Err(fault) => return Err(Refused::Set(fault)),
+        Err(Fault::Set(region)) => return Err(Refused::Set(Fault::Set(region))),
+        Err(fault) => return Err(Refused::Fault(fault)),
     };
-    match kept(alloc, sides.before, sides.after, set.as_slice(), asked.fill)? {
+    match kept(alloc, before, after, set.as_slice(), fill)? {
         Ok(()) => Ok(None),
         Err(lost) => Ok(Some(lost)),
     }
 }
 
 // The regions of the set that are not free in the heap before.
-fn used(alloc: Global, old: &Heap, set: &[u32]) -> Result<Vec<u32>, AllocError> {
+fn used(alloc: Global, old: &Heap, set: &[u32]) -> Result<Vec<u32>, AllocError>
+    ensures { IfOk result (λ v. v.items ≡ used old.now set.now) }
+{
     let regions = old.geometry().regions();
     let mut used = Vec::new(alloc);
     for region in set {

@@ -1,5 +1,6 @@
 use Rattle.std.proofs.Common.{◌≡◌, ◌+◌, ◌-◌, ◌*◌, ◌^◌}
 use Rattle.g1_same.specs.Underway.{IsUnderway}
+use Rattle.g1_report.specs.Taken.{TakesFirst}
 use Rattle.g1_report.proofs.listing.list_all.Given as goal
 
 abbrev pub invariant-differences : goal.invariant-differences
@@ -7,6 +8,7 @@ invariant-differences g l = record {
   underway : IsUnderway l.walk;
   before : l.walk.before.now ≡ l.sides.before.now;
   after : l.walk.after.now ≡ l.sides.after.now;
+  took : TakesFirst (g.L.Lines.taken l.fn.out) (g.L.Lines.taken l.out) l.first;
 }
 
 -- the way goes on, and the numbers of both of its parts have 32 bits

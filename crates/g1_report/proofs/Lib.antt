@@ -1,0 +1,4 @@
+pub mod Found
+pub mod Passed
+pub mod Rising
+pub mod Taken
