@@ -1,7 +1,7 @@
 //! The parts of a dump: its texts, its classes, its roots and its objects.
 use crate::classes::{Class, Classes, REFERENCE, read_class, width_of};
 use crate::reader::{IdWidth, Reader};
-use crate::refused::{MOST_WORDS, Refused};
+use crate::refused::{Refused, heap_limit};
 use std::alloc::{AllocError, Global};
 use std::collections::HashMap;
 
@@ -300,7 +300,7 @@ impl<'a> Dump<'a> {
     // Notes an object that has at least so many words behind its header and its label.
     fn add(&mut self, id: u64, place: usize, group: Group, words: u64) -> Result<(), Refused> {
         self.least_words = self.least_words.saturating_add(words.saturating_add(2));
-        if self.is_whole && self.least_words > MOST_WORDS {
+        if self.is_whole && self.least_words > heap_limit() {
             return Err(Refused::TooLarge {
                 words: self.least_words,
                 is_whole: false,

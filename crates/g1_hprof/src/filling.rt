@@ -158,7 +158,7 @@ impl<'a> Filling<'a> {
         Ok(base.saturating_add(start.saturating_sub(first)) as usize)
     }
 
-    /// The words and the sets, each rising.
+    /// The words, and the remembered cards of each region, rising.
     pub(crate) fn finish(self) -> (Vec<u64>, Vec<Vec<u32>>) {
         let Filling {
             words, mut sets, ..
@@ -353,17 +353,31 @@ fn value_of(bytes: &[u8]) -> u64 {
     value
 }
 
+// How many bits precede a byte in its word.
+fn shift_of(at: usize) -> u32 {
+    match at % 8 {
+        0 => 0,
+        1 => 8,
+        2 => 16,
+        3 => 24,
+        4 => 32,
+        5 => 40,
+        6 => 48,
+        _ => 56,
+    }
+}
+
 // Puts a value at a byte of the words. Its bytes there are zeros.
 fn put_value(data: &mut [u64], at: usize, value: u64) {
-    let (word, byte) = (at / 8, at % 8);
-    let shift = (byte * 8) as u32;
+    let word = at / 8;
+    let shift = shift_of(at);
     if let Some(place) = data.get_mut(word) {
         *place |= value.wrapping_shl(shift);
     }
     if shift > 0
-        && let Some(place) = data.get_mut(word + 1)
+        && let Some(place) = data.get_mut(word.saturating_add(1))
     {
-        *place |= value.wrapping_shr(64 - shift);
+        *place |= value.wrapping_shr(64u32.saturating_sub(shift));
     }
 }
 

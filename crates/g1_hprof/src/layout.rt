@@ -1,5 +1,5 @@
 //! Where the objects of an image lie: each behind the one before, a humongous one in regions of its own.
-use crate::refused::{MOST_WORDS, Refused};
+use crate::refused::{Refused, heap_limit};
 use crate::wanted::Sizes;
 use g1_words::{Kind, Limits, Region};
 use std::alloc::{AllocError, Global};
@@ -168,7 +168,7 @@ fn most_regions(width: u64, limits: Limits) -> u64 {
 /// Sizes for objects of these runs: such as the specification's limits take, if the objects fit into them.
 pub(crate) fn choose(alloc: Global, runs: &[Run]) -> Result<Sizes, Refused> {
     let words = words_in(runs);
-    if words > MOST_WORDS {
+    if words > heap_limit() {
         return Err(Refused::TooLarge {
             words,
             is_whole: true,
@@ -224,7 +224,7 @@ fn sizes_of(region_words: u64, regions: u64) -> Sizes {
 /// Lays objects in a heap of these sizes.
 pub(crate) fn lay(alloc: Global, runs: &[Run], sizes: Sizes) -> Result<Layout, Refused> {
     let words = words_in(runs);
-    if words > MOST_WORDS {
+    if words > heap_limit() {
         return Err(Refused::TooLarge {
             words,
             is_whole: true,

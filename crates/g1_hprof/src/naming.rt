@@ -1,5 +1,5 @@
 //! What each object of an image is, as lines of a map of names.
-use crate::classes::{REFERENCE, type_name, width_of};
+use crate::classes::{Class, Field, REFERENCE, type_name, width_of};
 use crate::dump::{Dump, Group};
 use crate::refused::Refused;
 use crate::shape::{PRIMITIVE, Shape};
@@ -82,6 +82,13 @@ struct Type {
     label: Option<u64>,
 }
 
+// A type that has lines, or the name that it gets.
+#[derive(Drop)]
+enum Known {
+    Type(usize),
+    Name(String),
+}
+
 // The types that have lines.
 #[derive(Drop)]
 struct Types {
@@ -133,34 +140,63 @@ impl Types {
             return Err(Refused::Contradiction);
         };
         let described = describe(alloc, found.dump, wanted, *kind, shape)?;
-        let number = self.add(alloc, described, out)?;
+        let number = self.number_of(alloc, &described, out)?;
         if let Some(place) = self.of_group.get_mut(group as usize) {
             *place = Some(number);
         }
         Ok(())
     }
 
-    // The number of a type. Another one of the same name gets a number behind its name.
-    fn add(&mut self, alloc: Global, wanted: Type, out: &mut Vec<u8>) -> Result<usize, Refused> {
+    // The number of a type, which gets its lines if it has none.
+    fn number_of(
+        &mut self,
+        alloc: Global,
+        wanted: &Type,
+        out: &mut Vec<u8>,
+    ) -> Result<usize, Refused> {
+        match self.known(alloc, wanted)? {
+            Known::Type(number) => Ok(number),
+            Known::Name(name) => {
+                push_type(alloc, out, name.as_str(), wanted)?;
+                self.add(name, wanted)
+            }
+        }
+    }
+
+    // The type with these words and this label, or a name for it. A name that another one has gets a number.
+    fn known(&self, alloc: Global, wanted: &Type) -> Result<Known, Refused> {
         let mut name = wanted.name.clone()?;
         for number in 2..u64::MAX {
-            let Some(known) = self.numbers.get(name.as_str()).copied() else {
-                break;
-            };
-            if let Some(other) = self.list.as_slice().get(known)
-                && other.words.as_str() == wanted.words.as_str()
-                && other.label == wanted.label
-            {
-                return Ok(known);
+            match self.numbers.get(name.as_str()).copied() {
+                None => return Ok(Known::Name(name)),
+                Some(known) if self.is_at(known, wanted) => return Ok(Known::Type(known)),
+                Some(_) => {
+                    let first = wanted.name.as_str();
+                    name = format!(in alloc; "{first}#{number}")?;
+                }
             }
-            let first = wanted.name.as_str();
-            name = format!(in alloc; "{first}#{number}")?;
         }
-        let Type { words, label, .. } = wanted;
-        push_type(alloc, out, name.as_str(), words.as_str(), label)?;
+        Err(Refused::Contradiction)
+    }
+
+    fn is_at(&self, number: usize, wanted: &Type) -> bool {
+        match self.list.as_slice().get(number) {
+            Some(other) => {
+                other.words.as_str() == wanted.words.as_str() && other.label == wanted.label
+            }
+            None => false,
+        }
+    }
+
+    fn add(&mut self, name: String, wanted: &Type) -> Result<usize, Refused> {
         let number = self.list.len();
         self.numbers.insert(name.clone()?, number)?;
-        self.list.push(Type { name, words, label })?;
+        let words = wanted.words.clone()?;
+        self.list.push(Type {
+            name,
+            words,
+            label: wanted.label,
+        })?;
         Ok(number)
     }
 }
@@ -169,12 +205,12 @@ fn push_type(
     alloc: Global,
     out: &mut Vec<u8>,
     name: &str,
-    words: &str,
-    label: Option<u64>,
+    wanted: &Type,
 ) -> Result<(), AllocError> {
+    let words = wanted.words.as_str();
     let line = format!(in alloc; "type {name} {words}\n")?;
     out.extend_from_slice(line.as_bytes())?;
-    if let Some(label) = label {
+    if let Some(label) = wanted.label {
         let line = format!(in alloc; "label {label} {name}\n")?;
         out.extend_from_slice(line.as_bytes())?;
     }
@@ -250,41 +286,64 @@ fn class_words(
 
 // The names of the slots, and of each data word those of the fields in it.
 fn instance_words(alloc: Global, dump: &Dump<'_>, class: u64) -> Result<String, Refused> {
-    let mut slots = String::from_str(alloc, "slots")?;
-    let mut data = String::from_str(alloc, " data class")?;
-    let mut at = 0usize;
+    let mut words = Words {
+        slots: String::from_str(alloc, "slots")?,
+        data: String::from_str(alloc, " data class")?,
+        at: 0,
+    };
     for owner in dump.line_of(alloc, class)?.iter() {
-        for field in &owner.fields {
-            let name = dump.text(alloc, field.name)?;
-            if field.kind == REFERENCE {
-                slots.push(' ')?;
-                slots.push_str(name.as_str())?;
-            } else {
-                at = push_value(alloc, &mut data, name.as_str(), field.kind, at)?;
-            }
-        }
+        words.add_fields(alloc, dump, owner)?;
     }
-    slots.push_str(data.as_str())?;
-    Ok(slots)
+    words.joined()
 }
 
-// Names a value that stands at a byte of the data, in each word that it is in, and gives the byte behind it.
-fn push_value(
-    alloc: Global,
-    data: &mut String,
-    name: &str,
-    kind: u8,
+// The names of an instance's slots and data words.
+#[derive(Drop)]
+struct Words {
+    slots: String,
+    data: String,
+    // How many bytes of data have names.
     at: usize,
-) -> Result<usize, Refused> {
-    let width = width_of(kind)?;
-    let element = type_name(kind);
-    let gap = if at % 8 == 0 { " " } else { "," };
-    let text = format!(in alloc; "{name}:{element}")?;
-    data.push_str(gap)?;
-    data.push_str(text.as_str())?;
-    if (at % 8).saturating_add(width) > 8 {
-        data.push(' ')?;
-        data.push_str(text.as_str())?;
+}
+
+impl Words {
+    fn add_fields(&mut self, alloc: Global, dump: &Dump<'_>, owner: &Class) -> Result<(), Refused> {
+        for field in &owner.fields {
+            self.add(alloc, dump, *field)?;
+        }
+        Ok(())
     }
-    Ok(at.saturating_add(width))
+
+    fn add(&mut self, alloc: Global, dump: &Dump<'_>, field: Field) -> Result<(), Refused> {
+        let name = dump.text(alloc, field.name)?;
+        if field.kind == REFERENCE {
+            self.slots.push(' ')?;
+            self.slots.push_str(name.as_str())?;
+            return Ok(());
+        }
+        let element = type_name(field.kind);
+        let text = format!(in alloc; "{name}:{element}")?;
+        self.add_value(text.as_str(), width_of(field.kind)?)
+    }
+
+    // Names a value of so many bytes in each word that it is in.
+    fn add_value(&mut self, text: &str, width: usize) -> Result<(), Refused> {
+        let gap = if self.at % 8 == 0 { " " } else { "," };
+        self.data.push_str(gap)?;
+        self.data.push_str(text)?;
+        if (self.at % 8).saturating_add(width) > 8 {
+            self.data.push(' ')?;
+            self.data.push_str(text)?;
+        }
+        self.at = self.at.saturating_add(width);
+        Ok(())
+    }
+
+    fn joined(self) -> Result<String, Refused> {
+        let Words {
+            mut slots, data, ..
+        } = self;
+        slots.push_str(data.as_str())?;
+        Ok(slots)
+    }
 }

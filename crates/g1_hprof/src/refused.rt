@@ -1,4 +1,5 @@
 //! Why a dump is not converted.
+use g1_words::Limits;
 use std::alloc::{AllocError, AllocFailed};
 use std::error::Error;
 use std::fmt;
@@ -61,8 +62,10 @@ pub enum Refused {
     Contradiction,
 }
 
-/// The most words of a heap.
-pub(crate) const MOST_WORDS: u64 = 1 << 28;
+/// The most words of an image's heap.
+pub(crate) fn heap_limit() -> u64 {
+    Limits::Wide.words()
+}
 
 impl Refused {
     /// The status with which a program ends.
@@ -159,18 +162,23 @@ impl Refused {
                 f,
                 "{asked}: only tools/hprof2image.py converts what a thread holds"
             ),
-            Refused::Sizes => f.write_str(
-                "W is a power of two from 16 to 4194304, K one from 4 to 64 and at most W, N from 1 to 4096, and W*N at most 268435456",
-            ),
+            Refused::Sizes => {
+                let (width, most) = (Limits::Wide.region_words(), heap_limit());
+                write!(
+                    f,
+                    "W is a power of two from 16 to {width}, K one from 4 to 64 and at most W, N from 1 to 4096, and W*N at most {most}"
+                )
+            }
             Refused::Dangling { path, id } => write!(
                 f,
                 "{path} references {id:#x}, but the dump has no object there (--dangling-null takes it as null)"
             ),
             Refused::TooLarge { words, is_whole } => {
                 let least = if *is_whole { "" } else { "at least " };
+                let most = heap_limit();
                 write!(
                     f,
-                    "the objects take {least}{words} words, and a heap has at most {MOST_WORDS}"
+                    "the objects take {least}{words} words, and a heap has at most {most}"
                 )
             }
             Refused::NoFit { words } => write!(

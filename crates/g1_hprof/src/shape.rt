@@ -1,5 +1,5 @@
 //! How the objects of one group are cut into references and data.
-use crate::classes::width_of;
+use crate::classes::{Class, Field, width_of};
 use crate::dump::{Dump, Group, is_reference, words_of};
 use crate::refused::Refused;
 use crate::wanted::Wanted;
@@ -171,45 +171,64 @@ fn instance_shape(
 ) -> Result<Shape, Refused> {
     let mut pieces = Vec::new(alloc);
     for owner in dump.line_of(alloc, class)?.iter() {
-        let name = dump.class_name(alloc, owner.id)?;
-        for field in &owner.fields {
-            let text = dump.text(alloc, field.name)?;
-            let is_kept = !is_left_out(alloc, wanted, name.as_str(), text.as_str())?;
-            pieces.push(if is_reference(field.kind) {
-                Piece::Reference { is_kept }
-            } else {
-                let bytes = width_of(field.kind)?;
-                Piece::Value { bytes, is_kept }
-            })?;
-        }
+        push_pieces(alloc, dump, wanted, owner, &mut pieces)?;
     }
-    let mut shape = Shape {
-        slots: 0,
-        bytes: 0,
-        label: label_by(alloc, dump, wanted, class)?,
-        body: Body::Empty,
-    };
-    count_pieces(&mut shape, pieces.as_slice());
-    let expected = shape
-        .slots
+    let (slots, bytes) = count_pieces(pieces.as_slice());
+    let expected = slots
         .saturating_mul(dump.ids.bytes() as u64)
-        .saturating_add(shape.bytes);
+        .saturating_add(bytes);
     if expected != u64::from(found) {
         return Err(Refused::FieldBytes { found, expected });
     }
-    shape.body = Body::Fields(pieces);
-    Ok(shape)
+    Ok(Shape {
+        slots,
+        bytes,
+        label: label_by(alloc, dump, wanted, class)?,
+        body: Body::Fields(pieces),
+    })
 }
 
-fn count_pieces(shape: &mut Shape, pieces: &[Piece]) {
+// Adds the fields of a class of an instance's line.
+fn push_pieces(
+    alloc: Global,
+    dump: &Dump<'_>,
+    wanted: &Wanted<'_>,
+    owner: &Class,
+    pieces: &mut Vec<Piece>,
+) -> Result<(), Refused> {
+    let name = dump.class_name(alloc, owner.id)?;
+    for field in &owner.fields {
+        pieces.push(piece_of(alloc, dump, wanted, name.as_str(), *field)?)?;
+    }
+    Ok(())
+}
+
+fn piece_of(
+    alloc: Global,
+    dump: &Dump<'_>,
+    wanted: &Wanted<'_>,
+    owner: &str,
+    field: Field,
+) -> Result<Piece, Refused> {
+    let name = dump.text(alloc, field.name)?;
+    let is_kept = !is_left_out(alloc, wanted, owner, name.as_str())?;
+    if is_reference(field.kind) {
+        return Ok(Piece::Reference { is_kept });
+    }
+    let bytes = width_of(field.kind)?;
+    Ok(Piece::Value { bytes, is_kept })
+}
+
+// How many slots the fields are, and how many bytes of data.
+fn count_pieces(pieces: &[Piece]) -> (u64, u64) {
+    let (mut slots, mut data) = (0u64, 0u64);
     for piece in pieces {
         match piece {
-            Piece::Reference { .. } => shape.slots = shape.slots.saturating_add(1),
-            Piece::Value { bytes, .. } => {
-                shape.bytes = shape.bytes.saturating_add(*bytes as u64);
-            }
+            Piece::Reference { .. } => slots = slots.saturating_add(1),
+            Piece::Value { bytes, .. } => data = data.saturating_add(*bytes as u64),
         }
     }
+    (slots, data)
 }
 
 fn is_left_out(

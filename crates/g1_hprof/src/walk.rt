@@ -2,7 +2,7 @@
 use crate::dump::{Dump, Group, is_reference};
 use crate::index::Index;
 use crate::reader::Reader;
-use crate::refused::{MOST_WORDS, Refused};
+use crate::refused::{Refused, heap_limit};
 use crate::shape::{Body, Piece, Shape};
 use std::alloc::{AllocError, Global};
 
@@ -170,7 +170,7 @@ impl<'a> Walk<'a> {
             return Ok(());
         };
         self.words = self.words.saturating_add(shape.size());
-        if self.words > MOST_WORDS {
+        if self.words > heap_limit() {
             return Err(Refused::TooLarge {
                 words: self.words,
                 is_whole: false,
