@@ -70,8 +70,9 @@ class Room:
             return
         self.failed += 1
         parts = ("status", "image", "names")
-        print(f"{what} {' '.join(words)} {sizes}: other {', '.join(part for part, a, b in zip(parts, expected, found) if a != b)}: "
-              f"status {expected[0]} of hprof2image.py, {found[0]} of g1heap convert")
+        other = ", ".join(part for part, wanted, is_there in zip(parts, expected, found) if wanted != is_there)
+        print(f"{what} {' '.join(words)} {sizes}: other {other}: status {expected[0]} of hprof2image.py, {found[0]} of "
+              f"g1heap convert")
 
 
 def random_words(chance, starts):
@@ -98,16 +99,17 @@ def compare_random(room, count, seed):
 
 
 def compare_broken(room, seed):
-    """Each beginning of a dump, and each change of a byte. Which of two rules that one byte breaks is reported may differ."""
+    """Each beginning of a dump, and each change of a byte. If that breaks two rules, each may report another."""
     dump = next(dump for dump in map(RandomDump, range(seed, seed + 100)) if 1 < len(dump.objects) < 10)
+    words = ["--dangling-null", "--from", dump.starts[0]]
     for length in range(len(dump.bytes)):
         room.path("dump").write_bytes(dump.bytes[:length])
-        room.compare(f"the first {length} bytes:", room.path("dump"), ["--dangling-null", "--from", dump.starts[0]])
+        room.compare(f"the first {length} bytes:", room.path("dump"), words)
     for at in range(min(1000, len(dump.bytes))):
         other = bytearray(dump.bytes)
         other[at] ^= random.Random(at).choice((1, 0x80, 0xFF))
         room.path("dump").write_bytes(other)
-        room.compare(f"byte {at} changed:", room.path("dump"), ["--dangling-null", "--from", dump.starts[0]], is_like=both_refuse)
+        room.compare(f"byte {at} changed:", room.path("dump"), words, is_like=both_refuse)
 
 
 def main():

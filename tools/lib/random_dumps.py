@@ -36,7 +36,8 @@ class RandomDump:
 
     def identifiers(self):
         chance = self.chance
-        first = chance.choice((0x800, 0x10000, 0xF0000000) + ((0x7F0000000000, 0xFFFF << 48) if self.id_bytes == 8 else ()))
+        wide = (0x7F0000000000, 0xFFFF << 48) if self.id_bytes == 8 else ()
+        first = chance.choice((0x800, 0x10000, 0xF0000000, *wide))
         step = chance.choice((1, 8, 16, 0x1000))
         names = [first + step * i for i in range(chance.choice((0, 1, 5, 30, 200)))]
         if chance.random() < 0.5:
@@ -97,19 +98,23 @@ class RandomDump:
             return b"\x21" + self.ids(name) + bytes(4) + self.ids(kind) + struct.pack(">I", len(fields)) + fields
         if shape < 0.75:
             elements = [chance.choice(self.pool) for _ in range(chance.choice((0, 1, 2, 3, 12, 13, 40)))]
-            return b"\x22" + self.ids(name) + struct.pack(">II", 0, len(elements)) + self.ids(chance.choice((*self.kinds, 0x999)), *elements)
+            kind = chance.choice((*self.kinds, 0x999))
+            return b"\x22" + self.ids(name) + struct.pack(">II", 0, len(elements)) + self.ids(kind, *elements)
         type_, count = chance.choice(tuple(CODES)), chance.choice((0, 1, 3, 7, 8, 9, 50, 97))
-        return b"\x23" + self.ids(name) + struct.pack(">IIB", 0, count, type_) + b"".join(self.value(type_) for _ in range(count))
+        head = b"\x23" + self.ids(name) + struct.pack(">IIB", 0, count, type_)
+        return head + b"".join(self.value(type_) for _ in range(count))
 
     def roots(self):
         found = []
         for tag, more in ROOTS.items():
             if self.chance.random() < 0.3:
-                found.append(bytes([tag]) + self.ids(self.chance.choice(self.pool)) + bytes(self.id_bytes if more is None else more))
+                behind = bytes(self.id_bytes if more is None else more)
+                found.append(bytes([tag]) + self.ids(self.chance.choice(self.pool)) + behind)
         return found
 
     def file(self, classes, parts):
-        loads = [struct.pack(">I", 1) + self.ids(kind) + bytes(4) + self.ids(self.text(name)) for kind, name in self.names.items()]
+        loads = [struct.pack(">I", 1) + self.ids(kind) + bytes(4) + self.ids(self.text(name))
+                 for kind, name in self.names.items()]
         records = [(0x01, self.ids(number) + text.encode()) for text, number in self.texts.items()]
         records += [(0x02, load) for load in loads] + [(0x07, b"of another kind")]
         version = self.chance.choice((b"1", b"2"))
