@@ -7,7 +7,7 @@ import re
 
 import manual
 
-NUMBERS = {"N", "R", "A", "REGION", "REGIONS"}  # what stands for a number or for numbers of regions in a help text
+NUMBERS = {"N", "R", "A", "REGION", "REGIONS", "W,K,N", "CLASS.FIELD"}  # what stands in a help text for a value that is no file
 BASH = """\
 # bash completion of {name}, made of what its --help says
 _{name}() {{

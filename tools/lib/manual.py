@@ -6,7 +6,7 @@ import subprocess
 ENTRY = re.compile(r"^ +(\S.*?)(?:  +(\S.*))?$")
 FOLDER = "share/doc/g1pause/docs"
 # The page on each command, in that folder. Those that are not named here are in COMMANDS.md.
-PAGES = {"same": "COMPARE.md", "print": "HEAP_TEXT.md", "make": "HEAP_TEXT.md", "explain": "EXPLAIN.md",
+PAGES = {"same": "COMPARE.md", "print": "HEAP_TEXT.md", "make": "HEAP_TEXT.md", "convert": "JVM.md", "explain": "EXPLAIN.md",
          "why": "EXPLAIN.md", "trace": "TRACE.md", "pause": "PAUSE.md", "run": "TRACE.md"}
 
 

@@ -52,6 +52,8 @@ pub enum Form {
     NeededValue,
     /// By its name and one value or more, or not at all.
     ManyValues,
+    /// By its name and its values, any number of times.
+    Repeated,
     /// By its place; or not at all, if that means a value.
     Place,
     /// By its place, any number of times.
@@ -120,6 +122,7 @@ fn rules(argument: &Argument) -> (RangeInclusive<usize>, ArgAction, bool) {
         Form::Value => (count..=count, ArgAction::Set, false),
         Form::NeededValue => (count..=count, ArgAction::Set, true),
         Form::ManyValues => (1..=usize::MAX, ArgAction::Append, false),
+        Form::Repeated => (count..=count, ArgAction::Append, false),
         Form::Place => (count..=count, ArgAction::Set, argument.default.is_empty()),
         Form::ManyPlaces => (0..=usize::MAX, ArgAction::Append, false),
     }

@@ -1,5 +1,6 @@
 //! What the program does with a request.
 use crate::answering::{answer_file, rewrite_file};
+use crate::converting::convert_file;
 use crate::explaining::{explain_object, explain_pause};
 use crate::files::read_bytes;
 use crate::heard::Heard;
@@ -97,6 +98,10 @@ fn answer<T: Threads + Sync + Files, R: Read, W: Write>(
         Request::Make { lines, output } => {
             let bytes = make_from(rt, alloc, lines.as_str(), reader)?;
             hand_over(rt, alloc, bytes.as_slice(), output, writer)
+        }
+        Request::Convert(asked) => {
+            let bytes = convert_file(rt, alloc, asked, reader)?;
+            hand_over(rt, alloc, bytes.as_slice(), &asked.output, writer)
         }
         Request::Explain(explain) => {
             let (status, text) = explain_pause(rt, alloc, explain, reader)?;

@@ -5,7 +5,8 @@
 //! 2. The files of the request are read (`files`): an image, lines, or what `same` compares. An image that may be refused
 //!    later can be read a second time (`sources`).
 //! 3. The answer is made in memory: of two heaps by g1_report (`sameness`, `young`), of a pause by g1_explain
-//!    (`explaining`), with a program's names if they are given (`mapping`), of a trace by g1_trace (`tracing`), of an image or lines by g1_text (`commands`), and what
+//!    (`explaining`), with a program's names if they are given (`mapping`), of a trace by g1_trace (`tracing`), of an image or lines by g1_text (`commands`), of a heap
+//!    dump by g1_hprof (`converting`), and what
 //!    g1pause answers, too, by g1_answers (`answering`).
 //! 4. It is written at once, to standard output or to a file, which is whole or not there (`output`). The image
 //!    after a pause goes to standard output in pieces, with all memory taken before the first. Only the lines
@@ -18,6 +19,7 @@
 mod alone;
 mod answering;
 mod commands;
+mod converting;
 mod explaining;
 mod files;
 mod heard;

@@ -1,6 +1,7 @@
 //! The refusals that name a file.
 use g1_broken::{Broken, Look, rule_of_bytes, rule_of_cover, rule_of_set, rule_of_stale};
 use g1_command::Refusal;
+use g1_hprof::Refused;
 use g1_image::{MAGIC, Stale};
 use g1_report::{Location, WrongNames};
 use g1_text::Wrong;
@@ -194,6 +195,17 @@ pub fn refuse_names(alloc: Global, name: &str, wrong: WrongNames) -> Refusal {
     match wrong {
         WrongNames::Line { number, expected } => wrong_line(alloc, name, number, &expected, None),
         WrongNames::Memory => Refusal::Fault(Fault::Memory),
+    }
+}
+
+/// The refusal of a heap dump. Running out of memory is of no file.
+pub fn refuse_dump(alloc: Global, name: &str, refused: &Refused) -> Refusal {
+    match refused {
+        Refused::Memory => Refusal::Fault(Fault::Memory),
+        _ => refusal(
+            refused.status(),
+            format!(in alloc; "g1heap: {name}: {refused}\n"),
+        ),
     }
 }
 

@@ -24,6 +24,8 @@ pub fn announce<E: Write>(terminals: Terminals, request: &Request, errors: &mut 
 
 const IMAGE: &str = "g1heap: waiting for an image on standard input\n";
 
+const DUMP: &str = "g1heap: waiting for a heap dump on standard input\n";
+
 const NAMES: &str = "g1heap: waiting for lines of names on standard input, which Ctrl-D ends\n";
 
 const LINES: &str = "g1heap: waiting for lines on standard input, which Ctrl-D ends\n";
@@ -40,6 +42,7 @@ fn waiting_text(request: &Request) -> Option<&'static str> {
         Request::Same(same) => (same.names.as_ref()?, NAMES),
         Request::Print { image, .. } => (&image.name, IMAGE),
         Request::Make { lines, .. } => (lines, LINES),
+        Request::Convert(asked) => (&asked.dump, DUMP),
         Request::Explain(explain) => (&explain.image.name, IMAGE),
         Request::Why(why) => (&why.image.name, IMAGE),
         Request::Trace(trace) => (&trace.name, TRACE),
@@ -65,6 +68,7 @@ pub fn allow(alloc: Global, terminals: Terminals, request: Request) -> Result<Re
 fn is_image_by_default(request: &Request) -> bool {
     let output = match request {
         Request::Make { output, .. } => output,
+        Request::Convert(asked) => &asked.output,
         Request::Rewrite(rewrite) => &rewrite.output,
         _ => return false,
     };

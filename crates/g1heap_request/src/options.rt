@@ -1,5 +1,6 @@
 //! The command line.
 use crate::asking::{Ask, Rewrite, asked_of};
+use crate::dump::{Convert, convert_of};
 use crate::image_file::ImageFile;
 use crate::output::{Output, STANDARD_STREAM};
 use crate::tips::with_tip;
@@ -34,6 +35,8 @@ pub enum Request {
         lines: String,
         output: Output,
     },
+    /// The image of a heap dump.
+    Convert(Convert),
     /// The lines of a pause.
     Explain(Explain),
     /// What keeps the object at an address.
@@ -224,7 +227,7 @@ fn limits_of(alloc: Global, values: &ArgMatches<'_>) -> Result<Limits, Misuse> {
     }
 }
 
-fn name_if_given(
+pub(crate) fn name_if_given(
     alloc: Global,
     values: &ArgMatches<'_>,
     argument: &Argument,
@@ -399,6 +402,7 @@ fn request_of(alloc: Global, name: &str, values: &ArgMatches<'_>) -> Result<Requ
     match name {
         "same" => same_of(alloc, values),
         "print" => print_of(alloc, values),
+        "convert" => convert_of(alloc, values),
         "explain" => explain_of(alloc, values),
         "why" => why_of(alloc, values),
         "trace" => trace_of(alloc, values),

@@ -39,6 +39,19 @@ Statuses:
 
 Example: g1heap make -o IMAGE < LINES";
 
+const AFTER_CONVERT: &str = "\
+Statuses:
+  0  done
+  2  wrong words, sizes out of their range, or a field that the dump doesn't have
+  3  the file is no heap dump
+  4  a reference leads to nothing
+  5  the objects don't fit
+  6  no memory, or a read or a write that failed
+  7  a file that can't be opened or written
+  8  what was made is no image: an error of this program
+
+Example: g1heap convert --from Main.root -o IMAGE DUMP";
+
 const AFTER_EXPLAIN: &str = "\
 Statuses:
   0  done
@@ -171,9 +184,9 @@ pub fn program(commands: &[Usage]) -> Program<'_> {
 }
 
 /// The commands. Each is a static, since the check of all as one takes too many steps.
-pub fn commands() -> [Usage; 11] {
+pub fn commands() -> [Usage; 12] {
     [
-        SHOW, CHECK, LIVE_BYTES, CHOOSE, PAUSE, SAME, PRINT, MAKE, EXPLAIN, WHY, TRACE,
+        SHOW, CHECK, LIVE_BYTES, CHOOSE, PAUSE, SAME, PRINT, MAKE, CONVERT, EXPLAIN, WHY, TRACE,
     ]
 }
 
@@ -273,6 +286,23 @@ static MAKE: Usage = Usage {
     about: "Writes the image that lines describe",
     after_help: AFTER_MAKE,
     arguments: &[LINES, OUTPUT],
+};
+
+static CONVERT: Usage = Usage {
+    name: "convert",
+    about: "Writes the image of a Java heap dump, or of what hangs from static fields in it",
+    after_help: AFTER_CONVERT,
+    arguments: &[
+        DUMP,
+        FROM,
+        WITHOUT,
+        WEAK,
+        DANGLING_NULL,
+        BLANK,
+        NAMES_MADE,
+        SIZES,
+        OUTPUT,
+    ],
 };
 
 static EXPLAIN: Usage = Usage {
@@ -460,6 +490,62 @@ pub const LINES: Argument = Argument {
     values: &["LINES"],
     help: "The lines, or - for standard input",
     ..FILE
+};
+
+pub const DUMP: Argument = Argument {
+    id: "dump",
+    values: &["DUMP"],
+    help: "A heap dump in the form HPROF, or - for standard input",
+    ..FILE
+};
+
+pub const FROM: Argument = Argument {
+    id: "from",
+    form: Form::Repeated,
+    values: &["CLASS.FIELD"],
+    help: "Only what hangs from this static field; several times: from these, in this order",
+    ..VALUE
+};
+
+pub const WITHOUT: Argument = Argument {
+    id: "without",
+    form: Form::Repeated,
+    values: &["CLASS.FIELD"],
+    help: "With --from: a field that is null or zero in the image",
+    ..VALUE
+};
+
+pub const WEAK: Argument = Argument {
+    id: "weak",
+    help: "With --from: weak references keep what they refer to",
+    ..FLAG
+};
+
+pub const DANGLING_NULL: Argument = Argument {
+    id: "dangling-null",
+    help: "With --from: takes a reference to what the dump does not have as null",
+    ..FLAG
+};
+
+pub const BLANK: Argument = Argument {
+    id: "blank",
+    help: "Zeros in place of primitive data",
+    ..FLAG
+};
+
+pub const NAMES_MADE: Argument = Argument {
+    id: "names",
+    values: &["MAP"],
+    help: "Also writes this file: the names of roots, types and objects",
+    ..VALUE
+};
+
+pub const SIZES: Argument = Argument {
+    id: "sizes",
+    values: &["W,K,N"],
+    help: "Words of a region, words of a card, number of regions [default: such as fit]",
+    range: "three numbers, as in 4096,64,512",
+    ..VALUE
 };
 
 pub const OUTPUT: Argument = Argument {
