@@ -183,12 +183,7 @@ impl<'a> Dump<'a> {
         Ok(())
     }
 
-    fn read_record(
-        &mut self,
-        alloc: Global,
-        tag: u8,
-        mut part: Reader<'a>,
-    ) -> Result<(), Refused> {
+    fn read_record(&mut self, alloc: Global, tag: u8, mut part: Reader<'a>) -> Result<(), Refused> {
         match tag {
             // A text.
             0x01 => {
@@ -241,7 +236,9 @@ impl<'a> Dump<'a> {
     ) -> Result<(), Refused> {
         let class = read_class(alloc, reader)?;
         let id = class.id;
-        let words = (class.references.len() as u64).saturating_add(words_of(class.bytes.len() as u64));
+        let words = (class.references.len() as u64).saturating_add(words_of(
+            class.bytes.len() as u64,
+        ));
         self.classes.push(class)?;
         self.add(id, place, Group::Class { id }, words)
     }
@@ -277,12 +274,7 @@ impl<'a> Dump<'a> {
         self.add(id, place, group, words_of(bytes as u64))
     }
 
-    fn read_root(
-        &mut self,
-        tag: u8,
-        place: usize,
-        reader: &mut Reader<'a>,
-    ) -> Result<(), Refused> {
+    fn read_root(&mut self, tag: u8, place: usize, reader: &mut Reader<'a>) -> Result<(), Refused> {
         // How many bytes stand behind the identifier.
         let more = match tag {
             0xff | 0x05 | 0x07 => 0,
@@ -358,7 +350,11 @@ impl<'a> Dump<'a> {
             line.push(found)?;
             id = found.above;
         }
-        if id == 0 { Ok(line) } else { Err(Refused::NoClassOf(id)) }
+        if id == 0 {
+            Ok(line)
+        } else {
+            Err(Refused::NoClassOf(id))
+        }
     }
 }
 
@@ -372,7 +368,11 @@ fn without_spaces(alloc: Global, text: &str) -> Result<String, AllocError> {
 fn java_name(alloc: Global, text: &str) -> Result<String, AllocError> {
     let inner = text.trim_start_matches('[');
     let depth = text.len().saturating_sub(inner.len());
-    let named = if depth == 0 { inner } else { element_name(inner) };
+    let named = if depth == 0 {
+        inner
+    } else {
+        element_name(inner)
+    };
     let mut name = named
         .chars()
         .map(|letter| if letter == '/' { '.' } else { letter })

@@ -161,7 +161,9 @@ impl<'a> Filling<'a> {
     /// The words, and the remembered cards of each region, rising.
     pub(crate) fn finish(self) -> (Vec<u64>, Vec<Vec<u32>>) {
         let Filling {
-            words, mut sets, ..
+            words,
+            mut sets,
+            ..
         } = self;
         sets.sort();
         let Sets { cards, .. } = sets;
@@ -300,7 +302,12 @@ impl<'a> Source<'a> {
     fn put_data(&self, data: &mut [u64]) -> Result<(), Refused> {
         match &self.shape.body {
             Body::Fields(pieces) => {
-                put_values(data, pieces.as_slice(), self.dump().fields_at(self.place), self.dump())
+                put_values(
+                    data,
+                    pieces.as_slice(),
+                    self.dump().fields_at(self.place),
+                    self.dump(),
+                )
             }
             Body::Values(width) => {
                 let mut reader = self.dump().values_at(self.place);

@@ -27,7 +27,12 @@ pub(crate) fn write_names(
         };
         types.name(alloc, found, wanted, group, &mut out)?;
         let id = found.dump.objects.ids.as_slice().get(*number as usize);
-        push_object(&mut out, *start, types.name_of(group), id.copied().unwrap_or(0))?;
+        push_object(
+            &mut out,
+            *start,
+            types.name_of(group),
+            id.copied().unwrap_or(0),
+        )?;
     }
     Ok(out)
 }
@@ -341,7 +346,9 @@ impl Words {
 
     fn joined(self) -> Result<String, Refused> {
         let Words {
-            mut slots, data, ..
+            mut slots,
+            data,
+            ..
         } = self;
         slots.push_str(data.as_str())?;
         Ok(slots)

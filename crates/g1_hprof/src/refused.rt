@@ -20,37 +20,65 @@ pub enum Refused {
     /// Identifiers have so many bytes, which is neither 4 nor 8.
     IdBytes(u32),
     /// Something goes on behind this byte, where the record or the file ends that it is in.
-    Cut { end: usize },
+    Cut {
+        end: usize,
+    },
     /// The end of the heap is not there.
     NoEnd,
     /// A part of the heap begins with this tag, which is not known.
-    Tag { tag: u8, at: usize },
+    Tag {
+        tag: u8,
+        at: usize,
+    },
     /// A value is of this type, which is not known.
     Type(u8),
     /// A class of an instance is not there.
     NoClassOf(u64),
     /// An instance has so many bytes of fields, and its class says another number.
-    FieldBytes { found: u32, expected: u64 },
+    FieldBytes {
+        found: u32,
+        expected: u64,
+    },
     /// Two objects have one identifier, or one has the identifier 0.
     Twice,
     /// A field was named of a class that is not there.
-    NoClass { asked: String, owner: String },
+    NoClass {
+        asked: String,
+        owner: String,
+    },
     /// A field was named of one of several classes of the same name.
-    ManyClasses { asked: String, count: usize },
+    ManyClasses {
+        asked: String,
+        count: usize,
+    },
     /// A field was named that its class doesn't have.
-    NoField { asked: String },
+    NoField {
+        asked: String,
+    },
     /// A static field was named that is no reference.
-    NoReference { asked: String },
+    NoReference {
+        asked: String,
+    },
     /// What a thread holds was asked for.
-    Thread { asked: String },
+    Thread {
+        asked: String,
+    },
     /// W, K and N are no sizes of a heap.
     Sizes,
     /// A reference leads to nothing.
-    Dangling { path: String, id: u64 },
+    Dangling {
+        path: String,
+        id: u64,
+    },
     /// There are more words than a heap has: so many, or at least so many.
-    TooLarge { words: u64, is_whole: bool },
+    TooLarge {
+        words: u64,
+        is_whole: bool,
+    },
     /// The objects fit into no heap.
-    NoFit { words: u64 },
+    NoFit {
+        words: u64,
+    },
     /// The objects take more regions than there are.
     TooFew {
         words: u64,

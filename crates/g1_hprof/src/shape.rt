@@ -244,5 +244,10 @@ fn is_left_out(
     if !wanted.weak && WEAK.contains(&name.as_str()) {
         return Ok(true);
     }
-    Ok(wanted.without.iter().any(|text| text.as_str() == name.as_str()))
+    Ok(
+        wanted
+            .without
+            .iter()
+            .any(|text| text.as_str() == name.as_str()),
+    )
 }

@@ -192,8 +192,8 @@ impl Way {
     }
 }
 
-/// The refusal of a reference that leads to nothing, with the path to it in Java's names. The walk is made again, with the
-/// way to each object.
+/// The refusal of a reference that leads to nothing, with the path to it in Java's names. The walk is made again,
+/// with the way to each object.
 pub(crate) fn refuse_stray(
     alloc: Global,
     found: Found<'_>,
@@ -221,19 +221,21 @@ impl<'a> Walk<'a> {
                 break;
             };
             steps.push(self.step_of(alloc, before, way.slot)?)?;
-            way = match self.ways.as_slice().get(before as usize) {
-                Some(way) => *way,
-                None => break,
-            };
+            way = self.way_to(before);
         }
         let mut path = String::new(alloc);
-        if let Some(name) = names.get(way.slot as usize) {
-            path.push_str(name.as_str())?;
-        }
+        path.push_str(name_at(names, way.slot))?;
         for step in steps.iter().rev() {
             path.push_str(step.as_str())?;
         }
         Ok(path)
+    }
+
+    fn way_to(&self, number: u32) -> Way {
+        match self.ways.as_slice().get(number as usize) {
+            Some(way) => *way,
+            None => Way::new(None, 0),
+        }
     }
 
     // A slot of an object in a path.
@@ -247,6 +249,13 @@ impl<'a> Walk<'a> {
             Some(Group::Instance { class, .. }) => slot_name(alloc, dump, *class, slot),
             _ => Ok(format!(in alloc; "[{slot}]")?),
         }
+    }
+}
+
+fn name_at(names: &[String], number: u32) -> &str {
+    match names.get(number as usize) {
+        Some(name) => name.as_str(),
+        None => "",
     }
 }
 
