@@ -53,17 +53,17 @@ import losses  # noqa: E402
 import progress  # noqa: E402
 import release  # noqa: E402
 import stale_pairs  # noqa: E402
-from heap_image import FIRST, CONTINUATION, FREE, MOST_REGIONS, NULL, ORDINARY, Image, from_bytes  # noqa: E402
+from heap_image import FREE, NULL, ORDINARY, Image, from_bytes  # noqa: E402
+from judge_answers import FIELDS, STALE, agrees, answer, by_heap, by_rule, by_text, of_fault  # noqa: E402
 from opponent import NoRoom, Opponent, refused  # noqa: E402
 from plant_errors import ERRORS as COLLECTOR_ERRORS, MORE_ERRORS, Planter  # noqa: E402
+from pointer_graphs import ERRORS, Graph, is_map, live, pair, told_pair  # noqa: E402
 from programs import OUT, program  # noqa: E402
 from random_heaps import drawn  # noqa: E402
 
 TOP = pathlib.Path(__file__).resolve().parent.parent
-KINDS, STALE = {"split": 4, "joined": 5, "size": 6, "slots": 7, "data": 8}, 20
-PLACES = {"region": 1, "root": 2, "slot": 3, "log place": 4}
-FIELDS = ("image", "fault", "place", "kind", "at", "root", "slots", "before", "after", "first", "second", "third", "objects",
-          "words")
+ERRORS_SAY = {"roots": 1, "null before": 2, "null after": 3, "split": 4, "joined": 5, "size": 6, "slots": 7, "data": 8,
+              "stale root": STALE, "stale slot": STALE}  # the kind
 SANITIZERS = ["-g", "-O1", "-fsanitize=address,undefined", "-fno-sanitize-recover=all"]
 
 
@@ -86,109 +86,6 @@ class Tally:
         self.failed += wrong
         if wrong or said:
             print(f"FAILED {what}: {wrong} of {tried} {said}")
-
-
-def answer(**fields):
-    """The numbers of an answer in their order; what is not said is 0."""
-    return [fields.get(name, 0) for name in FIELDS]
-
-
-def reference(text):
-    return int(text.removeprefix("object ")) + 1 if text != "null" else 0
-
-
-def of_fault(which, line):
-    """The answer to 'N: TEXT', a fault of the first image or the second."""
-    number, text = line.split(": ")
-    named = re.search(r"(region|root|slot|log place) (\d+)$", text)
-    place, at = (PLACES[named[1]], int(named[2])) if named else (0, 0)
-    return answer(image=which, fault=int(number), place=place, at=at)
-
-
-def of_difference(line):
-    """The answer to a line 'differ ..' of g1heap."""
-    roots = re.fullmatch(r"differ roots: (\d+) before, (\d+) after", line)
-    if roots:
-        return answer(kind=1, first=int(roots[1]), second=int(roots[2]))
-    stale = re.fullmatch(r"differ stale at root (\d+)((?: slot \d+)*): (.*?) before; the word (?:still )?is (\d+), .*", line)
-    if stale:
-        path = [int(slot) for slot in re.findall(r"\d+", stale[2])]
-        return answer(kind=STALE, root=int(stale[1]), slots=len(path), before=reference(stale[3]), after=int(stale[4])) + path
-    found = re.fullmatch(r"differ (\w+) at root (\d+)((?: slot \d+)*): (.*?) before, (.*?) after(?:; (.*))?", line)
-    kind, detail = found[1], [int(number) for number in re.findall(r"\d+", found[6] or "")]
-    before, after = reference(found[4]), reference(found[5])
-    path = [int(slot) for slot in re.findall(r"\d+", found[3])]
-    numbers = {"null": lambda: (0, 0, 0), "split": lambda: (detail[0], detail[1], after - 1),
-               "joined": lambda: (detail[1], before - 1, detail[0]), "size": lambda: (*detail, 0),
-               "slots": lambda: (*detail, 0), "data": lambda: tuple(detail)}[kind]()
-    code = KINDS.get(kind) or (2 if before == NULL else 3)
-    return answer(kind=code, root=int(found[2]), slots=len(path), before=before, after=after, first=numbers[0],
-                  second=numbers[1], third=numbers[2]) + path
-
-
-def fault_of(program, named):
-    """The status and the answer of `g1heap: FILE: fault N: TEXT`. None if it said something else."""
-    found = re.match(r"g1heap: (.*): fault (\d+: .*)\n", program.stderr)
-    return [program.returncode] + of_fault(1 if found[1] == str(named) else 2, found[2]) if found else None
-
-
-def by_heap(heap, before, after):
-    """What the call has to say of two files: what `g1heap same` prints, as a status and the numbers of an answer."""
-    ran = subprocess.run([heap, "same", before, after], capture_output=True, text=True)
-    line = (ran.stdout or ran.stderr).rstrip("\n")
-    if ran.returncode == 0:
-        objects, words = re.findall(r"\d+", line)
-        return [0] + answer(objects=int(objects), words=int(words))
-    if ran.returncode == 1:
-        return [1] + of_difference(line)
-    return fault_of(ran, before) or [ran.returncode, line]
-
-
-def refused_after(heap, after):
-    """What g1_kept has to say of a second text that is no image. Where `g1heap same` compares it, for its words without an
-    object, g1_kept refuses it. None if it is an image."""
-    ran = subprocess.run([heap, "print", "--summary", after], capture_output=True, text=True)
-    found = re.match(r"g1heap: .*: fault (\d+: .*)\n", ran.stderr)
-    return [3] + of_fault(2, found[1]) if found else None
-
-
-def of_loss(loss):
-    kind, *three = loss
-    return [1] + answer(kind=kind, first=three[0], second=three[1], third=three[2])
-
-
-def by_rule(before, after, chosen):
-    """What g1_kept has to say of two images and a set, from losses.py."""
-    taken = set()
-    for region in chosen:
-        if refused(before, region) or region in taken:
-            return [5] + answer(image=1, fault=10, place=1, at=region)
-        taken.add(region)
-    loss = losses.first(before, after, taken)
-    return of_loss(loss) if loss else [0] + answer()
-
-
-def agrees(heap, before, after, chosen, wanted):
-    """Whether `g1heap same --set` says so, too. It compares graphs first, and only then looks at the set."""
-    ran = subprocess.run([heap, "same", before, after, "--set", *map(str, chosen)], capture_output=True, text=True)
-    if len(set(chosen)) < len(chosen) or any(region >= MOST_REGIONS for region in chosen):
-        # The program refuses these regions with its words, whatever the images are.
-        return ran.returncode == 2 and not ran.stdout and "for '--set <REGION>...': " in ran.stderr and wanted[0] > 1
-    fault, loss = fault_of(ran, before), losses.of_line(ran.stdout.rstrip("\n"))
-    if fault or loss:
-        return (fault or of_loss(loss)) == wanted
-    if ran.returncode == 1:
-        refusal = refused_after(heap, after)
-        return refusal == wanted if refusal else bool(of_difference(ran.stdout.rstrip("\n"))) and wanted[0] in (1, 5)
-    return ran.returncode == wanted[0] == 0 and ran.stdout.endswith("\nkept\n")
-
-
-def by_text(data, cover):
-    """The same of one image, from the reading of image_text.py."""
-    fault = image_text.fault_of(data, cover)
-    if fault is None:
-        return [0] + answer()
-    return [4 if fault.startswith("9:") else 3] + of_fault(1, fault)
 
 
 class Programs:
@@ -621,55 +518,6 @@ def check_lines(tally, programs, options):
     check_told(tally, programs, options)
 
 
-def moved(rng, graph, stay):
-    """The graph with other pointers for its objects, except for some."""
-    new = {p: p if rng.random() < stay else rng.randrange(1 << 48, 1 << 49) for p in graph.pointers}
-    graph.pointers = [new[p] for p in graph.pointers]
-    graph.slots = {new[p]: [new.get(q, q) for q in slots] for p, slots in graph.slots.items() if p in new}
-    graph.data = {new[p]: data for p, data in graph.data.items() if p in new}
-    graph.roots = [new.get(p, p) for p in graph.roots]
-
-
-def graph_lines(graph):
-    """The graph as lines of objects by name, which are its pointers."""
-    name = lambda p: f"{p:#x}" if p else "-"
-    out = ["graph", *(f"root {name(p)}" for p in graph.roots)]
-    for p in graph.pointers:
-        out.append(" ".join(["object", name(p), f"{graph.size(p)}/{len(graph.slots[p])}", *map(name, graph.slots[p]), *map(str, graph.data[p])]))
-    return "\n".join(out) + "\n"
-
-
-def told_pair(rng, error):
-    """Two graphs, each as lines of the writer and as lines by name, the second moved and with an error."""
-    graph = Graph(rng, rng.choice((3, 10, 40)), most_words=6)
-    chain = rng.sample(graph.pointers, rng.randint(1, len(graph.pointers)))
-    for p, q in zip(chain, chain[1:]):
-        graph.slots[p].insert(rng.randint(0, len(graph.slots[p])), q)
-    graph.roots.insert(rng.randint(0, len(graph.roots)), chain[0])
-    change = plant(rng, graph, chain[-1], error)
-    texts = []
-    for is_after in (False, True):
-        if is_after:
-            change()
-            old = {p: list(slots) for p, slots in graph.slots.items()}, list(graph.roots), list(graph.pointers)
-            moved(rng, graph, 0.3)
-            make_stale(rng, graph, error, *old)
-        graph.bytes = {p: 8 * len(graph.data[p]) for p in graph.pointers}
-        texts.append((graph.lines(rng, 64, "-", stale=is_after), graph_lines(graph)))
-    return texts
-
-
-def make_stale(rng, graph, error, slots, roots, pointers):
-    """Leaves a root or a slot as it was before all moved, or writes a pointer that never was one."""
-    if error == "stale root":
-        graph.roots[-1] = rng.choice((roots[-1], 3))
-    if error == "stale slot":
-        p, now = rng.choice([pair_ for pair_ in zip(pointers, graph.pointers)])
-        if slots[p]:
-            at = rng.randrange(len(slots[p]))
-            graph.slots[now][at] = rng.choice((slots[p][at], 3))
-
-
 def check_told(tally, programs, options):
     """Lines in pointers: those of g1heap for the same objects by name. A word that references no object is a fault if no path
     leads to it and nothing else differs; the line of g1heap has the place in the text, and that of the call in the image."""
@@ -738,145 +586,6 @@ def check_refuse(tally, programs, options):
         print("refuse:", lines[-1])
 
 
-# ---- graphs, by pointers of their own
-
-
-class Graph:
-    """Objects by their pointers: slots, which are pointers or 0, and data words; and roots."""
-
-    def __init__(self, rng, count, most_words=12):
-        self.pointers = rng.sample(range(1, 1 << 48), count)
-        count_of = lambda *usual: range(rng.choice((*usual, rng.randint(0, most_words))))
-        self.slots = {p: [self.any(rng) for _ in count_of(0, 1, 2, 3)] for p in self.pointers}
-        self.data = {p: [rng.choice((0, 1, rng.getrandbits(64))) for _ in count_of(0, 1)] for p in self.pointers}
-        self.bytes = {p: self.cut(rng, p) for p in self.pointers}
-        self.roots = [self.any(rng) for _ in range(rng.randint(0, 6))]
-
-    def cut(self, rng, pointer):
-        """How many bytes of data an object has: what is left of its last word is 0."""
-        data, cut = self.data[pointer], rng.choice((0, rng.randrange(8)))
-        if not data:
-            return 0
-        data[-1] &= (1 << 64 - 8 * cut) - 1
-        return 8 * len(data) - cut
-
-    def any(self, rng):
-        return rng.choice(self.pointers) if self.pointers and rng.random() < 0.8 else NULL
-
-    def size(self, pointer):
-        return 1 + len(self.slots[pointer]) + len(self.data[pointer])
-
-    def lines(self, rng, width, name, stale=False):
-        """What judge/test.c reads, the objects in any order."""
-        out = [f"image {width}", *(["stale"] if stale else []), *(f"root {p}" for p in self.roots)]
-        for p in rng.sample(self.pointers, len(self.pointers)):
-            words = [p, len(self.slots[p]), self.bytes[p], *self.slots[p], *self.data[p]]
-            out.append(" ".join(map(str, ["object", *words])))
-        return "\n".join([*out, f"end {name}\n"])
-
-    def image(self, rng, width):
-        """The same heap laid out by this script, in another order, with gaps and free regions: docs/IMAGE.md."""
-        places, at, tops = {}, 0, {}
-        for p in rng.sample(self.pointers, len(self.pointers)):
-            size = self.size(p)
-            if 4 * size > 3 * width:
-                at += -at % width
-                places[p] = at
-                for r in range(-(-size // width)):
-                    tops[at // width + r] = (CONTINUATION if r else FIRST, min(width, size - r * width))
-                at += -(-size // width) * width
-                continue
-            if at % width + size > width or (at % width and rng.random() < 0.05):
-                at += -at % width + width * (rng.random() < 0.1)
-            places[p] = at
-            at += size
-            tops[places[p] // width] = (ORDINARY, (at - 1) % width + 1)
-        image = Image(width, min(width, 16), at // width + 2)
-        for r, (kind, top) in tops.items():
-            image.kinds[r], image.tops[r] = kind, top
-        word = lambda p: places[p] + 1 if p else 0
-        for p, place in places.items():
-            body = [self.size(p) << 32 | len(self.slots[p]), *map(word, self.slots[p]), *self.data[p]]
-            image.words[place:place + len(body)] = body
-        image.roots = [word(p) for p in self.roots]
-        return image
-
-
-ERRORS = ("none", "roots", "null before", "null after", "split", "joined", "size", "slots", "data", "stale root", "stale slot")
-ERRORS_SAY = {"roots": 1, "null before": 2, "null after": 3, "split": 4, "joined": 5, "size": 6, "slots": 7, "data": 8,
-              "stale root": STALE, "stale slot": STALE}  # the kind
-
-
-def plant(rng, graph, p, error):
-    """What has to be so before an error at object p, and a change that makes it."""
-    slots, data, copy = graph.slots[p], graph.data[p], max(graph.pointers) + 1
-    if error in ("null before", "null after", "split", "joined"):
-        slots += [p, p]
-
-    def twin():
-        graph.pointers.append(copy)
-        graph.slots[copy], graph.data[copy] = slots[:], data[:]
-
-    def change():
-        if error == "roots":
-            graph.roots.append(p)
-        elif error in ("null before", "null after"):
-            slots[-1] = p if error == "null before" else NULL
-        elif error == "split":
-            twin()
-            slots[-1] = copy
-        elif error == "joined":
-            graph.pointers.remove(copy)
-            slots[-1] = p
-        elif error == "size":
-            data.append(rng.getrandbits(64))
-        elif error == "slots":
-            slots.append(data.pop() and NULL)
-        elif error == "data":
-            data[rng.randrange(len(data))] ^= 1 << rng.randrange(64)
-
-    if error == "null before":
-        slots[-1] = NULL
-    if error == "joined":
-        twin()
-        slots[-1] = copy
-    if error in ("slots", "data"):
-        data.append(rng.getrandbits(64))
-    return change
-
-
-def pair(rng, count, error):
-    """Two images of one graph, or with an error of the second at an object that its roots reach, deep in it if it can be."""
-    graph = Graph(rng, count, most_words=6)
-    chain = rng.sample(graph.pointers, rng.randint(1, len(graph.pointers)))
-    for p, q in zip(chain, chain[1:]):
-        graph.slots[p].insert(rng.randint(0, len(graph.slots[p])), q)
-    graph.roots.insert(rng.randint(0, len(graph.roots)), chain[0])
-    change = plant(rng, graph, chain[-1], error)
-    before = graph.image(rng, 64)
-    change()
-    after = graph.image(rng, 64)
-    if error == "stale root":
-        after.roots[-1] = len(after.words) + 1
-    if error == "stale slot":
-        slots = [slot for address in after.objects() for slot in after.slots(address)]
-        if slots:
-            after.words[rng.choice(slots)] = len(after.words) + 1
-    return before.to_bytes(), after.to_bytes()
-
-
-def live(graph):
-    """How many objects and words the roots reach."""
-    found = list(dict.fromkeys(p for p in graph.roots if p))
-    seen = set(found)
-    for p in found:
-        for q in graph.slots[p]:
-            if q and q not in seen:
-                seen.add(q)
-                found.append(q)
-    return len(found), sum(graph.size(p) for p in found)
-
-
 def check_graphs(tally, programs, options):
     rng = random.Random(options.seed + 3)
     wrong, wrong_maps, texts, made = 0, 0, [], []
@@ -898,22 +607,6 @@ def check_graphs(tally, programs, options):
     tally.count("graphs: maps", len(made), wrong_maps)
     objects = sum(len(graph.pointers) for graph, _ in made)
     print(f"writer: {len(made)} graphs, {objects} objects, the same as laid out by heap_image.py, both ways")
-
-
-def is_map(graph, image, line):
-    """Whether the pointers at the addresses of an image are those of its objects, word for word."""
-    found = re.fullmatch(r"length \d+ stale 0 at((?: \d+ \d+)*)", line)
-    if not found:
-        return False
-    told = numbers(found[1])
-    pointers = dict(zip(told[::2], told[1::2]))
-    back = {p: at for at, p in pointers.items()}
-    if set(pointers) != set(image.objects()) or set(back) != set(graph.pointers):
-        return False
-    word = lambda p: back[p] + 1 if p else 0
-    return image.roots == [word(p) for p in graph.roots] and all(
-        [image.words[q] for q in image.slots(at)] == [word(q) for q in graph.slots[p]]
-        and [image.words[q] for q in image.content(at)] == graph.data[p] for at, p in pointers.items())
 
 
 REFUSALS = (  # the lines of an image, and what its end says: fault, pointer, holder, slot
