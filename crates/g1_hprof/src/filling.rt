@@ -95,10 +95,7 @@ impl<'a> Filling<'a> {
     /// Writes an object of the dump to its address.
     pub(crate) fn put(&mut self, number: u32, start: u32) -> Result<(), Refused> {
         let found = self.found;
-        let Some((group, place)) = found.dump.objects.find(number) else {
-            return Err(Refused::Contradiction);
-        };
-        let Some(shape) = found.shapes.get(group as usize) else {
+        let Some((shape, place)) = found.shape_of(number) else {
             return Err(Refused::Contradiction);
         };
         let at = self.place_of(start)?;

@@ -14,6 +14,15 @@ pub(crate) struct Found<'a> {
     pub index: &'a Index<'a>,
 }
 
+impl<'a> Found<'a> {
+    /// The shape of an object, and where its fields or elements are in the dump.
+    pub(crate) fn shape_of(self, number: u32) -> Option<(&'a Shape, u64)> {
+        let (group, place) = self.dump.objects.find(number)?;
+        let shape = self.shapes.get(group as usize)?;
+        Some((shape, place))
+    }
+}
+
 /// The way to an object: the one before it, if there is one, and the number of the slot there, or of the root.
 #[derive(Clone, Copy)]
 struct Way {
@@ -83,10 +92,7 @@ impl<'a> Walk<'a> {
 
     fn open(&mut self, number: u32) -> Result<(), Refused> {
         let found = self.found;
-        let Some((group, place)) = found.dump.objects.find(number) else {
-            return Ok(());
-        };
-        let Some(shape) = found.shapes.get(group as usize) else {
+        let Some((shape, place)) = found.shape_of(number) else {
             return Ok(());
         };
         match &shape.body {
@@ -162,11 +168,7 @@ impl<'a> Walk<'a> {
 
     // Counts the words of an object that was reached, and remembers it if it has slots.
     fn count(&mut self, number: u32) -> Result<(), Refused> {
-        let found = self.found;
-        let Some((group, _)) = found.dump.objects.find(number) else {
-            return Ok(());
-        };
-        let Some(shape) = found.shapes.get(group as usize) else {
+        let Some((shape, _)) = self.found.shape_of(number) else {
             return Ok(());
         };
         self.words = self.words.saturating_add(shape.size());
