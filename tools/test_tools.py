@@ -483,6 +483,11 @@ sys.exit(0 if verdict.startswith("same") else 1 if verdict.startswith("differ") 
         self.assertEqual((status, said), (1, [f"ruby minor: {verdict}, 0 moved  FAILED", end, "0 passed, 2 failed"]))
         self.assertEqual(self.judged(lines=self.LINES, steps=self.STEPS[:2], problem="no memory")[1], [end, "0 passed, 1 failed"])
 
+    def test_a_program_may_report_on_standard_output_why_it_failed(self):
+        lines = [*self.LINES[:2], "Exception- Fail", "no memory"]
+        expected = ["ruby minor: same objects 2 words 2, 1 moved", "ruby: ruby: status 1: Exception- Fail no memory  FAILED", "1 passed, 1 failed"]
+        self.assertEqual(self.judged(lines=lines, problem=1), (1, expected))
+
     def test_a_long_report_keeps_its_beginning_and_its_end(self):
         line = self.judged(lines=[], problem="a" * 150 + " " + "b" * 250)[1][0]
         self.assertEqual(line, f"ruby: ruby: status 1: {'a' * 100} .. {'b' * 200}  FAILED")

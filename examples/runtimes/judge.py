@@ -65,6 +65,7 @@ RUNTIMES = {
     "lua": Runtime("lua.lua", "lua5.4", ["lua5.4", "{file}"], moves=False),
     "mono": Runtime("mono.cs", "mono-runtime mono-mcs", ["mono", "{room}/walk.exe"], ["mcs", "-unsafe", "-out:{room}/walk.exe", "{file}"],
                     {"MONO_GC_PARAMS": "nursery-size=256m"}),
+    "polyml": Runtime("polyml.ml", "polyml", ["poly", "-q", "--error-exit", "-H", "1000", "--script", "{file}"]),
     "racket": Runtime("racket.rkt", "racket", ["racket", "{file}"]),
     "ruby": Runtime("ruby.rb", "ruby", ["ruby", "{file}"]),
     "sbcl": Runtime("sbcl.lisp", "sbcl", ["sbcl", "--dynamic-space-size", "4GB", "--script", "{file}"]),
@@ -83,12 +84,21 @@ def said_by(words, room, where=None, settings=None):
     except subprocess.TimeoutExpired:
         raise Problem(f"{words[0]}: was ended after {SECONDS} seconds") from None
     if ran.returncode:
-        raise Problem(f"{pathlib.Path(words[0]).name}: status {ran.returncode}: {shortened(' '.join(ran.stderr.split()))}")
+        raise Problem(f"{pathlib.Path(words[0]).name}: status {ran.returncode}: {shortened(ran.stderr) or shortened(beside_steps(where))}")
     return ran.stdout
+
+
+def beside_steps(said):
+    """What a program printed, without the lines of its steps: some languages report there why they ended."""
+    if said is None:
+        return ""
+    said.seek(0)
+    return "".join(line for line in said if not STEP.fullmatch(line.rstrip("\n")))
 
 
 def shortened(text):
     """A text of at most 300 characters, or its beginning and its end: some languages say first what failed, some last."""
+    text = " ".join(text.split())
     return text if len(text) <= 300 else f"{text[:100]} .. {text[-200:]}"
 
 
