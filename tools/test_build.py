@@ -1,8 +1,8 @@
 #!/usr/bin/env python3
 """Tests of what tools/build.py takes from `rt ci`, without a kit: test_build.py [-v]
 
-Of a checkout with two libraries and a program, libraries are taken only if a stand-in for the kit's `rt` kept each of
-them for these very files. Otherwise the checkout stays as it was.
+Of a checkout with two libraries and a program, a library is taken only if a stand-in for the kit's `rt` kept it for these
+very files and over these very libraries. Otherwise the checkout stays as it was.
 """
 import argparse
 import pathlib
@@ -97,40 +97,58 @@ class Taking(unittest.TestCase):
         self.assertLessEqual(set(before), set(after))
         return number, {name: text for name, text in after.items() if before.get(name) != text}
 
+    OF_LOW = {"crates/low/out/rlib/low.rlib/format": "low1", "crates/low/out/rlib/stamp": "text of low"}
+
     def test_all_that_was_kept_is_taken_with_stamps(self):
         self.assertEqual(self.taken(), (2, {
-            "crates/low/out/rlib/low.rlib/format": "low1", "crates/low/out/rlib/stamp": "text of low",
-            "crates/high/out/rlib/high.rlib/format": "high1", "crates/high/out/rlib/stamp": "text of high"}))
+            **self.OF_LOW, "crates/high/out/rlib/high.rlib/format": "high1", "crates/high/out/rlib/stamp": "text of high"}))
         self.assertEqual(self.taken(), (0, {}))  # they are proved now
 
-    def test_nothing_is_taken_if_a_library_was_not_kept(self):
+    def test_a_library_above_one_that_was_not_kept_is_not_taken(self):
+        (self.kit / "store" / LOW).unlink()
+        self.assertEqual(self.taken(), (0, {}))
+
+    def test_a_library_below_one_that_was_not_kept_is_taken(self):
         (self.kit / "store" / HIGH).unlink()
+        self.assertEqual(self.taken(), (1, self.OF_LOW))
         self.assertEqual(self.taken(), (0, {}))
 
     def test_nothing_is_taken_for_other_files(self):
-        for name, text in (("checkout/crates/low/src/lib.rt", "another"), ("checkout/crates/high/src/lib.rt", "another"),
-                           ("checkout/crates/high/src/more.rt", "more"), ("checkout/HANDLES", "Threads")):
+        for name, text, number in (("checkout/crates/low/src/lib.rt", "another", 0), ("checkout/crates/high/src/lib.rt", "another", 1),
+                                   ("checkout/crates/high/src/more.rt", "more", 1), ("checkout/HANDLES", "Threads", 0)):
             with self.subTest(name=name):
                 self.setUp()
                 self.write(name, text)
-                self.assertEqual(self.taken(), (0, {}))
+                self.assertEqual(self.taken(), (number, self.OF_LOW if number else {}))
 
     def test_a_library_of_another_build_below_is_not_what_one_was_built_over(self):
         self.write(f"kit/store/{LOW}", "low2")
-        self.assertEqual(self.taken(), (0, {}))
+        self.assertEqual(self.taken()[0], 1)
+        self.assertFalse((self.top / "crates/high/out/rlib").exists())
 
-    def test_what_was_proved_here_goes_if_one_library_is_not(self):
-        """A library fits only those that it was built over."""
-        self.write("checkout/crates/low/out/rlib/low.rlib/format", "low here")
-        self.write("checkout/crates/low/out/rlib/stamp", "text of low")
+    def prove_here(self, name):
+        """A library as a proof in this checkout leaves it."""
+        self.write(f"checkout/crates/{name}/out/rlib/{name}.rlib/format", f"{name} here")
+        self.write(f"checkout/crates/{name}/out/rlib/stamp", f"text of {name}")
+
+    def test_what_was_proved_here_goes_if_all_that_is_proved_was_kept(self):
+        self.prove_here("low")
         self.assertEqual(self.taken()[0], 2)
         self.assertEqual(self.files()["crates/low/out/rlib/low.rlib/format"], "low1")
+
+    def test_what_was_proved_here_stays_if_one_above_it_was_not_kept(self):
+        self.prove_here("low")
+        self.prove_here("high")
+        self.assertEqual(self.taken(), (0, {}))
+        (self.kit / "store" / HIGH).unlink()
+        (self.top / "crates/low/out/rlib/stamp").unlink()
+        self.assertEqual(self.taken(), (0, {}))
 
     def test_another_kit_gives_nothing(self):
         for text in ("", "raise SystemExit(2)", "class Crate:\n    pass\n", RT.replace("def give", "def grant"),
                      RT.replace("return False", "raise OSError")):
             self.write("kit/bin/rt", text)
-            (self.kit / "store" / HIGH).unlink(missing_ok=True)
+            (self.kit / "store" / LOW).unlink(missing_ok=True)
             self.assertEqual(self.taken(), (0, {}))
 
     def test_lines_of_crates_are_those_of_their_names(self):

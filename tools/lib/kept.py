@@ -3,8 +3,8 @@
 `rt ci` keeps each library that it proved beside the kit, under a sum of all that the proof read: the kit, HANDLES, the
 crate's line and files, and the libraries below it as they were built. Other commands do not look there, and prove anew.
 Here the kit's own `rt` looks each library up as `rt ci` does, in a folder of links to the sources, and compares the sums
-of its files. If it has all of them, they go to the crates' own out/, with the stamp by which `rt` knows a library that
-is proved. If one is missing, nothing is taken, and all that is not proved in this checkout is proved.
+of its files. Those that it has go to the crates' own out/, with the stamp by which `rt` knows a library that is proved.
+A library fits only those that it was built over. So nothing is taken if one that was not kept is proved in this checkout.
 """
 import contextlib
 import fcntl
@@ -45,31 +45,30 @@ def libraries(rt, room):
     return [crate for crate in rt.crates_of(str(room)) if crate.makes_rlib()]
 
 
-def are_proved(top, crates):
-    """Whether each library is already proved in the checkout."""
-    stamps = {crate.name: top / "crates" / crate.name / "out" / "rlib" / "stamp" for crate in crates}
-    return all(stamps[crate.name].is_file() and stamps[crate.name].read_text() == crate.stamp() for crate in crates)
+def is_proved(top, crate):
+    """Whether a library is proved in the checkout."""
+    found = top / "crates" / crate.name / "out" / "rlib" / "stamp"
+    return found.is_file() and found.read_text() == crate.stamp()
 
 
 def lay(rt, crates):
-    """Has `rt` lay each library that it kept into its crate. Whether it kept all of them."""
-    kept = rt.Kept(crates)
+    """Has `rt` lay the libraries that it kept into their crates, and returns these crates."""
+    kept, laid = rt.Kept(crates), []
     for crate in crates:
-        if not kept.give(crate, False, kept.key(crate)):
-            return False
-        kept.is_built(crate)
-        pathlib.Path(crate.rlib).with_name("stamp").write_text(crate.stamp())
-    return True
+        if kept.give(crate, False, kept.key(crate)):  # the key has the libraries below as they were laid
+            kept.is_built(crate)
+            pathlib.Path(crate.rlib).with_name("stamp").write_text(crate.stamp())
+            laid.append(crate)
+    return laid
 
 
 def move(room, top, names):
-    """Moves the libraries to the crates' own folders, while no other `rt` works there. The old ones go first: a library fits
-    only those that it was built over."""
+    """Moves libraries to the crates' own folders, while no other `rt` works there."""
     folders = [top / "crates" / name for name in names]
     locks = [os.open(folder, os.O_RDONLY) for folder in folders]
     for lock in locks:
         fcntl.flock(lock, fcntl.LOCK_EX)
-    for folder in folders:
+    for folder in folders:  # the old ones go first, so that never one stands over another than its own
         (folder / "out").mkdir(exist_ok=True)
         shutil.rmtree(folder / "out" / "rlib", ignore_errors=True)
     for name, folder in zip(names, folders):
@@ -79,7 +78,7 @@ def move(room, top, names):
 
 
 def take(top, names, kit=None):
-    """Takes the libraries among these crates, and returns how many: none if one is missing, or if all are proved already."""
+    """Takes the libraries among these crates that `rt ci` kept, and returns how many."""
     room = top / "out" / "kept"
     shutil.rmtree(room, ignore_errors=True)
     try:
@@ -87,10 +86,12 @@ def take(top, names, kit=None):
             rt = load_rt(kit or unproved.kit_folder())
             link_sources(top, names, room)
             crates = libraries(rt, room)
-            if are_proved(top, crates) or not lay(rt, crates):
-                return 0
-        move(room, top, [crate.name for crate in crates])
-        return len(crates)
+            proved = [crate for crate in crates if is_proved(top, crate)]
+            laid = [] if len(proved) == len(crates) else lay(rt, crates)
+        if all(crate in proved for crate in laid) or not all(crate in laid for crate in proved):
+            return 0
+        move(room, top, [crate.name for crate in laid])
+        return len(laid)
     except (Exception, SystemExit):  # a kit whose `rt` is another: what it kept cannot be looked up, and all is proved
         return 0
     finally:

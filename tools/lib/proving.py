@@ -114,7 +114,7 @@ def put_back(top):
 
 
 def take_kept(top, names):
-    """Takes from `rt ci` what it proved of these crates, if it proved all, and returns how many."""
+    """Takes from `rt ci` the libraries that it proved of these crates, and returns how many."""
     put_back(top)
     with progress.doing("looking for what rt ci proved"):
         return kept.take(top, names)
