@@ -63,7 +63,7 @@ def main():
     try:
         return work(parser.parse_args().java or ["java"])
     except jvm.Problem as problem:
-        print(f"all: {problem}", file=sys.stderr)
+        print(f"all.py: {problem}", file=sys.stderr)
         return 2
 
 
