@@ -45,6 +45,8 @@ TOP = stamp.TOP
 OUT = TOP / "out"
 NOTHING_CHANGED = "nothing has changed since the last proved build"
 SECONDS = 120  # that rt may take to say so
+# rt ci takes away what rt built before. As long as out/PROVED is right, tools/build.py builds nothing.
+ANEW = "remove out/PROVED and call tools/build.py"
 SYSTEM = "x86_64-linux"
 DOC = "share/doc/g1pause"
 # Scripts that a release has no use for.
@@ -88,15 +90,15 @@ def ask_rt(name):
     """Sees that rt holds the program for the one that it proved and built, and that it is that of out/."""
     built = TOP / "crates" / name / "out" / name
     if not built.is_file() or stamp.sum_of(built) != stamp.sum_of(OUT / name):
-        raise Refused(f"out/{name} is not the program that rt built: call tools/build.py")
+        raise Refused(f"out/{name} is not the program that rt built: {ANEW}")
     try:
         done = subprocess.run(["rt", "run", "--", "--version"], cwd=TOP / "crates" / name, stdin=subprocess.DEVNULL,
                               stdout=subprocess.PIPE, stderr=subprocess.STDOUT, text=True, errors="replace",
                               timeout=SECONDS, check=False)
     except subprocess.TimeoutExpired:
-        raise Refused(f"rt has to prove {name} again: call tools/build.py") from None
+        raise Refused(f"rt has to prove {name} again: {ANEW}") from None
     if done.returncode or NOTHING_CHANGED not in done.stdout:
-        raise Refused(f"rt does not say that {name} is proved: call tools/build.py")
+        raise Refused(f"rt does not say that {name} is proved: {ANEW}")
 
 
 def split(kit, name, room):
