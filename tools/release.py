@@ -75,11 +75,17 @@ def commit_of():
     return git("rev-parse", "HEAD"), int(git("log", "-1", "--format=%ct"))
 
 
-def ask_stamp():
-    """Sees that out/PROVED is of these sources, programs and kit."""
+def ask_proved():
+    """Sees that there is out/PROVED, and returns what it says."""
     said = stamp.read(OUT, "PROVED")
     if not said:
         raise Refused("out/ has no proved programs: call tools/build.py")
+    return said
+
+
+def ask_stamp():
+    """Sees that out/PROVED is of these sources, programs and kit."""
+    said = ask_proved()
     if not stamp.is_current(OUT, "PROVED", stamp.sources()):
         raise Refused("the programs of out/ are not those of the sources: call tools/build.py")
     if said["kit"] != stamp.kit():
@@ -237,10 +243,11 @@ def main():
     parser = argparse.ArgumentParser(description=__doc__, formatter_class=argparse.RawDescriptionHelpFormatter)
     parser.add_argument("folder", metavar="FOLDER", type=pathlib.Path, help="where the release is written")
     options = parser.parse_args()
-    for tool, where in (("rt", "the Rattle kit"), ("git", "git")):
-        if not shutil.which(tool):
-            parser.error(f"there is no {tool} on the path: it comes with {where}")
     try:
+        ask_proved()  # before anybody installs something for a release that will be refused
+        for tool, where in (("rt", "the Rattle kit"), ("git", "git")):
+            if not shutil.which(tool):
+                parser.error(f"there is no {tool} on the path: it comes with {where}")
         made = release(options.folder)
     except Refused as refusal:
         print(f"release.py: {refusal}", file=sys.stderr)
