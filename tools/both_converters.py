@@ -19,6 +19,7 @@ import unittest.mock
 sys.path[:0] = [str(pathlib.Path(__file__).resolve().parent), str(pathlib.Path(__file__).resolve().parent / "lib")]
 
 import hprof2image  # noqa: E402
+import progress  # noqa: E402
 from hprof import Refusal  # noqa: E402
 from programs import add_program  # noqa: E402
 from random_dumps import RandomDump  # noqa: E402
@@ -122,6 +123,7 @@ def main():
     options = parser.parse_args()
     with tempfile.TemporaryDirectory(prefix="converters-") as folder:
         room = Room(options.g1heap, folder)
+        progress.show("compared", lambda: room.passed)
         for dump in options.dumps:
             room.compare(dump, dump, ["--from", options.start] if options.start else [])
         compare_random(room, options.random, options.seed)

@@ -12,7 +12,8 @@ While it works, a line every few seconds says what it does and for how long, in 
 screen also has a line for each crate: its number of all, its name and the time that it took. What the prover says goes
 to out/build.log. All crates were proved in 23 minutes on four processors. A proof takes 6 GB of room on the disk, and no
 more crates are proved at once than there are 3 GB of free memory for. It may be interrupted: what is proved is kept, and
-the next call goes on from there.
+the next call goes on from there. Libraries that `rt ci` has proved on this machine, of the same files and by the same
+kit, are taken from what it kept. Only the others and the programs' own crates are then proved.
 
 It needs the Rattle kit: its command `rt` on the path. Statuses: 0 built; 1 not proved or not built; 2 usage, or no
 rt; 130 interrupted.
@@ -115,6 +116,9 @@ def build_proved(jobs):
         say(f"{next(counted):3} of {len(names)}  {name:12} {progress.in_words(seconds)}")
 
     say(f"proving {len(names)} crates; what the prover says is in out/build.log")
+    taken = proving.take_kept(TOP, names)
+    if taken:
+        say(f"{taken} of them are libraries that rt ci proved on this machine, of the same files")
     proving.prove_all(TOP, names, jobs, proved)
     for name in progress.over(stamp.PROGRAMS, "asking rt whether the programs are those of the sources"):
         ask_rt(name)

@@ -13,7 +13,8 @@ In an archive without a proof, and in each program that is linked with it, `stri
 
 While it works, a line every few seconds says what it does and for how long, in place on a terminal. While it proves, the
 screen also has a line for each crate, and what the prover says goes to out/build.log. It may be interrupted: what is
-proved is kept, and the next call goes on from there.
+proved is kept, and the next call goes on from there. Libraries that `rt ci` has proved on this machine, of the same files
+and by the same kit, are taken from what it kept.
 With --no-rt it takes the archive that was last proved, from crates/g1judge/out.
 
 It needs the Rattle kit: its command `rt` on the path. Statuses: 0 made; 1 not proved or not made; 2 usage, or no rt;
@@ -119,6 +120,9 @@ def prove(jobs):
 
     LOG.parent.mkdir(exist_ok=True)
     say(f"proving {len(names)} crates; what the prover says is in out/build.log")
+    taken = proving.take_kept(TOP, names)
+    if taken:
+        say(f"{taken} of them are libraries that rt ci proved on this machine, of the same files")
     proving.prove_all(TOP, names, jobs, proved)
     with open(LOG, "a", encoding="utf-8") as log, progress.doing("asking rt whether the archive is that of the sources"):
         done = subprocess.run(["rt", "lib"], cwd=CRATE, stdin=subprocess.DEVNULL, stdout=log, stderr=log, check=False)

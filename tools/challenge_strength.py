@@ -19,7 +19,8 @@ import zlib
 
 sys.path.insert(0, str(pathlib.Path(__file__).resolve().parent / "lib"))
 
-from challenging import Asked, Hunt, Trial, reduce  # noqa: E402 (it is in lib/)
+import progress  # noqa: E402 (it is in lib/)
+from challenging import Asked, Hunt, Trial, reduce  # noqa: E402
 from collector_errors import ERRORS  # noqa: E402
 from heap_image import from_bytes  # noqa: E402
 from opponent import NoRoom  # noqa: E402
@@ -74,7 +75,7 @@ def measured(make, g1heap, seed):
 def table(errors, g1heap, seed):
     """The lines of the table, the sizes of the smallest heaps, and how many errors were not found."""
     lines, sizes = list(HEAD), []
-    for make in errors:
+    for make in progress.over(errors, "errors"):
         cells, size = measured(make, g1heap, seed)
         lines.append(f"| {' | '.join([make.__doc__.splitlines()[0], *cells])} |")
         print(lines[-1], flush=True)

@@ -45,6 +45,8 @@ TOP = stamp.TOP
 OUT = TOP / "out"
 NOTHING_CHANGED = "nothing has changed since the last proved build"
 SECONDS = 120  # that rt may take to say so
+# rt ci takes away what rt built before. As long as out/PROVED is right, tools/build.py builds nothing.
+ANEW = "remove out/PROVED and call tools/build.py"
 SYSTEM = "x86_64-linux"
 DOC = "share/doc/g1pause"
 # Scripts that a release has no use for.
@@ -73,11 +75,17 @@ def commit_of():
     return git("rev-parse", "HEAD"), int(git("log", "-1", "--format=%ct"))
 
 
-def ask_stamp():
-    """Sees that out/PROVED is of these sources, programs and kit."""
+def ask_proved():
+    """Sees that there is out/PROVED, and returns what it says."""
     said = stamp.read(OUT, "PROVED")
     if not said:
         raise Refused("out/ has no proved programs: call tools/build.py")
+    return said
+
+
+def ask_stamp():
+    """Sees that out/PROVED is of these sources, programs and kit."""
+    said = ask_proved()
     if not stamp.is_current(OUT, "PROVED", stamp.sources()):
         raise Refused("the programs of out/ are not those of the sources: call tools/build.py")
     if said["kit"] != stamp.kit():
@@ -88,15 +96,15 @@ def ask_rt(name):
     """Sees that rt holds the program for the one that it proved and built, and that it is that of out/."""
     built = TOP / "crates" / name / "out" / name
     if not built.is_file() or stamp.sum_of(built) != stamp.sum_of(OUT / name):
-        raise Refused(f"out/{name} is not the program that rt built: call tools/build.py")
+        raise Refused(f"out/{name} is not the program that rt built: {ANEW}")
     try:
         done = subprocess.run(["rt", "run", "--", "--version"], cwd=TOP / "crates" / name, stdin=subprocess.DEVNULL,
                               stdout=subprocess.PIPE, stderr=subprocess.STDOUT, text=True, errors="replace",
                               timeout=SECONDS, check=False)
     except subprocess.TimeoutExpired:
-        raise Refused(f"rt has to prove {name} again: call tools/build.py") from None
+        raise Refused(f"rt has to prove {name} again: {ANEW}") from None
     if done.returncode or NOTHING_CHANGED not in done.stdout:
-        raise Refused(f"rt does not say that {name} is proved: call tools/build.py")
+        raise Refused(f"rt does not say that {name} is proved: {ANEW}")
 
 
 def split(kit, name, room):
@@ -235,10 +243,11 @@ def main():
     parser = argparse.ArgumentParser(description=__doc__, formatter_class=argparse.RawDescriptionHelpFormatter)
     parser.add_argument("folder", metavar="FOLDER", type=pathlib.Path, help="where the release is written")
     options = parser.parse_args()
-    for tool, where in (("rt", "the Rattle kit"), ("git", "git")):
-        if not shutil.which(tool):
-            parser.error(f"there is no {tool} on the path: it comes with {where}")
     try:
+        ask_proved()  # before anybody installs something for a release that will be refused
+        for tool, where in (("rt", "the Rattle kit"), ("git", "git")):
+            if not shutil.which(tool):
+                parser.error(f"there is no {tool} on the path: it comes with {where}")
         made = release(options.folder)
     except Refused as refusal:
         print(f"release.py: {refusal}", file=sys.stderr)

@@ -677,12 +677,12 @@ class Commands(unittest.TestCase):
         self.assertIn(text, errors)
 
     def test_a_missing_virtual_machine_is_one_line_and_a_status(self):
-        for script in ("judge.py", "across.py", "plants.py", "pause.py"):
+        for script in ("judge.py", "across.py", "plants.py", "pause.py", "all.py"):
             self.stopped(script, "no-such-java", "there is no java 'no-such-java'")
             self.stopped(script, shutil.which("true"), "no java: ")
 
     def test_a_missing_judge_is_one_line_and_a_status(self):
-        for script in ("judge.py", "across.py", "plants.py"):
+        for script in ("judge.py", "across.py", "plants.py", "all.py"):
             self.stopped(script, "no-such-java", "G1HEAP=no-such-judge: there is no such program", "no-such-judge")
 
     def with_java(self, body, script, *words):
@@ -744,6 +744,34 @@ class Commands(unittest.TestCase):
                               env=dict(os.environ, G1HEAP=sys.executable), timeout=60)
         said = "; ".join(line.removesuffix(": NOT JUDGED") for line in bad)
         self.assertEqual((done.returncode, done.stdout, done.stderr), (2, "", f"judge: {said}\n"))
+
+    def all_parts(self, major, fails="no.py"):
+        """What all.py says of a java of this version if its parts are scripts of two lines. The one that is named fails."""
+        shutil.copytree(HOTSPOT, self.folder / "examples/hotspot", dirs_exist_ok=True)
+        shutil.copytree(TOOLS / "lib", self.folder / "tools/lib", dirs_exist_ok=True)
+        for name in ("hprof2image.py", "hprof_path.py"):
+            shutil.copy(TOOLS / name, self.folder / "tools")
+        for name in ("judge.py", "across.py", "plants.py"):
+            text = f"import sys\nprint('{name}', *sys.argv[1:])\nsys.exit({int(name == fails)})\n"
+            (self.folder / "examples/hotspot" / name).write_text(text)
+        pause = self.folder / "examples/hotspot/pause.py"
+        pause.write_text(pause.read_text().replace("def main():\n", f"def main():\n    print('pause.py', *sys.argv[1:])\n    return {int(fails == 'pause.py')}\n"))
+        (self.folder / "java").write_text(f"#!/bin/sh\necho version '\"{major}.0.1\"' >&2\n")
+        (self.folder / "java").chmod(0o755)
+        done = subprocess.run([sys.executable, "examples/hotspot/all.py", "./java"], capture_output=True, text=True, cwd=self.folder,
+                              env=dict(os.environ, G1HEAP=sys.executable), timeout=60, check=False)
+        self.assertEqual(done.stderr, "")
+        return done.returncode, done.stdout.splitlines()
+
+    def test_one_run_has_all_parts(self):
+        parts = ["== judge", "judge.py ./java", "== across", "across.py ./java", "== plants", "plants.py ./java",
+                 "== live", "plants.py --live ./java", "== pause"]
+        self.assertEqual(self.all_parts(25), (0, [*parts, "pause.py ./java", "5 passed, 0 failed"]))
+        self.assertEqual(self.all_parts(26, "plants.py"), (1, [*parts, "pause.py ./java", "3 passed, 2 failed"]))
+        self.assertEqual(self.all_parts(25, "pause.py"), (1, [*parts, "pause.py ./java", "4 passed, 1 failed"]))
+        left = "./java is a JDK 17, and pauses are compared with JDK 25: NOT RUN"
+        self.assertEqual(self.all_parts(17), (3, [*parts, left, "4 passed, 0 failed, 1 not run"]))
+        self.assertEqual(self.all_parts(17, "across.py"), (1, [*parts, left, "3 passed, 1 failed, 1 not run"]))
 
     def test_numbers_that_are_none_are_refused(self):
         for script, option in (("judge.py", "--objects"), ("across.py", "--steps"), ("plants.py", "--seeds"), ("pause.py", "--objects")):

@@ -193,7 +193,8 @@ def try_runtimes(judge, folder, binary):
         done = subprocess.run(words, capture_output=True, text=True, env=environment, timeout=60, check=False)
         said = done.stdout.splitlines()
         good = name == "a good adapter"
-        as_expected = all(line in said for line in lines) and done.stderr == "" and done.returncode == (0 if good else 1)
+        errors = progress.without_signs(done.stderr.splitlines())
+        as_expected = all(line in said for line in lines) and not errors and done.returncode == (0 if good else 1)
         if not judge.judge(f"runtimes/judge.py: {name}", as_expected):
             print("\n".join(said), done.stderr)
 

@@ -412,7 +412,7 @@ sys.exit(0 if verdict.startswith("same") else 1 if verdict.startswith("differ") 
                 (pathlib.Path(room) / name).chmod(0o755)
             done = subprocess.run([TOP / "examples/runtimes/judge.py", *words], capture_output=True, text=True, check=False, timeout=60,
                                   env={**os.environ, "PATH": f"{room}:{os.environ['PATH']}"})
-        self.assertEqual(done.stderr, "")
+        self.assertEqual(progress.without_signs(done.stderr.splitlines()), [])
         return done.returncode, done.stdout.splitlines()
 
     def test_a_good_collector_passes(self):
@@ -884,7 +884,8 @@ class Scripts(unittest.TestCase):
 
     def test_each_says_what_it_wants(self):
         for path in self.scripts:
-            if path.name in ("build_judge.py", "test_bench.py", "test_hprof.py", "test_images.py", "test_planted.py", "test_tools.py"):  # they want nothing
+            if path.name in ("build_judge.py", "test_bench.py", "test_hprof.py", "test_images.py", "test_planted.py", "test_tools.py",
+                             "test_build.py"):  # they want nothing
                 continue
             with self.subTest(path.name):
                 status, out, errors = self.run_script(path)

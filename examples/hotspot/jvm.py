@@ -1,4 +1,4 @@
-"""What judge.py, across.py and plants.py share: the collectors of a java, a run of Judge, the verdict on two dumps."""
+"""What the scripts of this folder share: the collectors of a java, a run of Judge, the verdict on two dumps."""
 import argparse
 import os
 import pathlib
@@ -77,19 +77,29 @@ def heap_program():
     return found
 
 
+def version_of(command):
+    """The path of a java, and its version."""
+    path = shutil.which(command)
+    if not path:
+        raise Problem(f"there is no java '{command}'")
+    status, _, errors = run(path, "-version")
+    found = re.search(r'version "([^"]+)"', errors)
+    if status or not found:
+        raise Problem(f"{command}: no java: {last_line(errors)}")
+    return path, found[1]
+
+
+def major_of(version):
+    """The number that a version begins with, or the one behind 1."""
+    return int(re.match(r"(?:1\.)?(\d+)", version)[1])
+
+
 class Java:
     """A java, with the programs compiled for it."""
 
     def __init__(self, command, room, sources=("Judge.java",)):
-        self.command = shutil.which(command)
-        if not self.command:
-            raise Problem(f"there is no java '{command}'")
-        status, _, errors = run(self.command, "-version")
-        found = re.search(r'version "([^"]+)"', errors)
-        if status or not found:
-            raise Problem(f"{command}: no java: {last_line(errors)}")
-        self.version = found[1]
-        self.major = int(re.match(r"(?:1\.)?(\d+)", self.version)[1])
+        self.command, self.version = version_of(command)
+        self.major = major_of(self.version)
         self.classes = room / f"classes_{self.version}"
         beside = pathlib.Path(self.command).resolve().with_name("javac")
         javac = str(beside) if beside.exists() else shutil.which("javac")

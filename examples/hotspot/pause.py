@@ -28,6 +28,7 @@ sys.path[:0] = [str(jvm.TOP / "tools"), str(jvm.TOP / "tools" / "lib")]
 from hprof import CLASS, INSTANCE, Dump, Refusal, instance_shape  # noqa: E402
 from hprof2image import CONTINUATION, FIRST, FREE, ORDINARY, Image, Index  # noqa: E402
 
+JDK = 25
 HOW = ("young", "mixed", "humongous")
 MEGABYTE, CARD, MEGABYTES = 1 << 17, 64, 120  # the first two count words
 MOST_APART = 0.05
@@ -274,8 +275,8 @@ def work(options):
     with tempfile.TemporaryDirectory() as folder:
         room = pathlib.Path(folder)
         java = jvm.Java(options.java, room, SOURCES)
-        if java.major < 25:
-            raise jvm.Problem(f"{options.java} is a JDK {java.major}: this needs JDK 25")
+        if java.major < JDK:
+            raise jvm.Problem(f"{options.java} is a JDK {java.major}: this needs JDK {JDK}")
         program, passed, failed = jvm.heap_program(), 0, 0
         for how in [options.only] if options.only else HOW:
             try:

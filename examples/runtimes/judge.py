@@ -27,6 +27,10 @@ import sys
 import tempfile
 
 HERE = pathlib.Path(__file__).resolve().parent
+sys.path.insert(0, str(HERE.parent.parent / "tools" / "lib"))
+
+import progress  # noqa: E402 (it is in tools/lib/)
+
 SAME = re.compile(r"same objects (\d+) words (\d+)")
 MOVED = re.compile(r"^moved (\d+) of \d+ by name$", re.MULTILINE)
 STEP = re.compile(r"(before|again)|(collection) (\S+)(?: (\d+) (moved|freed))?|(planted) (\S+) ([a-z]+) (\S+) (\S+)(?: (\S+))?")
@@ -259,7 +263,10 @@ def main():
     runtimes = chosen(options, parser)
     if not shutil.which("g1heap"):
         parser.error("no g1heap on the path: tools/build.py --unproved builds out/g1heap")
-    counts = [judge(name, runtime, options) for name, runtime in runtimes.items()]
+    counts = []
+    for name, runtime in runtimes.items():
+        with progress.doing(f"judging {name}"):
+            counts.append(judge(name, runtime, options))
     passed, failed = (sum(count[k] for count in counts) for k in (0, 1))
     print(f"{passed} passed, {failed} failed")
     return 1 if failed or not passed else 0

@@ -14,6 +14,7 @@ import subprocess
 import time
 from concurrent.futures import FIRST_COMPLETED, ThreadPoolExecutor, wait
 
+import kept
 import progress
 import stamp
 
@@ -69,10 +70,7 @@ class Room:
                 self.link(name, part)
         for name in self.below:
             self.link(name, "out/rlib")
-        named = {*self.below, self.name}
-        rows = [row for row in (self.top / "crates.txt").read_text().splitlines(True) if row.split(":")[0].split()[:1]
-                and row.split(":")[0].split()[0] in named]
-        (self.folder / "crates.txt").write_text("".join(rows))
+        (self.folder / "crates.txt").write_text(stamp.lines_of([*self.below, self.name], self.top))
         self.move(self.real / "out", self.crate / "out")
         return self
 
@@ -113,6 +111,13 @@ def put_back(top):
         if (top / "crates" / room.name).is_dir():
             Room.move(crate / "out", top / "crates" / room.name / "out")
     shutil.rmtree(rooms, ignore_errors=True)
+
+
+def take_kept(top, names):
+    """Takes from `rt ci` the libraries that it proved of these crates, and returns how many."""
+    put_back(top)
+    with progress.doing("looking for what rt ci proved"):
+        return kept.take(top, names)
 
 
 class Lanes:

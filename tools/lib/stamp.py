@@ -26,6 +26,12 @@ def rows(top=TOP):
     return {name: [word for word in used if word in uses] for name, used in uses.items()}
 
 
+def lines_of(names, top=TOP):
+    """The lines of crates.txt that name these crates."""
+    lines = (top / "crates.txt").read_text().splitlines(True)
+    return "".join(line for line in lines if line.partition("#")[0].partition(":")[0].split()[:1] in ([name] for name in names))
+
+
 def needed(names, uses):
     """These crates and all below them, lowest first."""
     found = []
