@@ -4,7 +4,7 @@ use g1_command::Refusal;
 use g1_hprof::Refused;
 use g1_image::{MAGIC, Stale};
 use g1_report::{Location, WrongNames};
-use g1_text::Wrong;
+use g1_text::{Expected, Wrong};
 use g1_words::{Device, Fault, Heap, Limits};
 use g1heap_request::{SET_TIP, names_regions};
 use std::alloc::{AllocError, Global};
@@ -127,6 +127,8 @@ pub enum Hint {
     Look(Look),
     /// The line of this number ends as lines of DOS do.
     Dos(u64),
+    /// The sizes that a heap has are these.
+    Sizes,
 }
 
 impl fmt::Display for Hint {
@@ -140,6 +142,10 @@ impl fmt::Display for Hint {
                 f,
                 "line {number} ends with a carriage return: the file has DOS line ends"
             ),
+            Hint::Sizes => {
+                let ranges = Refused::Sizes;
+                write!(f, "{ranges}")
+            }
         }
     }
 }
@@ -178,6 +184,10 @@ pub fn wrong_line<E: Display>(
 /// The refusal of a file for its lines, which are in these bytes, or for its words that reference no object.
 pub fn refuse_lines(alloc: Global, name: &str, bytes: &[u8], wrong: Wrong) -> Refusal {
     match wrong {
+        Wrong::Line {
+            number,
+            expected: Expected::Sizes,
+        } => wrong_line(alloc, name, number, &Expected::Sizes, Some(Hint::Sizes)),
         Wrong::Line { number, expected } => match hint_on(alloc, bytes) {
             // They are the lines that are wanted.
             Ok(Some(Hint::Look(Look::Lines | Look::Graph))) => {

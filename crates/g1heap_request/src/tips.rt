@@ -1,4 +1,5 @@
 //! What is said beside a mistake, where the words show what was meant.
+use crate::usage::NAME;
 use clap::Error;
 use clap::error::ErrorKind;
 use g1_command::{Argument, Form, Refusal, Usage};
@@ -50,13 +51,9 @@ fn tip_for(
     words: &[String],
     commands: &[Usage],
 ) -> Result<Option<String>, AllocError> {
-    let first = match words.first() {
-        Some(word) => word.as_str(),
-        None => "",
-    };
     match error.kind() {
         ErrorKind::InvalidSubcommand => tip_of_command(alloc, quoted(text)),
-        ErrorKind::UnknownArgument => tip_of_argument(alloc, quoted(text), first, commands),
+        ErrorKind::UnknownArgument => tip_of_argument(alloc, text, words, commands),
         ErrorKind::MissingRequiredArgument if has_empty_set(words) => {
             Ok(Some(String::from_str(alloc, EMPTY_SET)?))
         }
@@ -112,22 +109,126 @@ fn quoted(text: &str) -> &str {
     word
 }
 
-// The tip for an argument that a command doesn't have: a region, or an option of other commands.
+// The tip for an argument that a command doesn't have.
 fn tip_of_argument(
     alloc: Global,
-    argument: &str,
+    text: &str,
+    words: &[String],
+    commands: &[Usage],
+) -> Result<Option<String>, AllocError> {
+    let argument = quoted(text);
+    let command = match words.first() {
+        Some(word) => word.as_str(),
+        None => "",
+    };
+    match argument.strip_prefix('-') {
+        None => tip_of_word(alloc, argument, words, command, commands),
+        Some(rest) if names_regions(rest) => Ok(Some(String::from_str(alloc, SIGN)?)),
+        Some(_) => tip_of_option(alloc, text, argument, command, commands),
+    }
+}
+
+const SIGN: &str = "a number begins with a digit";
+
+// What a number may be that a command has no place for: the option by which it is given, where the command has that.
+const NUMBERS: [(&str, &str); 4] = [
+    ("--set", SET_TIP),
+    (
+        "--budget",
+        "a budget is given by '--budget', as in '--budget 1000'",
+    ),
+    (
+        "--sizes",
+        "sizes are given by '--sizes', as in '--sizes 4096,64,512'",
+    ),
+    (
+        "--object",
+        "an object is given by '--object', and a region by '--region'",
+    ),
+];
+
+// The commands whose answer is an image.
+const MAKERS: [&str; 3] = ["pause", "make", "convert"];
+
+// The tip for a word that is no option: a number, a file behind one, or a file to write.
+fn tip_of_word(
+    alloc: Global,
+    word: &str,
+    words: &[String],
     command: &str,
     commands: &[Usage],
 ) -> Result<Option<String>, AllocError> {
-    let is_region = names_regions(argument) || REGION_OPTIONS.contains(&argument);
-    if is_region && takes(commands, command, "--set") {
-        return Ok(Some(String::from_str(alloc, SET_TIP)?));
+    if names_regions(word) || has_bare_number(words) {
+        for (option, tip) in NUMBERS {
+            if takes(commands, command, option) {
+                return Ok(Some(String::from_str(alloc, tip)?));
+            }
+        }
     }
-    owners(alloc, argument, commands)
+    if !MAKERS.contains(&command) {
+        return Ok(None);
+    }
+    let tip = format!(in alloc; "the file to write is given by '-o', as in '-o {word}'")?;
+    Ok(Some(tip))
+}
+
+// Whether a word is written as numbers are, and stands behind no option whose value it may be.
+fn has_bare_number(words: &[String]) -> bool {
+    let mut is_value = false;
+    for word in words {
+        let word = word.as_str();
+        if !is_value && names_regions(word) {
+            return true;
+        }
+        is_value = word.starts_with('-') && !word.contains('=');
+    }
+    false
 }
 
 // What the option of regions is called by mistake.
 const REGION_OPTIONS: [&str; 3] = ["--region", "--regions", "--collect"];
+
+// What other programs have, and how it is had here.
+const OPTIONS: [(&str, &str); 4] = [
+    ("-q", QUIET),
+    ("--quiet", QUIET),
+    ("--silent", QUIET),
+    ("--fields", "only tools/hprof2image.py lists fields"),
+];
+
+const QUIET: &str = "the status answers, too: '> /dev/null' leaves the lines out";
+
+// The tip for an option. Where clap knows a similar one, its own tip is kept.
+fn tip_of_option(
+    alloc: Global,
+    text: &str,
+    option: &str,
+    command: &str,
+    commands: &[Usage],
+) -> Result<Option<String>, AllocError> {
+    if REGION_OPTIONS.contains(&option) && takes(commands, command, "--set") {
+        return Ok(Some(String::from_str(alloc, SET_TIP)?));
+    }
+    for (other, tip) in OPTIONS {
+        if option == other {
+            return Ok(Some(String::from_str(alloc, tip)?));
+        }
+    }
+    let owners = owners(alloc, option, commands)?;
+    if owners.is_some() || text.split_once("tip: a similar").is_some() {
+        return Ok(owners);
+    }
+    Ok(Some(help_tip(alloc, command, commands)?))
+}
+
+fn help_tip(alloc: Global, command: &str, commands: &[Usage]) -> Result<String, AllocError> {
+    for usage in commands {
+        if usage.name == command {
+            return format!(in alloc; "'{NAME} {command} --help' lists the options");
+        }
+    }
+    format!(in alloc; "'{NAME} --help' lists the commands")
+}
 
 fn takes(commands: &[Usage], name: &str, option: &str) -> bool {
     for usage in commands {
