@@ -24,7 +24,7 @@ pub fn program<T: Threads + Sync, R: Read, W: Write, E: Write>(
 ) -> u8 {
     match perform(rt, alloc, words, reader, writer) {
         Ok(()) => 0,
-        Err(refusal) => refuse(NAME, &refusal, errors),
+        Err(refusal) => refuse(NAME, &refusal, errors).status,
     }
 }
 
