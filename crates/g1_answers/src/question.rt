@@ -1,4 +1,9 @@
 //! What is asked of an image.
+ghost use Rattle.std.specs.Prelude.{◌≡◌, ◌⊎◌, ℕ, IfOk, IfErr};
+ghost use Rattle.g1_choose.specs.Cost.{IsCost};
+ghost use Rattle.g1_work.specs.Team.{AreWorkers, IsChunk};
+ghost use Rattle.g1_answers.specs.Numbers.{RefusesNumbers, RefusesQuestion, RefusesPause, RefusesImage, AreSettingsOf, IsChoiceOf, cost_asked};
+
 use crate::arguments::sharing_of;
 use clap::ArgMatches;
 use g1_choose::Cost;
@@ -102,7 +107,11 @@ impl Question {
     /// # Errors
     ///
     /// `Fault::Settings` of a number out of its range.
-    pub fn settings(self) -> Result<Settings, Fault> {
+    pub fn settings(self) -> Result<Settings, Fault>
+        ensures cost { IfOk result (λ s. s.cost ≡ cost_asked self) }
+        ensures taken { IfOk result (λ s. (which : ℕ) → RefusesQuestion self which → ⊥) }
+        ensures refused { IfErr result (λ e. (which : ℕ) × RefusesQuestion self which × (e ≡ Fault.Settings which)) }
+    {
         match self {
             Question::Cover => settings_of(ALONE, FREE),
             Question::Regions(sharing) | Question::Live(sharing) => settings_of(sharing, FREE),
@@ -117,7 +126,11 @@ impl NewImage {
     /// # Errors
     ///
     /// `Fault::Settings` of a number out of its range, and of a budget beside regions; `Fault::Memory`.
-    pub fn settings(&self, alloc: Global) -> Result<Settings, Fault> {
+    pub fn settings(&self, alloc: Global) -> Result<Settings, Fault>
+        ensures settings { IfOk result (AreSettingsOf self.now) }
+        ensures taken { IfOk result (λ s. (which : ℕ) → RefusesImage self.now which → ⊥) }
+        ensures refused { IfErr result (λ e. (e ≡ Fault.Memory) ⊎ ((which : ℕ) × RefusesImage self.now which × (e ≡ Fault.Settings which))) }
+    {
         match self {
             NewImage::Repacked(sharing) => settings_of(*sharing, FREE),
             NewImage::Paused(pause) => pause_settings(alloc, pause),
@@ -130,21 +143,54 @@ impl NewImage {
 /// # Errors
 ///
 /// `Fault::Settings` of a number out of its range.
-pub fn settings_of(sharing: Sharing, cost: Cost) -> Result<Settings, Fault> {
-    Settings::new(sharing.workers, sharing.chunk, cost, Choice::Budget(0))
+pub fn settings_of(sharing: Sharing, cost: Cost) -> Result<Settings, Fault>
+    ensures cost { IfOk result (λ s. s.cost ≡ cost) }
+    ensures taken { IfOk result (λ s. (which : ℕ) → RefusesNumbers sharing cost which → ⊥) }
+    ensures refused { IfErr result (λ e. (which : ℕ) × RefusesNumbers sharing cost which × (e ≡ Fault.Settings which)) }
+{
+    settings_with(sharing, cost, Choice::Budget(0))
+}
+
+// The settings of this choice, which is not looked at.
+fn settings_with(sharing: Sharing, cost: Cost, choice: Choice) -> Result<Settings, Fault>
+    ensures cost { IfOk result (λ s. s.cost ≡ cost) }
+    ensures choice { IfOk result (λ s. s.choice ≡ choice) }
+    ensures taken { IfOk result (λ s. (which : ℕ) → RefusesNumbers sharing cost which → ⊥) }
+    ensures refused { IfErr result (λ e. (which : ℕ) × RefusesNumbers sharing cost which × (e ≡ Fault.Settings which)) }
+{
+    let settings = Settings::new(sharing.workers, sharing.chunk, cost, choice)?;
+    know_ranges(&settings);
+    Ok(settings)
+}
+
+// What settings keep by their type.
+fn know_ranges(settings: &Settings)
+    ensures workers { AreWorkers settings.now.workers }
+    ensures chunk { IsChunk settings.now.chunk }
+    ensures cost { IsCost settings.now.cost }
+{
+    let _ = (settings.workers(), settings.chunk(), settings.cost());
 }
 
 // A budget beside regions is looked for last, as the number of its fault is the highest.
-fn pause_settings(alloc: Global, pause: &Pause) -> Result<Settings, Fault> {
-    let Sharing { workers, chunk } = pause.sharing;
-    let Some(budget) = pause.budget else {
-        let regions = pause.regions.as_slice().to_vec(alloc)?;
-        return Settings::new(workers, chunk, pause.cost, Choice::Given(regions));
-    };
-    let settings = Settings::new(workers, chunk, pause.cost, Choice::Budget(budget))?;
-    if pause.regions.is_empty() {
-        Ok(settings)
-    } else {
-        Err(Fault::Settings(4))
+fn pause_settings(alloc: Global, pause: &Pause) -> Result<Settings, Fault>
+    ensures cost { IfOk result (λ s. s.cost ≡ pause.now.cost) }
+    ensures choice { IfOk result (λ s. IsChoiceOf pause.now s.choice) }
+    ensures taken { IfOk result (λ s. (which : ℕ) → RefusesPause pause.now which → ⊥) }
+    ensures refused { IfErr result (λ e. (e ≡ Fault.Memory) ⊎ ((which : ℕ) × RefusesPause pause.now which × (e ≡ Fault.Settings which))) }
+{
+    match pause.budget {
+        None => {
+            let regions = pause.regions.as_slice().to_vec(alloc)?;
+            settings_with(pause.sharing, pause.cost, Choice::Given(regions))
+        }
+        Some(budget) => {
+            let settings = settings_with(pause.sharing, pause.cost, Choice::Budget(budget))?;
+            if pause.regions.is_empty() {
+                Ok(settings)
+            } else {
+                Err(Fault::Settings(4))
+            }
+        }
     }
 }

@@ -9,7 +9,7 @@
 //!    of regions, as 1,2,5-9, which `tie` has tied to their option before clap sees the words.
 //! 4. `read_all` reads the whole input, `deliver` writes the whole answer; `deliver_text` writes one
 //!    that a person reads, who may stop.
-//! 5. `report` writes what is reported of a refusal, in one write, and `refuse` gives its exit status besides.
+//! 5. `report` writes what is reported of a refusal, in one write, and `refuse` returns how the program ends by it.
 #![tactic(auto)]
 
 mod arguments;
@@ -23,7 +23,7 @@ mod values;
 pub use arguments::words;
 pub use costs::{BUDGET, BYTE, CARD, DIRTY, FIXED, cost_of};
 pub use lists::{regions_in, tie};
-pub use refusal::{Refusal, refuse, report};
+pub use refusal::{Ending, Refusal, refuse, report};
 pub use streams::{BROKEN_PIPE, LineReader, deliver, deliver_text, read_all};
 pub use table::{Argument, FILE, FLAG, Form, Program, Usage, VALUE, match_words};
 pub use values::{

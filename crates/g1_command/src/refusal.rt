@@ -1,8 +1,9 @@
 //! Why a request is not answered, and its exit status.
-ghost use Rattle.std.specs.Prelude.{◌≡◌, OnOk};
-ghost use Rattle.std.specs.Io.KnownBytes.{Appends};
-ghost use Rattle.g1_command.specs.Refusals.{refusal_text, status_of_refusal};
+ghost use Rattle.std.specs.Prelude.{◌≡◌, IsOk};
+ghost use Rattle.g1_command.specs.Deliveries.{Delivers};
+ghost use Rattle.g1_command.specs.Refusals.{refusal_text, EndsBy};
 
+use crate::streams::write_all;
 use arrayvec::ArrayString;
 use g1_words::Fault;
 use std::alloc::{AllocError, AllocFailed};
@@ -48,6 +49,28 @@ impl<T: Drop> From<AllocFailed<T>> for Refusal {
 // is no request for memory, so that a want of memory can be told.
 const LINE: usize = 128;
 
+/// How a program ends.
+#[derive(Clone, Copy)]
+pub struct Ending {
+    /// Its exit status.
+    pub status: u8,
+    /// Whether all that there was to report was written.
+    pub reported: io::Result<()>,
+}
+
+impl Ending {
+    /// The end of a program that did what was asked, and has nothing to report.
+    pub fn done() -> Ending
+        ensures status { result.status ≡ 0 }
+        ensures reported { IsOk result.reported }
+    {
+        Ending {
+            status: 0,
+            reported: Ok(()),
+        }
+    }
+}
+
 /// Writes what is reported of a refusal, in one write. The line of a fault begins with the program's
 /// name.
 ///
@@ -55,15 +78,15 @@ const LINE: usize = 128;
 ///
 /// That of the write. A beginning of the text may be written then.
 pub fn report<E: Write>(program: &str, refusal: &Refusal, errors: &mut E) -> io::Result<()>
-    ensures { OnOk result (Appends (E.contents errors.old) (E.contents errors.new) (refusal_text program.now refusal.now)) }
+    ensures { Delivers (refusal_text program.now refusal.now) (E.contents errors.old) (E.contents errors.new) result }
 {
     match refusal {
-        Refusal::Told { text, .. } => errors.write_all(text.as_bytes()),
+        Refusal::Told { text, .. } => write_all(text.as_bytes(), errors),
         Refusal::Fault(fault) => {
             let number = fault.number();
             let mut line = ArrayString::<LINE>::new();
             match writeln!(line, "{program}: fault {number}: {fault}") {
-                Ok(()) => errors.write_all(line.as_bytes()),
+                Ok(()) => write_all(line.as_bytes(), errors),
                 // It has room if the name has at most 40 bytes.
                 Err(_) => Err(io::Error::from(ErrorKind::WriteZero)),
             }
@@ -71,13 +94,14 @@ pub fn report<E: Write>(program: &str, refusal: &Refusal, errors: &mut E) -> io:
     }
 }
 
-/// Reports a refusal, and returns its exit status, also if nothing can be written.
-pub fn refuse<E: Write>(program: &str, refusal: &Refusal, errors: &mut E) -> u8
-    ensures { result ≡ status_of_refusal refusal.now }
+/// Reports a refusal, and returns how the program ends by it: with its exit status, also if nothing can be written.
+pub fn refuse<E: Write>(program: &str, refusal: &Refusal, errors: &mut E) -> Ending
+    ensures { EndsBy program.now refusal.now (E.contents errors.old) (E.contents errors.new) result }
 {
-    let _ = report(program, refusal, errors);
-    match refusal {
+    let reported = report(program, refusal, errors);
+    let status = match refusal {
         Refusal::Told { status, .. } => *status,
         Refusal::Fault(fault) => fault.status(),
-    }
+    };
+    Ending { status, reported }
 }

@@ -1,4 +1,9 @@
 //! The whole of an input, and the whole of an answer.
+ghost use Rattle.std.specs.Prelude.{◌≡◌, ◌⊎◌, ℕ, List, IfOk, IfErr, IfSome, MatchResult, take};
+ghost use Rattle.std.specs.Io.{WritesAtMost};
+ghost use Rattle.std.specs.Io.KnownBytes.{Appends, WriteAppends};
+ghost use Rattle.g1_command.specs.Deliveries.{Delivers, DeliversText};
+
 use g1_words::{Device, Fault};
 use std::alloc::Global;
 use std::io;
@@ -13,6 +18,8 @@ struct Watched<'r, R> {
 }
 
 impl<'r, R: Read> Read for Watched<'r, R> {
+    ghost remaining = { λ w. R.remaining w.inner.now };
+
     fn read(&mut self, buf: &mut [u8]) -> io::Result<usize> {
         match self.inner.read(buf) {
             Ok(count) => Ok(count),
@@ -29,7 +36,10 @@ impl<'r, R: Read> Read for Watched<'r, R> {
 /// # Errors
 ///
 /// `Fault::Device(Device::Input)` if a read failed, and `Fault::Memory`.
-pub fn read_all<R: Read>(alloc: Global, reader: &mut R) -> Result<Vec<u8>, Fault> {
+pub fn read_all<R: Read>(alloc: Global, reader: &mut R) -> Result<Vec<u8>, Fault>
+    ensures bytes { IfOk result (λ v. IfSome (R.remaining reader.old) (λ xs. xs ≡ v.items)) }
+    ensures fault { IfErr result (λ e. (e ≡ Fault.Memory) ⊎ (e ≡ Fault.Device Device.Input)) }
+{
     let mut bytes = Vec::new(alloc);
     let mut watched = Watched {
         inner: reader,
@@ -85,7 +95,10 @@ impl<'r, R: Read> LineReader<'r, R> {
 /// # Errors
 ///
 /// `Fault::Device(Device::Output)` if a write failed: a beginning of the answer may be written then.
-pub fn deliver<W: Write>(answer: &[u8], writer: &mut W) -> Result<(), Fault> {
+pub fn deliver<W: Write>(answer: &[u8], writer: &mut W) -> Result<(), Fault>
+    ensures text { Delivers answer.now (W.contents writer.old) (W.contents writer.new) result }
+    ensures fault { IfErr result (λ e. e ≡ Fault.Device Device.Output) }
+{
     match write_whole(answer, writer) {
         Ok(()) => Ok(()),
         Err(_) => Err(Fault::Device(Device::Output)),
@@ -101,7 +114,9 @@ pub const BROKEN_PIPE: u8 = 141;
 /// # Errors
 ///
 /// `Fault::Device(Device::Output)` if a write failed in another way.
-pub fn deliver_text<W: Write>(status: u8, text: &[u8], writer: &mut W) -> Result<u8, Fault> {
+pub fn deliver_text<W: Write>(status: u8, text: &[u8], writer: &mut W) -> Result<u8, Fault>
+    ensures text { DeliversText status text.now (W.contents writer.old) (W.contents writer.new) result }
+{
     match write_whole(text, writer) {
         Ok(()) => Ok(status),
         Err(error) if error.kind() == ErrorKind::BrokenPipe => Ok(BROKEN_PIPE),
@@ -109,7 +124,44 @@ pub fn deliver_text<W: Write>(status: u8, text: &[u8], writer: &mut W) -> Result
     }
 }
 
-fn write_whole<W: Write>(answer: &[u8], writer: &mut W) -> io::Result<()> {
-    writer.write_all(answer)?;
-    writer.flush()
+// Writes all of the bytes, and hands on what the writer kept back.
+fn write_whole<W: Write>(bytes: &[u8], writer: &mut W) -> io::Result<()>
+    ensures { Delivers bytes.now (W.contents writer.old) (W.contents writer.new) result }
+{
+    match write_all(bytes, writer) {
+        Ok(()) => writer.flush(),
+        Err(error) => Err(error),
+    }
+}
+
+/// Writes all of the bytes: std's call does not promise that a beginning of them stands after a failed write.
+pub(crate) fn write_all<W: Write>(bytes: &[u8], writer: &mut W) -> io::Result<()>
+    ensures { Delivers bytes.now (W.contents writer.old) (W.contents writer.new) result }
+{
+    let mut at = 0;
+    while at < bytes.len() {
+        match write_again(&bytes[at..], writer) {
+            Ok(0) => return Err(io::Error::from(ErrorKind::WriteZero)),
+            Ok(count) => at += count,
+            Err(error) => return Err(error),
+        }
+    }
+    Ok(())
+}
+
+// How often a call is made that a signal interrupts: without end, as far as anyone can see.
+const TRIES: u64 = u64::MAX;
+
+// One write, made again if a signal interrupted it.
+fn write_again<W: Write>(bytes: &[u8], writer: &mut W) -> io::Result<usize>
+    ensures bound { WritesAtMost result bytes.now }
+    ensures bytes { WriteAppends (W.contents writer.old) (W.contents writer.new) result bytes.now }
+{
+    for _ in 0..TRIES {
+        match writer.write(bytes) {
+            Err(error) if error.kind() == ErrorKind::Interrupted => {}
+            done => return done,
+        }
+    }
+    Err(io::Error::from(ErrorKind::Interrupted))
 }

@@ -14,7 +14,7 @@ use std::test::Fail;
 // The refusal is reported as this line, in one write, and has this status.
 fn expect_refusal<T: Abort>(rt: &T, alloc: Global, refusal: &Refusal, line: &str, wanted: u8) {
     let mut errors = Stream::of(Vec::new(alloc), usize::MAX);
-    let ended = refuse("the_name", refusal, &mut errors);
+    let ended = refuse("the_name", refusal, &mut errors).status;
     let found = (ended, errors.bytes.as_slice());
     expect_equal(rt, found, (wanted, line.as_bytes()));
     expect_equal(rt, errors.longest, line.len());

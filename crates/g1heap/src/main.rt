@@ -22,7 +22,7 @@ fn main(rt: HostRuntime) -> ExitCode {
             };
             program(&rt, alloc, call, &mut reader, &mut writer, &mut errors)
         }
-        Err(refusal) => refuse(NAME, &refusal, &mut errors),
+        Err(refusal) => refuse(NAME, &refusal, &mut errors).status,
     };
     ExitCode::from(status)
 }

@@ -3,7 +3,7 @@ use crate::heard::Heard;
 use crate::output::write_file;
 use crate::refusal::of_device;
 use crate::sources::{find_collected, find_source};
-use g1_answers::{answer, write_image};
+use g1_answers::{ToWriter, answer, write_image};
 use g1_command::Refusal;
 use g1_words::{Device, Fault};
 use g1heap_request::{Ask, Output, Rewrite};
@@ -69,7 +69,7 @@ fn send_new<T: Threads + Sync + Files, R: Read, W: Write>(
         source.limits(),
         &rewrite.wanted,
         &mut heard,
-        writer,
+        &mut ToWriter::new(writer),
     ) {
         Ok(()) => Ok(()),
         // It is no fault of the image's file.

@@ -55,9 +55,9 @@ pub fn program<T: Threads + Sync + Files, R: Read, W: Write, E: Write>(
     match outcome {
         Ok(status) => status,
         Err(Refusal::Fault(Fault::Device(Device::Output))) => {
-            refuse(NAME, &of_output(alloc, heard.reason()), errors)
+            refuse(NAME, &of_output(alloc, heard.reason()), errors).status
         }
-        Err(refusal) => refuse(NAME, &refusal, errors),
+        Err(refusal) => refuse(NAME, &refusal, errors).status,
     }
 }
 

@@ -17,7 +17,7 @@ fn main(rt: HostRuntime) -> ExitCode {
             &mut rt.stdout(),
             &mut errors,
         ),
-        Err(refusal) => refuse(NAME, &refusal, &mut errors),
+        Err(refusal) => refuse(NAME, &refusal, &mut errors).status,
     };
     ExitCode::from(status)
 }

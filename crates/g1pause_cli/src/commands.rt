@@ -1,7 +1,7 @@
 //! What the program does with a request.
 use crate::options::{Replay, Request, parse};
 use crate::usage::NAME;
-use g1_answers::{answer, settings_of, write_image};
+use g1_answers::{ToWriter, answer, settings_of, write_image};
 use g1_command::{Refusal, deliver, read_all, refuse};
 use g1_trace::run_text;
 use g1_words::{Fault, Limits};
@@ -24,7 +24,7 @@ pub fn program<T: Threads + Sync, R: Read, W: Write, E: Write>(
 ) -> u8 {
     match perform(rt, alloc, words, reader, writer) {
         Ok(()) => 0,
-        Err(refusal) => refuse(NAME, &refusal, errors),
+        Err(refusal) => refuse(NAME, &refusal, errors).status,
     }
 }
 
@@ -54,7 +54,10 @@ fn fulfil<T: Threads + Sync, R: Read, W: Write>(
             let lines = answer(rt, alloc, Limits::Specified, *question, reader)?;
             deliver(lines.as_slice(), writer)
         }
-        Request::Write(wanted) => write_image(rt, alloc, Limits::Specified, wanted, reader, writer),
+        Request::Write(wanted) => {
+            let mut writer = ToWriter::new(writer);
+            write_image(rt, alloc, Limits::Specified, wanted, reader, &mut writer)
+        }
         Request::Run(replay) => {
             let replies = run(rt, alloc, replay, reader)?;
             deliver(replies.as_slice(), writer)

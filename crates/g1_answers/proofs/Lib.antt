@@ -1,0 +1,4 @@
+pub mod Ranges
+pub mod Given
+pub mod Answered
+pub mod Remade

@@ -1,0 +1,4 @@
+pub mod Numbers
+pub mod Replies
+pub mod Questions
+pub mod Images
