@@ -1,1 +1,13 @@
 pub mod Searched
+pub mod Texts
+pub mod Meets
+pub mod FirstLeads
+pub mod Targets
+pub mod CardLeads
+pub mod LeadOrder
+pub mod AllMet
+pub mod Routes
+pub mod FirstPath
+pub mod NoSlots
+pub mod Kept
+pub mod Reasons

@@ -1,4 +1,8 @@
 //! What finds an object.
+ghost use Rattle.std.specs.Prelude.{◌≡◌, ◌++◌, ◌∷◌, decimal, codes, string_bytes, OnOk};
+ghost use Rattle.g1_text.specs.Lines.{further};
+ghost use Rattle.g1_explain.specs.Lines.{finder_words};
+
 use g1_words::Object;
 use std::alloc::AllocError;
 
@@ -14,28 +18,21 @@ pub(crate) enum Finder {
     Object { index: usize, at: u64, slot: usize },
 }
 
-/// Adds what a finder is.
-pub(crate) fn push_finder(text: &mut String, finder: Finder) -> Result<(), AllocError> {
-    match finder {
-        Finder::Root { number } => write!(text, "root {number}"),
-        Finder::Card { card, slot } => write!(text, "card {card} slot {slot}"),
-        Finder::Object { at, slot, .. } => write!(text, "object {at} slot {slot}"),
-    }
-}
-
 /// Adds a word and the numbers of an object.
-pub(crate) fn push_object(
-    text: &mut String,
-    word: &str,
-    object: &Object,
-) -> Result<(), AllocError> {
+pub(crate) fn push_object(text: &mut String, word: &str, object: &Object) -> Result<(), AllocError>
+    ensures { OnOk result (string_bytes text.new ≡ string_bytes text.old ++ (word.now ++ 32 ∷ (decimal object.now.at ++ 32 ∷ (decimal object.now.size ++ 47 ∷ decimal object.now.refs)))) }
+{
     let Object { at, size, refs } = *object;
     write!(text, "{word} {at} {size}/{refs}")
 }
 
 /// Ends a line with what finds its object.
-pub(crate) fn push_found(text: &mut String, finder: Finder) -> Result<(), AllocError> {
-    text.push_str(" by ")?;
-    push_finder(text, finder)?;
-    text.push('\n')
+pub(crate) fn push_found(text: &mut String, finder: Finder) -> Result<(), AllocError>
+    ensures { OnOk result (string_bytes text.new ≡ string_bytes text.old ++ further (codes "by" ∷ finder_words finder)) }
+{
+    match finder {
+        Finder::Root { number } => writeln!(text, " by root {number}"),
+        Finder::Card { card, slot } => writeln!(text, " by card {card} slot {slot}"),
+        Finder::Object { at, slot, .. } => writeln!(text, " by object {at} slot {slot}"),
+    }
 }

@@ -1,4 +1,10 @@
 //! What finds each object: the first reference to it, in the order of the search.
+ghost use Rattle.std.specs.Prelude.{◌≡◌, ◌≤◌, ℕ, flat_map, length, OnOk, IfOk};
+ghost use Rattle.g1_words.specs.Heap.{word};
+ghost use Rattle.g1_explain.specs.declared.finder.Finder.TheVariants.{Card};
+ghost use Rattle.g1_explain.specs.Finders.{lead, root_leads, found_leads};
+ghost use Rattle.g1_explain.specs.Searched.{AreObjects, AreMet, is_next, met, card_leads, slots_leads};
+
 use crate::failure::Failure;
 use crate::finder::{Finder, push_found, push_object};
 use crate::objects::slots_at;
@@ -30,35 +36,6 @@ pub(crate) fn push_survivors(
     Ok(())
 }
 
-// The objects in the order in which a search finds them, the finders of the first ones, and how many finders
-// are wanted.
-#[derive(Drop)]
-struct Meeting<'a> {
-    found: &'a [u64],
-    finders: Vec<Finder>,
-    wanted: usize,
-}
-
-impl<'a> Meeting<'a> {
-    // A reference word, where it is the first one to an object: that object is the next.
-    fn meet(&mut self, word: u64, finder: Finder) -> Result<(), AllocError> {
-        let target = word.checked_sub(1);
-        if target.is_some() && target == self.next() {
-            self.finders.push(finder)?;
-        }
-        Ok(())
-    }
-
-    // The object that is to be found next.
-    fn next(&self) -> Option<u64> {
-        self.found.get(self.finders.len()).copied()
-    }
-
-    fn is_whole(&self) -> bool {
-        self.finders.len() >= self.wanted
-    }
-}
-
 /// The finders of the first ones of the objects at some addresses, which `discover` found from these cards, as
 /// many as are wanted. There are fewer if the cards lead to others.
 pub(crate) fn finders(
@@ -67,22 +44,47 @@ pub(crate) fn finders(
     cards: &[u32],
     found: &[u64],
     wanted: usize,
-) -> Result<Vec<Finder>, AllocError> {
+) -> Result<Vec<Finder>, AllocError>
+    ensures { AreObjects walkable.now.heap found.now → IfOk result (λ v. AreMet walkable.now.heap cards.now found.now v.items) }
+{
     let heap = walkable.heap();
-    let mut meeting = Meeting {
-        found,
-        finders: Vec::with_capacity(alloc, wanted)?,
-        wanted,
-    };
-    meet_roots(heap, &mut meeting)?;
-    meet_cards(alloc, walkable, cards, &mut meeting)?;
-    meet_objects(heap, found, &mut meeting)?;
-    Ok(meeting.finders)
+    let mut finders = Vec::with_capacity(alloc, wanted)?;
+    meet_roots(heap, found, &mut finders)?;
+    meet_cards(alloc, walkable, cards, found, &mut finders)?;
+    meet_objects(heap, found, wanted, &mut finders)?;
+    Ok(finders)
 }
 
-fn meet_roots(heap: &Heap, meeting: &mut Meeting<'_>) -> Result<(), AllocError> {
-    for (number, word) in heap.roots().iter().enumerate() {
-        meeting.meet(*word, Finder::Root { number })?;
+// A reference word, where it is the first one to an object: that object is the next.
+fn meet(
+    found: &[u64],
+    finders: &mut Vec<Finder>,
+    word: u64,
+    finder: Finder,
+) -> Result<(), AllocError>
+    ensures { OnOk result (finders.new.items ≡ met found.now finders.old.items (lead finder word)) }
+{
+    if let Some(target) = word.checked_sub(1) {
+        if is_next(found, finders.len(), target) {
+            finders.push(finder)?;
+        }
+    }
+    Ok(())
+}
+
+// Whether the object at an address is the next one, of which so many were found.
+fn is_next(found: &[u64], count: usize, target: u64) -> bool
+    ensures { result ≡ is_next found.now count target }
+{
+    count < found.len() && found[count] == target
+}
+
+fn meet_roots(heap: &Heap, found: &[u64], finders: &mut Vec<Finder>) -> Result<(), AllocError>
+    ensures { OnOk result (finders.new.items ≡ met found.now finders.old.items (root_leads heap.now)) }
+{
+    let roots = heap.roots();
+    for (number, word) in roots.iter().enumerate() {
+        meet(found, finders, *word, Finder::Root { number })?;
     }
     Ok(())
 }
@@ -91,11 +93,14 @@ fn meet_cards(
     alloc: Global,
     walkable: &Walkable<'_>,
     cards: &[u32],
-    meeting: &mut Meeting<'_>,
-) -> Result<(), AllocError> {
+    found: &[u64],
+    finders: &mut Vec<Finder>,
+) -> Result<(), AllocError>
+    ensures { OnOk result (finders.new.items ≡ met found.now finders.old.items (card_leads walkable.now.heap cards.now)) }
+{
     for card in cards {
         let slots = walkable.slots_on(alloc, *card);
-        meet_card(walkable.heap(), *card, slots.as_slice(), meeting)?;
+        meet_card(walkable.heap(), *card, slots.as_slice(), found, finders)?;
     }
     Ok(())
 }
@@ -104,21 +109,32 @@ fn meet_card(
     heap: &Heap,
     card: u32,
     slots: &[u64],
-    meeting: &mut Meeting<'_>,
-) -> Result<(), AllocError> {
+    found: &[u64],
+    finders: &mut Vec<Finder>,
+) -> Result<(), AllocError>
+    ensures { OnOk result (finders.new.items ≡ met found.now finders.old.items (flat_map (λ p. lead (Card card p) (word heap.now p)) slots.now)) }
+{
     for slot in slots {
         let finder = Finder::Card { card, slot: *slot };
-        meeting.meet(heap.words().at(*slot), finder)?;
+        meet(found, finders, heap.words().at(*slot), finder)?;
     }
     Ok(())
 }
 
-fn meet_objects(heap: &Heap, found: &[u64], meeting: &mut Meeting<'_>) -> Result<(), AllocError> {
-    for (index, at) in found.iter().enumerate() {
-        if meeting.is_whole() {
-            break;
-        }
-        meet_slots(index, *at, slots_at(heap, *at), meeting)?;
+// The slots of the objects, one after the other, until as many finders are there as are wanted.
+fn meet_objects(
+    heap: &Heap,
+    found: &[u64],
+    wanted: usize,
+    finders: &mut Vec<Finder>,
+) -> Result<(), AllocError>
+    ensures { AreObjects heap.now found.now → OnOk result ((m : ℕ) × (m ≤ length found.now) × (finders.new.items ≡ met found.now finders.old.items (found_leads heap.now found.now m))) }
+{
+    let mut index = 0;
+    'objects: while index < found.len() && finders.len() < wanted {
+        let at = found[index];
+        meet_slots(index, at, slots_at(heap, at), found, finders)?;
+        index += 1;
     }
     Ok(())
 }
@@ -127,10 +143,13 @@ fn meet_slots(
     index: usize,
     at: u64,
     slots: &[u64],
-    meeting: &mut Meeting<'_>,
-) -> Result<(), AllocError> {
+    found: &[u64],
+    finders: &mut Vec<Finder>,
+) -> Result<(), AllocError>
+    ensures { OnOk result (finders.new.items ≡ met found.now finders.old.items (slots_leads index at slots.now)) }
+{
     for (slot, word) in slots.iter().enumerate() {
-        meeting.meet(*word, Finder::Object { index, at, slot })?;
+        meet(found, finders, *word, Finder::Object { index, at, slot })?;
     }
     Ok(())
 }

@@ -1,5 +1,7 @@
 //! A heap whose objects can be found from its cards.
 ghost use Rattle.std.specs.Prelude.{◌≡◌, ◌<◌};
+ghost use Rattle.g1_image.specs.Image.{IsImage};
+ghost use Rattle.g1_rem.specs.Slots.{slots_on};
 
 use g1_image::Image;
 use g1_pause::Before;
@@ -39,13 +41,16 @@ impl<'a> Walkable<'a> {
     }
 
     pub(crate) fn heap(&self) -> &'a Heap
-        ensures { result.now ≡ self.now.heap }
+        ensures same { result.now ≡ self.now.heap }
+        ensures valid { IsImage self.now }
     {
         self.image.heap()
     }
 
     /// The addresses of the slots on a card, rising.
-    pub(crate) fn slots_on(&self, alloc: Global, card: u32) -> SmallVec<u64, 64> {
+    pub(crate) fn slots_on(&self, alloc: Global, card: u32) -> SmallVec<u64, 64>
+        ensures { result.items ≡ slots_on self.now.heap card }
+    {
         let heap = self.image.heap();
         if u64::from(card) < heap.geometry().cards() {
             slots_on(alloc, heap, self.starts, card)

@@ -1,0 +1,38 @@
+use Rattle.std.proofs.Common.{◌≡◌, ◌<◌, ◌≤◌, ◌+◌, ◌-◌, ◌*◌, ◌/◌, ◌%◌, ◌^◌, ◌∙◌, ◌∷◌, ◌++◌, [], ℕ, suc, true, false, Bool, List, ap, sym, subst, arith, refl, flat_map, slice_index, slice_index_or, get_or, string_bytes, length, reverse, append_assoc}
+use Rattle.std.specs.Prelude.{IfSome}
+use Rattle.g1_words.specs.Heap.{Heap, region_of, object_at, kind, is_first}
+use Rattle.g1_words.specs.Header.{header}
+use Rattle.g1_words.specs.declared.object.Object.{Object}
+use Rattle.g1_words.specs.Survivors.{Survivors}
+use Rattle.g1_words.specs.Valid.{IsValid}
+use Rattle.g1_mark.specs.Marked.{used}
+use Rattle.g1_explain.specs.Searched.{IsFoundPath, AreObjects}
+use Rattle.g1_explain.proofs.Reasons.{some_of, none_of, found_objects, live_found, live_none, kept_reason, garbage_reason, humongous_kept}
+use Rattle.g1_explain.proofs.Searched.{region_cards}
+use Rattle.g1_explain.proofs.keeping.ordinary_reason.Goals as goal
+
+pub discover-requires-clause-cards : goal.discover-requires-clause-cards
+discover-requires-clause-cards g c κs within = (region_cards c.args.walkable.now.heap c.heap.result.now c.heap.ensures.same c.heap.ensures.valid.heap c.args.region c.args.cards.now c.args.cards.now refl c.requires.cards).0
+
+pub discover-requires-clause-outside : goal.discover-requires-clause-outside
+discover-requires-clause-outside g c κs within = (region_cards c.args.walkable.now.heap c.heap.result.now c.heap.ensures.same c.heap.ensures.valid.heap c.args.region c.args.cards.now c.args.cards.now refl c.requires.cards).1
+
+pub discover-requires-clause-lead_in : goal.discover-requires-clause-lead_in
+discover-requires-clause-lead_in g c κs within = (region_cards c.args.walkable.now.heap c.heap.result.now c.heap.ensures.same c.heap.ensures.valid.heap c.args.region c.args.cards.now c.args.cards.now refl c.requires.cards).2
+
+pub path_to-requires : goal.path_to-requires
+path_to-requires g c =
+    let h : Heap = c.args.walkable.now.heap in
+    let found : Survivors h (c.args.region ∷ []) c.deref.result.now =
+    subst (Survivors h (c.args.region ∷ [])) (sym c.deref.ensures.value) (subst (λ (g : Heap). Survivors g (c.args.region ∷ []) c.in_ok-found.found.items) c.heap.ensures.same c.in_ok-found.ensures.ok) in
+    record { objects = found_objects h (c.args.region ∷ []) c.deref.result.now c.heap.ensures.valid.heap found }
+
+pub returns-in-Some : goal.returns-in-Some
+returns-in-Some g c =
+    let h : Heap = c.args.walkable.now.heap in
+    let found : Survivors h (c.args.region ∷ []) c.deref.result.now =
+    subst (Survivors h (c.args.region ∷ [])) (sym c.deref.ensures.value) (subst (λ (g : Heap). Survivors g (c.args.region ∷ []) c.in_ok-found.found.items) c.heap.ensures.same c.in_ok-found.ensures.ok) in
+    let cards = region_cards h h refl c.heap.ensures.valid.heap c.args.region c.args.cards.now c.args.cards.now refl c.requires.cards in
+    kept_reason c.args.walkable.now c.heap.ensures.valid.heap c.args.at c.args.region c.requires.region c.requires.unrooted c.args.cards.now c.deref.result.now cards.0 cards.1 cards.2 found
+    c.in-Some.path c.kept_by.result
+    (subst (λ o. IfSome o (λ v. IsFoundPath h c.args.cards.now c.deref.result.now c.args.at v.items)) c.in-Some.is c.in_ok-path.ensures.some) c.kept_by.ensures

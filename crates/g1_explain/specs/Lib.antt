@@ -1,0 +1,4 @@
+pub mod Finders
+pub mod Searched
+pub mod Keeping
+pub mod Lines
