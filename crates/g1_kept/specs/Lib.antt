@@ -5,3 +5,4 @@ pub mod Walk
 pub mod Pause
 pub mod RegionSet
 pub mod Laws
+pub mod Wording
