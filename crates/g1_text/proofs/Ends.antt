@@ -1,6 +1,8 @@
 -- The last element of a list.
-use Rattle.std.proofs.Common.{◌≡◌, ℕ, ◌+◌, ◌-◌, List, [], ◌∷◌, ◌++◌, length, get_or, drop, set, refl, sym, ◌∙◌, ap, arith}
+use Rattle.std.proofs.Common.{◌≡◌, ◌≤◌, ℕ, ◌+◌, ◌-◌, List, [], ◌∷◌, ◌++◌, length, get_or, drop, set, refl, sym, ◌∙◌, ap, subst, arith}
+use Rattle.std.specs.Prelude.{All}
 use Rattle.std.proofs.lemmas.List.{set_at}
+use Rattle.g1_words.specs.declared.region.Region.{Region}
 
 module _ {A : Type 0} where
   length_push : (below : List A) (q : A) → length (below ++ q ∷ []) ≡ length below + 1
@@ -33,3 +35,9 @@ module _ {A : Type 0} where
       let rest = one_end xs ys x y (ap (drop 1) e) in
       let first = ap (λ zs. get_or zs 0 a) e in
       ((λ t. first t ∷ rest.0 t), rest.1)
+
+-- the top of the last region is within a bound that all tops keep
+pub last_within : (w : ℕ) (below : List Region) (q : Region) (rs : List Region) → rs ≡ below ++ q ∷ [] → All (λ r. r.top ≤ w) rs → q.top ≤ w
+last_within w below q rs e tops =
+    let all : All (λ (r : Region). r.top ≤ w) (below ++ q ∷ []) = subst (All (λ r. r.top ≤ w)) e tops in
+    subst (λ (r : Region). r.top ≤ w) (at_end below q q (length below) refl) (all (length below) q (let more = length_push below q in omega (arith, more)))

@@ -8,8 +8,9 @@ use Rattle.std.specs.Prelude.{not}
 use Rattle.std.specs.Str.{bytes_eq}
 use Rattle.std.proofs.lemmas.Bool.{false≢true}
 use Rattle.std.proofs.lemmas.Slice.Eq.{bytes_eq-Decides}
+use Rattle.std.proofs.lemmas.Slice.Zip.{all_zipped_more}
 use Rattle.g1_words.specs.Geometry.{IsWithinBounds}
-use Rattle.g1_text.specs.Forms.{Form, Spells, IsBelow, IsDataWord, IsCurrentWord, Word, Single, Maybe, ◌▸◌, Number, Labelled, Current, Many, Abridges, Holding, Sizes, IsTarget, HasFront, HasFirst}
+use Rattle.g1_text.specs.Forms.{Form, Spells, IsBelow, IsDataWord, IsCurrentWord, Word, Single, Maybe, ◌▸◌, Number, Labelled, Current, Many, Abridges, Holding, Sizes, IsTarget, StandsFor, HasFront, HasFirst, HasValues}
 use Rattle.g1_text.specs.Graphs.{Shortens}
 use Rattle.g1_text.specs.ByName.{Fills}
 
@@ -74,6 +75,16 @@ one_more_read Sort i {left = left} r s =
 
 pub many_read : (Sort : List ℕ → Type 0) (i n : ℕ) {before left : List (List ℕ)} → i ≡ n → HasFront (Many Sort i) before left → HasFront (Many Sort n) before left
 many_read Sort i n {before = before} {left = left} e r = subst (λ k. HasFront (Many Sort k) before left) e r
+
+-- no value, and one more
+pub no_values : (words : List (List ℕ)) → HasValues 0 [] words words
+no_values words = ([], refl, refl, tt)
+
+pub one_more_value : (i n : ℕ) (values : List ℕ) {before middle left : List (List ℕ)} → HasValues i values before middle → HasFirst (StandsFor n) middle left → HasValues (i + 1) (values ++ n ∷ []) before left
+one_more_value i n values {left = left} r s =
+    let count = length-append r.0 (s.0 ∷ []) in
+    let all = r.2 in
+    (r.0 ++ s.0 ∷ [], r.1 ∙ ap (λ ws. r.0 ++ ws) s.1 ∙ sym (append_assoc r.0 (s.0 ∷ []) left), omega (arith, count, all), all_zipped_more StandsFor values r.0 n s.0 r.3 s.2)
 
 -- all words were read
 pub all_read : (Sort : List ℕ → Type 0) (i : ℕ) {before left : List (List ℕ)} → HasFront (Many Sort i) before left → i ≡ length before → All Sort before
@@ -157,7 +168,7 @@ module _ (Sort : List ℕ → Type 0) (null : Sort (codes "-")) (slots count giv
     abridged how,
   )
 
-  spelled : ((missing ≡ 0) × (words ≡ new)) ⊎ (words ≡ new ++ codes ".." ∷ [])
+  pub spelled : ((missing ≡ 0) × (words ≡ new)) ⊎ (words ≡ new ++ codes ".." ∷ [])
       → Shortens (refs ++ replicate (slots - length refs) (codes "-")) (values ++ replicate (count - length values) (codes "0")) words
   spelled (inl e) =
       let full : length refs ≡ slots = omega (arith, e.0, sum, some, fewer) in

@@ -30,3 +30,11 @@ pub mod Written
 pub mod ByName
 pub mod NamedLines
 pub mod OneGraph
+pub mod Laying
+pub mod HeapWords
+pub mod Carrying
+pub mod NamedWords
+pub mod Lookups
+pub mod Pushing
+pub mod Holding
+pub mod Rooms

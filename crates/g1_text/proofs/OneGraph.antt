@@ -52,15 +52,15 @@ dot_name : (t : Option (List ℕ)) → IsTargetName t → target_word t ≢ code
 dot_name None is e = let l : 1 ≡ 2 = ap length e in absurd (omega (arith, l))
 dot_name (Some name) is e = is.1 e
 
-names_no_dots : (slots : List (Option (List ℕ))) → All IsTargetName slots → All (λ w. w ≢ codes "..") (map target_word slots)
+pub names_no_dots : (slots : List (Option (List ℕ))) → All IsTargetName slots → All (λ w. w ≢ codes "..") (map target_word slots)
 names_no_dots [] all = All-nil (λ w. w ≢ codes "..")
 names_no_dots (t ∷ slots) all = All-cons (λ w. w ≢ codes "..") (target_word t) (map target_word slots) (dot_name t (all 0 None (omega arith))) (names_no_dots slots (λ k d lt. all (suc k) d (omega (arith, lt))))
 
-data_no_dots : (words : List (List ℕ)) → All IsDataWord words → All (λ w. w ≢ codes "..") words
+pub data_no_dots : (words : List (List ℕ)) → All IsDataWord words → All (λ w. w ≢ codes "..") words
 data_no_dots words all k d lt e = dots_no_data (subst IsDataWord e (all k d lt))
 
 -- so they stand at the end of no words in full
-not_last : (words : List (List ℕ)) → All (λ w. w ≢ codes "..") (words ++ codes ".." ∷ []) → ⊥
+pub not_last : (words : List (List ℕ)) → All (λ w. w ≢ codes "..") (words ++ codes ".." ∷ []) → ⊥
 not_last [] all = all 0 [] (omega arith) refl
 not_last (w ∷ words) all = not_last words (λ k d lt. all (suc k) d (omega (arith, lt)))
 
@@ -86,7 +86,7 @@ take_both zero (x ∷ xs) ys = let e : 0 ≡ 0 - length (x ∷ xs) = omega arith
 take_both (suc n) (x ∷ xs) ys = let e : n - length xs ≡ suc n - length (x ∷ xs) = omega arith in ap (λ zs. x ∷ zs) (take_both n xs ys ∙ ap (λ k. take n xs ++ take k ys) e)
 
 module _ (xs us ys vs words : List (List ℕ)) (same_slots : length xs ≡ length us) (same_data : length ys ≡ length vs) (no_dots : All (λ w. w ≢ codes "..") (xs ++ ys)) (none_there : All (λ w. w ≢ codes "..") (us ++ vs)) where
-  shortened_one : Shortens xs ys words → Shortens us vs words → (xs ≡ us) × (ys ≡ vs)
+  pub shortened_one : Shortens xs ys words → Shortens us vs words → (xs ≡ us) × (ys ≡ vs)
   shortened_one (inl p) (inl q) = fronts_one xs us ys vs same_slots (sym p ∙ q)
   shortened_one (inl p) (inr q) = absurd (not_last (take q.0 (us ++ vs)) (subst (All (λ w. w ≢ codes "..")) (sym p ∙ q.1) no_dots))
   shortened_one (inr p) (inl q) = absurd (not_last (take p.0 (xs ++ ys)) (subst (All (λ w. w ≢ codes "..")) (sym q ∙ p.1) none_there))
@@ -116,7 +116,7 @@ target_one None (Some name) p q e = absurd (q.0 (sym e))
 target_one (Some name) None p q e = absurd (p.0 e)
 target_one (Some name) (Some other) p q e = ap Some e
 
-targets_one : (ts us : List (Option (List ℕ))) → All IsTargetName ts → All IsTargetName us → map target_word ts ≡ map target_word us → ts ≡ us
+pub targets_one : (ts us : List (Option (List ℕ))) → All IsTargetName ts → All IsTargetName us → map target_word ts ≡ map target_word us → ts ≡ us
 targets_one [] [] p q e = refl
 targets_one [] (u ∷ us) p q e = let l = ap length e in absurd (omega (arith, l))
 targets_one (t ∷ ts) [] p q e = let l = ap length e in absurd (omega (arith, l))

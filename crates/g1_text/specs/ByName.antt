@@ -1,10 +1,10 @@
 -- What lines of objects by name hold when they are read.
-use Rattle.std.specs.Prelude.{◌≡◌, ◌≢◌, ℕ, Option, Some, None, List, [], ◌∷◌, ◌++◌, ◌+◌, length, map, All}
+use Rattle.std.specs.Prelude.{◌≡◌, ◌≢◌, ◌≤◌, ℕ, Option, Some, None, List, [], ◌∷◌, ◌++◌, ◌+◌, length, map, All}
 use Rattle.std.specs.List.{AllZip, position_from}
 use Rattle.std.specs.Str.{bytes_eq}
 use Rattle.std.specs.HashMap.{get_by}
 use Rattle.std.specs.Borrow.{Bor}
-use Rattle.g1_words.specs.Geometry.{Geometry}
+use Rattle.g1_words.specs.Geometry.{Geometry, most_roots}
 use Rattle.g1_text.specs.declared.named.Lines.{Lines}
 use Rattle.g1_text.specs.declared.placing.Entry.{Entry}
 use Rattle.g1_text.specs.declared.reading.HeapSizes.{HeapSizes}
@@ -60,6 +60,7 @@ pub record HasRead (l : Lines) (g : NamedGraph) : Type 0 where
   pub sizes : AreSizes l.sizes g.sizes
   pub roots : map read_root l.roots.items ≡ map root_word g.roots
   pub targets : All (λ r. IsTargetName r.target) g.roots
+  pub few : length g.roots ≤ most_roots
   pub holders : map read_holder l.holders.items ≡ holders_from 0 g.roots
   pub entries : AllZip IsEntryOf l.entries.items g.objects
   pub places : (name : List ℕ) → get_by (λ k. bytes_eq name k.now) l.places ≡ place_of name g.objects

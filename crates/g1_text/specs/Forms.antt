@@ -1,6 +1,7 @@
 -- The forms of lines: which words may stand in a line, one after the other, in the full form and in the short ones.
 use Rattle.std.specs.Prelude.{◌≡◌, ◌≢◌, ◌⊎◌, ◌<◌, ◌+◌, ◌-◌, ◌*◌, ◌%◌, ◌^◌, ℕ, zero, suc, Option, Some, false, List, [], ◌∷◌, ◌++◌, length, take, codes, bit_xor, is_nan, to_bits, All, IsUtf8}
 use lib.Ieee.{Float, binary64}
+use Rattle.std.specs.List.{AllZip}
 use Rattle.std.specs.Str.Parse.{IsNumeral, digits_value}
 use Rattle.std.specs.Float.Parse.{parse_float}
 use Rattle.g1_words.specs.Geometry.{IsWithinBounds}
@@ -219,6 +220,10 @@ HasFront form before left = (front : List (List ℕ)) × (before ≡ front ++ le
 -- the next word was read, and it is of this sort
 abbrev pub HasFirst : (List ℕ → Type 0) → List (List ℕ) → List (List ℕ) → Type 0
 HasFirst Sort before left = (word : List ℕ) × (before ≡ word ∷ left) × Sort word
+
+-- so many data words were read, and these words stand for them
+abbrev pub HasValues : ℕ → List ℕ → List (List ℕ) → List (List ℕ) → Type 0
+HasValues count values before left = (front : List (List ℕ)) × (before ≡ front ++ left) × (length front ≡ count) × AllZip StandsFor values front
 
 -- no next word is of this sort
 abbrev pub HasNoFirst : (List ℕ → Type 0) → List (List ℕ) → Type 0

@@ -8,3 +8,6 @@ pub mod Refused
 pub mod Forms
 pub mod Graphs
 pub mod ByName
+pub mod Laid
+pub mod Carried
+pub mod Filled

@@ -1,4 +1,5 @@
-ghost use Rattle.std.specs.Prelude.{IfErr};
+ghost use Rattle.std.specs.Prelude.{◌≡◌, IfErr};
+ghost use Rattle.g1_text.specs.Drafts.{content};
 ghost use Rattle.g1_text.specs.Refused.{IsLineOrMemory};
 
 use crate::draft::{Draft, Placed};
@@ -9,12 +10,28 @@ use std::alloc::AllocError;
 /// Gives each region the cards of other regions that hold a slot which leads into it.
 pub(crate) fn cover(draft: &mut Draft) -> Result<(), Wrong>
     ensures fault { IfErr result IsLineOrMemory }
+    ensures kept { content draft.new ≡ record (content draft.old) { remembered = (content draft.new).remembered } }
 {
     check_empty(&draft.remembered, &draft.lines.remembered)?;
     let geometry = draft.geometry;
-    for object in &draft.objects {
-        let slots = slots_of(&draft.words, object);
-        cover_slots(&mut draft.remembered, &geometry, object, slots)?;
+    cover_objects(
+        &mut draft.remembered,
+        &geometry,
+        draft.objects.as_slice(),
+        draft.words.as_slice(),
+    )?;
+    Ok(())
+}
+
+fn cover_objects(
+    remembered: &mut Vec<Vec<u32>>,
+    geometry: &Geometry,
+    objects: &[Placed],
+    words: &[u64],
+) -> Result<(), AllocError> {
+    for object in objects {
+        let slots = slots_of(words, object);
+        cover_slots(remembered, geometry, object, slots)?;
     }
     Ok(())
 }

@@ -70,11 +70,15 @@ pub(crate) struct Told {
 }
 
 impl Draft {
-    ghost use Rattle.std.specs.Prelude.{◌≡◌, ◌≤◌, ◌<◌, ◌^◌, ◌+◌, ◌-◌, ◌*◌, ◌++◌, [], ◌∷◌, List, Some, Ok, false, length, min, IfOk, OnOk, MatchResult};
+    ghost use Rattle.std.specs.Prelude.{◌≡◌, ◌≤◌, ◌<◌, ◌^◌, ◌+◌, ◌-◌, ◌*◌, ◌++◌, [], ◌∷◌, ℕ, List, Some, Ok, false, length, min, replicate, All, IfOk, IfErr, OnOk, MatchResult};
+    ghost use Rattle.g1_words.specs.Geometry.{Geometry as GeometryOf, IsWithinBounds};
+    ghost use Rattle.g1_words.specs.Heap.{free_region};
+    ghost use Rattle.g1_words.specs.declared.object.Object.{Object};
     ghost use Rattle.g1_words.specs.declared.region.Region.{Region as RegionOf};
     ghost use Rattle.g1_words.specs.declared.region.Kind.TheVariants.{Continuation};
     ghost use Rattle.g1_text.specs.Content.{begun, HasSpace, top_behind, beyond_behind};
     ghost use Rattle.g1_text.specs.Drafts.{content, Becomes};
+    ghost use Rattle.g1_text.specs.Laid.{AreLaid, IsLaid, IsLaidOut, laid_content};
 
     /// A heap of these sizes with nothing in it.
     pub(crate) fn new(
@@ -124,7 +128,8 @@ impl Draft {
 
     /// Adds free regions up to this one.
     pub(crate) fn fill_up_to(&mut self, region: u64) -> Result<(), AllocError>
-        ensures { region ≤ length (content self.old).regions → OnOk result (content self.new ≡ content self.old) }
+        ensures same { region ≤ length (content self.old).regions → OnOk result (content self.new ≡ content self.old) }
+        ensures free { length (content self.old).regions ≤ region → OnOk result (content self.new ≡ record (content self.old) { regions = (content self.old).regions ++ replicate (region - length (content self.old).regions) free_region }) }
     {
         for _ in self.regions.len() as u64..region {
             self.add_empty(Kind::Free)?;
@@ -181,7 +186,8 @@ impl Draft {
 
     /// Adds all regions in which the humongous object above them goes on.
     pub(crate) fn close_run(&mut self) -> Result<(), AllocError>
-        ensures { self.old.beyond ≡ 0 → OnOk result (content self.new ≡ content self.old) }
+        ensures same { self.old.beyond ≡ 0 → OnOk result (content self.new ≡ content self.old) }
+        ensures laid { (g : GeometryOf) (os : List Object) (regions : List RegionOf) (beyond : ℕ) → IsWithinBounds g.w g.k g.n → AreLaid g regions beyond os → content self.old ≡ laid_content g regions beyond → OnOk result (IsLaid g os (content self.new)) }
     {
         for _ in 0..self.geometry.regions() {
             if self.beyond == 0 {
@@ -192,9 +198,24 @@ impl Draft {
         Ok(())
     }
 
+    /// Adds regions as `close_run` does. A line needs less of its contract than a layout.
+    pub(crate) fn end_run(&mut self) -> Result<(), AllocError>
+        ensures { self.old.beyond ≡ 0 → OnOk result (content self.new ≡ content self.old) }
+    {
+        self.close_run()
+    }
+
+    /// Adds regions as `fill_up_to` does. A line needs less of its contract than a layout.
+    pub(crate) fn free_up_to(&mut self, region: u64) -> Result<(), AllocError>
+        ensures { region ≤ length (content self.old).regions → OnOk result (content self.new ≡ content self.old) }
+    {
+        self.fill_up_to(region)
+    }
+
     /// Adds the regions that have no line.
     pub(crate) fn close(&mut self) -> Result<(), AllocError>
-        ensures { self.old.beyond ≡ 0 → self.old.geometry.n ≤ length (content self.old).regions → OnOk result (content self.new ≡ content self.old) }
+        ensures same { self.old.beyond ≡ 0 → self.old.geometry.n ≤ length (content self.old).regions → OnOk result (content self.new ≡ content self.old) }
+        ensures laid { (g : GeometryOf) (os : List Object) → IsLaid g os (content self.old) → OnOk result (IsLaidOut g os (content self.new)) }
     {
         self.close_run()?;
         let regions = self.geometry.regions();
@@ -204,6 +225,8 @@ impl Draft {
     /// Takes room for an object of this many words behind the last one.
     pub(crate) fn take_room(&mut self, size: u64) -> Result<(), Expected>
         ensures small { IfOk result (λ _. size < 2 ^ 32) }
+        ensures kept { IfErr result (λ _. content self.new ≡ content self.old) }
+        ensures taken { length (content self.old).regions ≤ self.old.geometry.n → All (λ q. q.top ≤ self.old.geometry.w) (content self.old).regions → OnOk result ((below : List RegionOf) × (q : RegionOf) × ((content self.old).regions ≡ below ++ q ∷ []) × HasSpace q.kind self.old.geometry (length below) q.top size × (content self.new ≡ record (content self.old) { regions = below ++ record q { top = top_behind q.kind self.old.geometry q.top size } ∷ []; beyond = beyond_behind q.kind self.old.geometry self.old.beyond size })) }
         ensures room { (below : List RegionOf) (q : RegionOf) → (content self.old).regions ≡ below ++ q ∷ [] → length below < self.old.geometry.n → size < 2 ^ 32 → HasSpace q.kind self.old.geometry (length below) q.top size → (result ≡ Ok tt) × (content self.new ≡ record (content self.old) { regions = below ++ record q { top = top_behind q.kind self.old.geometry q.top size } ∷ []; beyond = beyond_behind q.kind self.old.geometry self.old.beyond size }) }
     {
         let Some((last, below)) = self.regions.split_last() else {
@@ -252,6 +275,7 @@ fn room(
     size: u64,
 ) -> Result<(u32, u64), Expected>
     ensures small { IfOk result (λ _. size < 2 ^ 32) }
+    ensures space { below < geometry.n → last.top ≤ geometry.w → IfOk result (λ p. HasSpace last.kind geometry below last.top size × (p.0 ≡ top_behind last.kind geometry last.top size) × (p.1 ≡ beyond_behind last.kind geometry beyond size)) }
     ensures room { below < geometry.n → size < 2 ^ 32 → HasSpace last.kind geometry below last.top size → result ≡ Ok (top_behind last.kind geometry last.top size, beyond_behind last.kind geometry beyond size) }
 {
     match last.kind {
@@ -267,6 +291,7 @@ fn room(
 // The top of an ordinary region behind an object more.
 fn grow(geometry: Geometry, top: u32, size: u64) -> Result<u32, Expected>
     ensures small { IfOk result (λ _. size < 2 ^ 32) }
+    ensures space { top ≤ geometry.w → IfOk result (λ t. (4 * size ≤ 3 * geometry.w) × (top + size ≤ geometry.w) × (t ≡ top + size)) }
     ensures room { 4 * size ≤ 3 * geometry.w → top + size ≤ geometry.w → result ≡ Ok (top + size) }
 {
     let left = geometry.region_words().saturating_sub(u64::from(top));
@@ -280,6 +305,7 @@ fn grow(geometry: Geometry, top: u32, size: u64) -> Result<u32, Expected>
 // The words of a humongous object beyond its first region, which starts at this address.
 fn overhang(geometry: Geometry, start: u64, size: u64) -> Result<u64, Expected>
     ensures small { IfOk result (λ _. size < 2 ^ 32) }
+    ensures space { IfOk result (λ b. (3 * geometry.w < 4 * size) × (start + size ≤ geometry.n * geometry.w) × (b ≡ size - geometry.w)) }
     ensures room { 3 * geometry.w < 4 * size → start + size ≤ geometry.n * geometry.w → result ≡ Ok (size - geometry.w) }
 {
     let most = geometry.words().saturating_sub(start);

@@ -14,6 +14,7 @@
 mod covering;
 mod draft;
 mod expected;
+mod filling;
 pub mod laws;
 mod making;
 mod named;

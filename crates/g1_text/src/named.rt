@@ -1,26 +1,28 @@
 //! Lines of objects by name, without regions and addresses.
-ghost use Rattle.std.specs.Prelude.{◌≡◌, ◌<◌, ◌↔◌, ◌-◌, ◌^◌, ℕ, Option, None, Some, [], ◌∷◌, ◌++◌, true, false, IsUtf8, map, codes, All, IsTrue, IfErr, IfOk, IfSome, OnOk, MatchOption};
+ghost use Rattle.std.specs.Prelude.{◌≡◌, ◌<◌, ◌↔◌, ◌-◌, ◌^◌, ℕ, List, Option, None, Some, [], ◌∷◌, ◌++◌, true, false, IsUtf8, length, map, codes, All, IsTrue, IfErr, IfOk, IfSome, OnOk, MatchOption};
 ghost use Rattle.g1_words.specs.Geometry.{Geometry as GeometryOf};
 ghost use Rattle.g1_image.specs.Image.{IsImageTextWithin};
 ghost use Rattle.g1_text.specs.Reading.{words_in, says_something, parts_of, lines_in, AreGraphLines};
 ghost use Rattle.g1_text.specs.Forms.{GraphHeading, GraphLine, NamedRootLine, NamedObjectLine, HasMeaning, HasSize, IsTarget, IsName, IsDataWord, Sizes, Maybe, Single, Word, ◌▸◌, Many, Holding, HasFront};
-ghost use Rattle.g1_text.specs.Drafts.{is_begun, IsTaken, AreTaken};
-ghost use Rattle.g1_text.specs.Graphs.{NamedGraph, SaysGraph, SaysSizes, SaysNamed, SayNamed, AddsRoot, AddsObject, empty_graph};
+ghost use Rattle.g1_text.specs.Drafts.{content, is_begun, IsTaken, AreTaken};
+ghost use Rattle.g1_text.specs.Graphs.{NamedGraph, SaysGraph, SaysSizes, SaysNamed, SayNamed, AddsRoot, AddsObject, IsTargetName, target_word, empty_graph};
 ghost use Rattle.g1_text.specs.ByName.{HasRead, IsRead, AreSizes, Fills, read_holder, holder_of, holders_from};
+ghost use Rattle.g1_text.specs.Carried.{HoldsGraph, CarryGraph, reference_for, word_for, stale_at};
+ghost use Rattle.g1_text.specs.Filled.{AreLocated, IsNoted};
+ghost use Rattle.g1_text.specs.Laid.{ArePlaced};
 ghost use Rattle.std.specs.Option.{option_copied};
 ghost use Rattle.g1_text.specs.Refused.{IsLineOrMemory};
 
 use crate::covering::cover;
-use crate::draft::{Draft, Heading, Placed};
+use crate::draft::{Draft, Heading};
 use crate::expected::{Expected, Refusal, Wrong};
+use crate::filling::{Found, Stale, fill_objects, fill_roots};
 use crate::packing::{check_bytes, pack};
-use crate::placing::{Entry, choose_sizes, place, regions_needed};
-use crate::reading::{
-    HeapSizes, add_data, add_zeros, first_line, given_words, sizes, within_limits,
-};
+use crate::placing::{Entry, Places, choose_sizes, place, regions_needed};
+use crate::reading::{HeapSizes, first_line, given_words, sizes, within_limits};
 use crate::values::data_word;
 use crate::words::{Words, cut_words, size_and_slots};
-use g1_words::{Fault, Geometry, Limits, MOST_ROOTS, header_word};
+use g1_words::{Fault, Geometry, Limits, MOST_ROOTS};
 use std::alloc::{AllocError, Global};
 use std::collections::HashMap;
 use std::str;
@@ -72,23 +74,23 @@ pub fn read_graph<'a>(alloc: Global, text: &'a [u8]) -> Result<Graph<'a>, Wrong>
     ensures fault { IfErr result IsLineOrMemory }
     ensures known { OnOk result (HasMeaning GraphHeading GraphLine text.now) }
     ensures says { IfOk result (λ r. (g : NamedGraph) × SaysGraph text.now g × (map read_holder r.root_names.items ≡ holders_from 0 g.roots)) }
+    ensures holds { IfOk result (λ r. (g : NamedGraph) × SaysGraph text.now g × HoldsGraph g r) }
 {
-    let mut lines = read_lines(alloc, text)?;
-    let mut graph = place_and_fill(alloc, &mut lines)?;
+    let lines = read_lines(alloc, text)?;
+    let mut graph = place_and_fill(alloc, &lines)?;
     let Lines { holders, texts, .. } = lines;
     graph.root_names = holders;
     graph.texts = texts;
     Ok(graph)
 }
 
-fn place_and_fill<'a>(alloc: Global, lines: &mut Lines<'a>) -> Result<Graph<'a>, Wrong>
+fn place_and_fill<'a>(alloc: Global, lines: &Lines<'a>) -> Result<Graph<'a>, Wrong>
     ensures fault { IfErr result IsLineOrMemory }
-    ensures begun { OnOk result (is_begun lines.old ≡ true) }
-    ensures holders { OnOk result (lines.new.holders ≡ lines.old.holders) }
+    ensures begun { OnOk result (is_begun lines.now ≡ true) }
+    ensures carried { (g : NamedGraph) → HasRead lines.now g → IfOk result (HoldsGraph g) }
 {
-    let mut order = Vec::new(alloc);
-    match lay_out(alloc, lines, &mut order) {
-        Ok(mut draft) => fill(alloc, &mut draft, lines, order.as_slice()),
+    match lay_out(alloc, lines) {
+        Ok((mut draft, places)) => fill(alloc, &mut draft, lines, &places),
         Err(refusal) => Err(refusal.at(lines.heading)),
     }
 }
@@ -98,24 +100,56 @@ fn fill<'a>(
     alloc: Global,
     draft: &mut Draft,
     lines: &Lines<'a>,
-    order: &[u64],
+    places: &Places,
 ) -> Result<Graph<'a>, Wrong>
     ensures fault { IfErr result IsLineOrMemory }
+    ensures carried { (g : NamedGraph) (geometry : GeometryOf) → HasRead lines.now g → ArePlaced geometry lines.now.entries.items places.now.addresses.items places.now.order.items (content draft.old) → IfSome g.sizes (λ s. geometry ≡ s) → IfOk result (HoldsGraph g) }
 {
-    let mut graph = Graph {
-        text: Vec::new(alloc),
+    let mut roots = Stale::new(alloc);
+    let mut found = Found {
         names: Vec::new(alloc),
+        stale: Stale::new(alloc),
+    };
+    let addresses = places.addresses.as_slice();
+    fill_roots(&mut draft.roots, &mut roots, lines, addresses)?;
+    fill_objects(alloc, &mut found, draft, lines, places)?;
+    cover(draft)?;
+    if let Err(expected) = check_counts(draft.remembered.as_slice()) {
+        return Err(Refusal::Expected(expected).at(lines.heading));
+    }
+    let text = pack(alloc, draft)?;
+    Ok(Graph {
+        text,
+        names: found.names,
         root_names: Vec::new(alloc),
         texts: HashMap::new(alloc),
-        stale_roots: Vec::new(alloc),
-        stale_slots: Vec::new(alloc),
-        first_stale: None,
-    };
-    fill_roots(&mut graph, &mut draft.roots, lines)?;
-    fill_objects(alloc, &mut graph, draft, lines, order)?;
-    cover(draft)?;
-    graph.text = pack(alloc, draft)?;
-    Ok(graph)
+        first_stale: earlier(roots.first, found.stale.first),
+        stale_roots: roots.names,
+        stale_slots: found.stale.names,
+    })
+}
+
+// A file has room for the number of cards of each region. No lines are known that reach more.
+fn check_counts(remembered: &[Vec<u32>]) -> Result<(), Expected>
+    ensures { OnOk result (All (λ cards. length cards.items < 2 ^ 32) remembered.now) }
+{
+    for cards in remembered {
+        if cards.len() as u64 > u64::from(u32::MAX) {
+            return Err(Expected::Sizes);
+        }
+    }
+    Ok(())
+}
+
+// What is expected in the first of two lines.
+fn earlier(one: Option<(u64, Expected)>, other: Option<(u64, Expected)>) -> Option<(u64, Expected)>
+    ensures { result ≡ None → (one ≡ None) × (other ≡ None) }
+{
+    match (one, other) {
+        (Some((line, _)), Some((other_line, _))) if line <= other_line => one,
+        (_, Some(_)) => other,
+        _ => one,
+    }
 }
 
 /// The bytes of the image that lines of objects by name describe.
@@ -128,16 +162,15 @@ pub fn make_graph(alloc: Global, text: &[u8]) -> Result<Vec<u8>, Wrong>
     ensures fault { IfErr result IsLineOrMemory }
     ensures known { OnOk result (HasMeaning GraphHeading GraphLine text.now) }
     ensures says { OnOk result ((g : NamedGraph) × SaysGraph text.now g) }
+    ensures carries { IfOk result (λ v. (g : NamedGraph) × SaysGraph text.now g × CarryGraph g v.items) }
 {
-    let mut lines = read_lines(alloc, text)?;
+    let lines = read_lines(alloc, text)?;
     let Graph {
         text: bytes,
         first_stale,
         ..
-    } = place_and_fill(alloc, &mut lines)?;
-    if let Some((number, expected)) = first_stale {
-        return Err(Wrong::Line { number, expected });
-    }
+    } = place_and_fill(alloc, &lines)?;
+    check_named(first_stale)?;
     match check_bytes(alloc, bytes.as_slice()) {
         Ok(()) => Ok(bytes),
         Err(Fault::Memory) => Err(Wrong::Fault(Fault::Memory)),
@@ -146,18 +179,29 @@ pub fn make_graph(alloc: Global, text: &[u8]) -> Result<Vec<u8>, Wrong>
     }
 }
 
-// What lines say, and the addresses of the objects once they have them.
+// No name is one that no object has.
+fn check_named(first_stale: Option<(u64, Expected)>) -> Result<(), Wrong>
+    ensures fault { IfErr result IsLineOrMemory }
+    ensures named { OnOk result (first_stale ≡ None) }
+{
+    match first_stale {
+        Some((number, expected)) => Err(Wrong::Line { number, expected }),
+        None => Ok(()),
+    }
+}
+
+/// What lines say.
 #[derive(Drop)]
-struct Lines<'a> {
+pub(crate) struct Lines<'a> {
     heading: u64,
     sizes: Option<HeapSizes>,
-    roots: Vec<(u64, &'a str)>,
-    // The numbers of the roots whose lines say what holds them, and what that is called.
+    pub(crate) roots: Vec<(u64, &'a str)>,
+    /// The numbers of the roots whose lines say what holds them, and what that is called.
     holders: Vec<(u64, &'a str)>,
-    entries: Vec<Entry<'a>>,
-    // The place of each name's entry.
-    places: HashMap<&'a str, u64>,
-    // The texts among the data words, by the words that stand for them.
+    pub(crate) entries: Vec<Entry<'a>>,
+    /// The place of each name's entry.
+    pub(crate) places: HashMap<&'a str, u64>,
+    /// The texts among the data words, by the words that stand for them.
     texts: HashMap<u64, &'a str>,
 }
 
@@ -283,19 +327,45 @@ impl<'a> Lines<'a> {
             slots,
             number,
             line,
-            at: 0,
         })?;
         Ok(())
     }
 
     // The reference word that a name stands for, if it is null's or an object's.
-    fn reference(&self, name: &str) -> Option<u64> {
+    fn reference(&self, addresses: &[u64], name: &str) -> Option<u64>
+        ensures { (g : NamedGraph) (target : Option (List ℕ)) → AreLocated self.now g addresses.now → IsTargetName target → name.now ≡ target_word target → result ≡ reference_for g addresses.now target }
+    {
         if name == "-" {
             return Some(0);
         }
-        let place = *self.places.get(&name)?;
-        let entry = self.entries.get(place as usize)?;
-        Some(entry.at.saturating_add(1))
+        let place = *self.places.get(&name)? as usize;
+        if place >= addresses.len() {
+            return None;
+        }
+        Some(addresses[place].saturating_add(1))
+    }
+
+    /// The word for a name in a line: null for one that no object has, which is kept with its number.
+    pub(crate) fn word(
+        &self,
+        addresses: &[u64],
+        stale: &mut Stale<'a>,
+        number: u64,
+        name: &'a str,
+        line: u64,
+        expected: Expected,
+    ) -> Result<u64, AllocError>
+        ensures word { (g : NamedGraph) (target : Option (List ℕ)) → AreLocated self.now g addresses.now → IsTargetName target → name.now ≡ target_word target → IfOk result (λ x. x ≡ word_for g addresses.now target) }
+        ensures stale { (g : NamedGraph) (target : Option (List ℕ)) → AreLocated self.now g addresses.now → IsTargetName target → name.now ≡ target_word target → OnOk result (map read_holder stale.new.names.items ≡ map read_holder stale.old.names.items ++ stale_at g number target) }
+        ensures noted { IsNoted stale.old → OnOk result (IsNoted stale.new) }
+    {
+        match self.reference(addresses, name) {
+            Some(word) => Ok(word),
+            None => {
+                stale.add(number, name, line, expected)?;
+                Ok(0)
+            }
+        }
     }
 }
 
@@ -452,11 +522,10 @@ fn keep_texts<'a>(
     Ok(())
 }
 
-// A heap of the sizes that the first line has, or of chosen ones, in which each object has an address. Adds the places of
-// the entries in the order of their addresses.
-fn lay_out(alloc: Global, lines: &mut Lines<'_>, order: &mut Vec<u64>) -> Result<Draft, Refusal>
-    ensures begun { OnOk result (is_begun lines.old ≡ true) }
-    ensures holders { OnOk result (lines.new.holders ≡ lines.old.holders) }
+// A heap of the sizes that the first line has, or of chosen ones, in which each object has an address.
+fn lay_out(alloc: Global, lines: &Lines<'_>) -> Result<(Draft, Places), Refusal>
+    ensures begun { OnOk result (is_begun lines.now ≡ true) }
+    ensures placed { IfOk result (λ r. (geometry : GeometryOf) × ArePlaced geometry lines.now.entries.items r.1.addresses.items r.1.order.items (content r.0) × IfSome lines.now.sizes (λ s. geometry ≡ record { w = s.w; k = s.k; n = s.n })) }
 {
     let geometry = match sizes_of(lines) {
         Ok(geometry) => geometry,
@@ -468,12 +537,13 @@ fn lay_out(alloc: Global, lines: &mut Lines<'_>, order: &mut Vec<u64>) -> Result
         dirty: None,
     };
     let mut draft = Draft::new(alloc, geometry, None, heading)?;
-    place(&mut draft, lines.entries.as_mut_slice(), order)?;
-    Ok(draft)
+    let places = place(alloc, &mut draft, lines.entries.as_slice())?;
+    Ok((draft, places))
 }
 
 fn sizes_of(lines: &Lines<'_>) -> Result<Geometry, Expected>
-    ensures { OnOk result (is_begun lines.now ≡ true) }
+    ensures begun { OnOk result (is_begun lines.now ≡ true) }
+    ensures told { IfOk result (λ g. IfSome lines.now.sizes (λ s. g ≡ record { w = s.w; k = s.k; n = s.n })) }
 {
     if lines.heading == 0 {
         return Err(Expected::Graph);
@@ -490,127 +560,4 @@ fn sizes_of(lines: &Lines<'_>) -> Result<Geometry, Expected>
         return Err(Expected::Regions(needed));
     }
     Ok(geometry)
-}
-
-fn fill_roots<'a>(
-    graph: &mut Graph<'a>,
-    roots: &mut Vec<u64>,
-    lines: &Lines<'a>,
-) -> Result<(), AllocError> {
-    for (number, (line, name)) in lines.roots.iter().enumerate() {
-        let word = match lines.reference(name) {
-            Some(word) => word,
-            None => {
-                graph.stale_roots.push((number as u64, *name))?;
-                graph.expect(*line, Expected::NamedRoot);
-                0
-            }
-        };
-        roots.push(word)?;
-    }
-    Ok(())
-}
-
-// The words of the objects, in the order of their addresses.
-fn fill_objects<'a>(
-    alloc: Global,
-    graph: &mut Graph<'a>,
-    draft: &mut Draft,
-    lines: &Lines<'a>,
-    order: &[u64],
-) -> Result<(), Wrong>
-    ensures fault { IfErr result IsLineOrMemory }
-{
-    let mut words = Vec::new(alloc);
-    for place in order {
-        let Some(entry) = lines.entries.get(*place as usize) else {
-            continue;
-        };
-        if let Err(refusal) = fill_object(graph, draft, lines, entry, &mut words) {
-            return Err(refusal.at(entry.number));
-        }
-    }
-    Ok(())
-}
-
-fn fill_object<'a>(
-    graph: &mut Graph<'a>,
-    draft: &mut Draft,
-    lines: &Lines<'a>,
-    entry: &Entry<'a>,
-    words: &mut Vec<&'a str>,
-) -> Result<(), Refusal> {
-    graph.names.push((entry.at, entry.name))?;
-    draft.objects.push(Placed {
-        at: entry.at,
-        slots: u64::from(entry.slots),
-        place: draft.words.len(),
-        line: entry.number,
-    })?;
-    words.clear();
-    words.extend(entry.line.split_ascii_whitespace().skip(3))?;
-    fill_words(graph, &mut draft.words, lines, entry, words.as_slice())
-}
-
-// The words of an object, from those of its line, which was read in full before.
-fn fill_words<'a>(
-    graph: &mut Graph<'a>,
-    out: &mut Vec<u64>,
-    lines: &Lines<'a>,
-    entry: &Entry<'a>,
-    content: &[&'a str],
-) -> Result<(), Refusal> {
-    let size = u64::from(entry.size);
-    let slots = u64::from(entry.slots);
-    let data = size.saturating_sub(slots).saturating_sub(1);
-    let (given, missing) = given_words(&mut Words::new(&*content), slots, data)?;
-    out.push(header_word(size, slots))?;
-    let (names, numbers) = content.split_at(content.len().min(slots.min(given) as usize));
-    fill_slots(graph, out, lines, entry, names)?;
-    add_data(&mut Words::new(numbers), out, given.saturating_sub(slots))?;
-    add_zeros(out, missing)?;
-    Ok(())
-}
-
-fn fill_slots<'a>(
-    graph: &mut Graph<'a>,
-    out: &mut Vec<u64>,
-    lines: &Lines<'a>,
-    entry: &Entry<'a>,
-    names: &[&'a str],
-) -> Result<(), AllocError> {
-    for (slot, name) in names.iter().enumerate() {
-        let word = match lines.reference(name) {
-            Some(word) => word,
-            None => {
-                graph.add_stale_slot(entry, slot as u64, name)?;
-                0
-            }
-        };
-        out.push(word)?;
-    }
-    Ok(())
-}
-
-impl<'a> Graph<'a> {
-    // Keeps a slot of an object, and the name in it.
-    fn add_stale_slot(
-        &mut self,
-        entry: &Entry<'a>,
-        slot: u64,
-        name: &'a str,
-    ) -> Result<(), AllocError> {
-        let address = entry.at.saturating_add(1).saturating_add(slot);
-        self.stale_slots.push((address, name))?;
-        self.expect(entry.number, Expected::NamedSlot(slot));
-        Ok(())
-    }
-
-    // Keeps what is expected in the first of the lines.
-    fn expect(&mut self, number: u64, expected: Expected) {
-        match self.first_stale {
-            Some((first, _)) if first <= number => (),
-            _ => self.first_stale = Some((number, expected)),
-        }
-    }
 }

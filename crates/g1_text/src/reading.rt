@@ -1,4 +1,4 @@
-ghost use Rattle.std.specs.Prelude.{◌≡◌, ◌⊎◌, ◌<◌, ◌+◌, ◌^◌, ℕ, Bool, List, [], ◌∷◌, ◌++◌, Option, None, Some, Ok, true, false, IsUtf8, length, map, replicate, decimal, codes, All, IsTrue, IfSome, IfOk, IfErr, OnOk, MatchOption, MatchResult};
+ghost use Rattle.std.specs.Prelude.{◌≡◌, ◌≢◌, ◌⊎◌, ◌<◌, ◌+◌, ◌^◌, ℕ, Bool, List, [], ◌∷◌, ◌++◌, Option, None, Some, Ok, true, false, IsUtf8, length, map, replicate, decimal, codes, All, IsTrue, IfSome, IfOk, IfErr, OnOk, MatchOption, MatchResult};
 ghost use Rattle.g1_words.specs.declared.region.Kind.{Kind as KindOf};
 ghost use Rattle.g1_words.specs.declared.region.Region.{Region as RegionOf};
 ghost use Rattle.g1_words.specs.Geometry.{IsWithinBounds};
@@ -6,7 +6,7 @@ ghost use Rattle.g1_words.specs.Kind.{kind_word};
 ghost use Rattle.g1_text.specs.Lines.{reference_word, current_word, cards_words, pinned_words};
 ghost use Rattle.std.specs.Option.{is_some};
 ghost use Rattle.g1_text.specs.Reading.{words_in, says_something, parts_of, lines_in, HasLines};
-ghost use Rattle.g1_text.specs.Forms.{ImageHeading, ImageLine, RootLine, DirtyLine, CoveredLine, RegionLine, RememberedLine, ObjectLine, HasMeaning, Form, Spells, IsBelow, IsDataWord, HasSize, IsReferenceWord, Number, Single, Many, Maybe, Labelled, Current, Cards, Holding, Pinned, ◌▸◌, HasFront, HasFirst};
+ghost use Rattle.g1_text.specs.Forms.{ImageHeading, ImageLine, RootLine, DirtyLine, CoveredLine, RegionLine, RememberedLine, ObjectLine, HasMeaning, Form, Spells, IsBelow, IsDataWord, HasSize, IsReferenceWord, Number, Single, Many, Maybe, Labelled, Current, Cards, Holding, Pinned, ◌▸◌, HasFront, HasFirst, HasValues};
 ghost use Rattle.g1_text.specs.Content.{Content, Counts, Line, Root, Dirty, Numbers, Remembered, Holds, words_of, Takes, MayFollow, with_region, one_found, Begins, Says, SaysAll, IsClosed};
 ghost use Rattle.g1_text.specs.Drafts.{content, counts_of, Becomes, said, IsTaken, AreTaken};
 ghost use Rattle.g1_text.specs.Refused.{IsLineOrMemory};
@@ -303,13 +303,13 @@ impl Draft {
         ensures { told ≡ Some (length (content self.old).regions) → length (content self.old).regions < self.old.geometry.n → MayFollow (content self.old) kind → MatchResult result (λ r. (r ≡ length (content self.old).regions) × (content self.new ≡ with_region (content self.old) kind)) (λ e. e ≡ Refusal.Memory) }
     {
         if !kind.is_continuation() {
-            self.close_run()?;
+            self.end_run()?;
         }
         let region = self.region_number(told)?;
         if kind.is_continuation() {
             self.continue_run_to(region)?;
         } else {
-            self.fill_up_to(region)?;
+            self.free_up_to(region)?;
             self.add_empty(kind)?;
         }
         Ok(region as usize)
@@ -397,6 +397,7 @@ pub(crate) fn given_words(
     count: u64,
 ) -> Result<(u64, u64), Expected>
     ensures form { slots + count < 2 ^ 64 → IfOk result (λ p. (p.0 ≡ length words.new) × (p.0 + p.1 ≡ slots + count) × (((p.1 ≡ 0) × (words.old ≡ words.new)) ⊎ (words.old ≡ words.new ++ codes ".." ∷ []))) }
+    ensures open { (words.old ≡ words.new ++ codes ".." ∷ []) ⊎ ((words.old ≡ words.new) × ((front : List (List ℕ)) → words.old ≢ front ++ codes ".." ∷ [])) }
     ensures full { (refs values : List ℕ) → slots ≡ length refs → count ≡ length values → slots + count < 2 ^ 64 → All (λ x. x < 2 ^ 64) refs → All (λ x. x < 2 ^ 64) values → words.old ≡ map reference_word refs ++ map decimal values → (result ≡ Ok (slots + count, 0)) × (words.new ≡ map reference_word refs ++ map decimal values) }
 {
     let whole = slots.saturating_add(count);
@@ -428,6 +429,7 @@ pub(crate) fn add_data(
     count: u64,
 ) -> Result<(), Refusal>
     ensures form { OnOk result (HasFront (Many IsDataWord count) words.old words.new) }
+    ensures stands { OnOk result ((xs : List ℕ) × HasValues count xs words.old words.new × (content.new.items ≡ content.old.items ++ xs)) }
     ensures full { (xs : List ℕ) (rest : List (List ℕ)) → count ≡ length xs → All (λ x. x < 2 ^ 64) xs → words.old ≡ map decimal xs ++ rest → MatchResult result (λ _. (words.new ≡ rest) × (content.new.items ≡ content.old.items ++ xs)) (λ e. e ≡ Refusal.Memory) }
 {
     for _ in 0..count {

@@ -22,3 +22,11 @@ returns-in-Ok-clause-says c =
     let lines = c.in_ok-lines.lines in
     let said = graph_said c.args.text.now lines read.known.0 (begun_is lines.heading c.in_ok-bytes.ensures.begun) read.says in
     (said.0, said.1)
+
+pub returns-in-Ok-clause-carries : goal.returns-in-Ok-clause-carries
+returns-in-Ok-clause-carries c =
+    let read = c.in_ok-lines.ensures in
+    let lines = c.in_ok-lines.lines in
+    let said = graph_said c.args.text.now lines read.known.0 (begun_is lines.heading c.in_ok-bytes.ensures.begun) read.says in
+    let h = c.in_ok-bytes.ensures.carried said.0 said.2 in
+    (said.0, said.1, record { ats = h.ats; file = h.file; text = h.text; carries = h.carries; named = h.noted c.in_ok-check_named.ensures.named })

@@ -1,5 +1,7 @@
-use Rattle.g1_text.proofs.Results.{on_ok}
+use Rattle.g1_text.proofs.Holding.{told_sizes}
 use Rattle.g1_text.proofs.named.place_and_fill.Goals as goal
 
-pub returns-in-Ok-clause-holders : goal.returns-in-Ok-clause-holders
-returns-in-Ok-clause-holders c = on_ok c.fill.result c.in-Ok.ensures.holders
+pub returns-in-Ok-clause-carried : goal.returns-in-Ok-clause-carried
+returns-in-Ok-clause-carried c = λ g read.
+    let placed = c.in-Ok.ensures.placed in
+    c.fill.ensures.carried g placed.0 read placed.1 (told_sizes c.args.lines.now.sizes g.sizes placed.0 read.sizes placed.2)

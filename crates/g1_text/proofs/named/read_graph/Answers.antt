@@ -1,5 +1,4 @@
-use Rattle.std.proofs.Common.{Vec, Global, ℕ, List, Bor, map, false, ◌∙◌, ap, subst}
-use Rattle.g1_text.specs.ByName.{read_holder}
+use Rattle.std.proofs.Common.{false, subst}
 use Rattle.g1_text.proofs.NamedLines.{graph_said, begun_is}
 use Rattle.g1_text.specs.Reading.{lines_in}
 use Rattle.g1_text.specs.Forms.{GraphHeading, GraphLine}
@@ -17,4 +16,12 @@ returns-clause-says c =
     let read = c.in_ok-lines.ensures in
     let lines = c.in_ok-lines.lines in
     let said = graph_said c.args.text.now lines read.known.0 (begun_is lines.heading c.in_ok-graph.ensures.begun) read.says in
-    (said.0, said.1, ap (λ (hs : Vec (ℕ × Bor (List ℕ)) Global). map read_holder hs.items) c.in_ok-graph.ensures.holders ∙ said.2.holders)
+    (said.0, said.1, said.2.holders)
+
+pub returns-clause-holds : goal.returns-clause-holds
+returns-clause-holds c =
+    let read = c.in_ok-lines.ensures in
+    let lines = c.in_ok-lines.lines in
+    let said = graph_said c.args.text.now lines read.known.0 (begun_is lines.heading c.in_ok-graph.ensures.begun) read.says in
+    let h = c.in_ok-graph.ensures.carried said.0 said.2 in
+    (said.0, said.1, record { ats = h.ats; file = h.file; text = h.text; carries = h.carries; listed = h.listed; noted = h.noted })

@@ -32,6 +32,7 @@ lines-init c =
       sizes = refl;
       roots = ap (map read_root) c.new.ensures.items;
       targets = All-nil (λ (r : NamedRoot). IsTargetName r.target);
+      few = omega arith;
       holders = ap (map read_holder) c.new-2.ensures.items;
       entries = subst (λ es. AllZip IsEntryOf es []) (sym c.new-3.ensures.items) tt;
       places = λ name. ap (lookup (λ (k : Bor (List ℕ)). bytes_eq name k.now)) c.new-4.ensures.empty;

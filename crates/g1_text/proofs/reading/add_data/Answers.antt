@@ -1,10 +1,10 @@
-use Rattle.std.proofs.Common.{◌+◌, ◌<◌, ◌^◌, [], ◌∷◌, ◌++◌, length, get_or, map, drop, take, append-nil, append_assoc, sym, ◌∙◌, ap, arith}
+use Rattle.std.proofs.Common.{◌≡◌, ◌+◌, ◌<◌, ◌^◌, ℕ, List, [], ◌∷◌, ◌++◌, length, get_or, map, drop, take, append-nil, append_assoc, sym, ◌∙◌, ap, subst, arith}
 use Rattle.std.proofs.lemmas.List.{take_more, take_all}
 use Rattle.std.specs.Prelude.{decimal}
 use Rattle.g1_text.proofs.Results.{ok_one, not_both}
 use Rattle.g1_text.proofs.Gathering.{next_word, no_word}
-use Rattle.g1_text.specs.Forms.{IsDataWord}
-use Rattle.g1_text.proofs.Fronts.{none_read, one_more_read, many_read}
+use Rattle.g1_text.specs.Forms.{IsDataWord, HasValues}
+use Rattle.g1_text.proofs.Fronts.{none_read, one_more_read, many_read, no_values, one_more_value}
 use Rattle.g1_text.proofs.reading.add_data.Goals as goal
 
 pub returns-in_err-word-clause-full : goal.returns-in_err-word-clause-full
@@ -28,6 +28,11 @@ loop-preserved c = (
       )),
   one_more_read IsDataWord c.loop.counter c.loop.invariant.1 (c.in_ok-word.ensures.form.0, c.in_ok-word.ensures.form.1, (c.in_ok-word.word, c.in_ok-word.ensures.form.2)),
   omega (arith, c.loop-test.true),
+  (
+    c.loop.invariant.3.0 ++ c.in_ok-word.word ∷ [],
+    one_more_value c.loop.counter c.in_ok-word.word c.loop.invariant.3.0 c.loop.invariant.3.1 c.in_ok-word.ensures.form,
+    c.in_ok-push.ensures.items ∙ ap (λ ys. ys ++ c.in_ok-word.word ∷ []) c.loop.invariant.3.2 ∙ append_assoc c.args.content.now.items c.loop.invariant.3.0 (c.in_ok-word.word ∷ []),
+  ),
 )
 
 pub returns-clause-full : goal.returns-clause-full
@@ -39,7 +44,13 @@ returns-clause-full c = λ xs rest count fit e.
     )
 
 pub loop-init : goal.loop-init
-loop-init c = ((λ xs rest count fit e. (e, sym (append-nil c.args.content.now.items))), none_read IsDataWord c.args.words.now, omega arith)
+loop-init c = ((λ xs rest count fit e. (e, sym (append-nil c.args.content.now.items))), none_read IsDataWord c.args.words.now, omega arith, ([], no_values c.args.words.now, sym (append-nil c.args.content.now.items)))
 
 pub returns-clause-form : goal.returns-clause-form
 returns-clause-form c = many_read IsDataWord c.loop.counter c.args.count (omega (arith, c.loop.invariant.2, c.loop-test.false)) c.loop.invariant.1
+
+pub returns-clause-stands : goal.returns-clause-stands
+returns-clause-stands c =
+    let all : c.loop.counter ≡ c.args.count = omega (arith, c.loop.invariant.2, c.loop-test.false) in
+    let read = c.loop.invariant.3 in
+    (read.0, subst (λ n. HasValues n read.0 c.args.words.now c.loop.words) all read.1, read.2)

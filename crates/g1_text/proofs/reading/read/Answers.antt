@@ -15,7 +15,7 @@ returns-in_default-clause-says c = λ lines after has all closed. absurd (false�
 pub returns-clause-says : goal.returns-clause-says
 returns-clause-says c = λ lines after has all closed.
     let e = some_one (sym (ap said c.in-Some.is) ∙ c.in_ok-parts.ensures.says lines after has all) in
-    c.in_ok-close.ensures (ap (λ s. s.beyond) e ∙ closed.0) (subst (λ (s : Content). s.geometry.n ≤ length s.regions) (sym e) closed.1) ∙ e
+    c.in_ok-close.ensures.same (ap (λ s. s.beyond) e ∙ closed.0) (subst (λ (s : Content). s.geometry.n ≤ length s.regions) (sym e) closed.1) ∙ e
 
 pub returns-clause-known : goal.returns-clause-known
 returns-clause-known c =

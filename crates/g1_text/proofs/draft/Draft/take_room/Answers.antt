@@ -3,7 +3,7 @@ use Rattle.std.proofs.lemmas.Result.{err_from_is_err_and}
 use Rattle.g1_words.specs.declared.region.Region.{Region}
 use Rattle.g1_text.specs.Content.{HasSpace, top_behind, beyond_behind}
 use Rattle.g1_text.specs.Drafts.{content}
-use Rattle.g1_text.proofs.Ends.{one_end}
+use Rattle.g1_text.proofs.Ends.{one_end, last_within}
 use Rattle.g1_text.proofs.Results.{ok_one, not_both}
 use Rattle.g1_text.proofs.draft.Draft.take_room.Goals as goal
 
@@ -39,3 +39,16 @@ returns-clause-room c = λ below q e lt small room.
     let beyond = ap (λ x. x.1) pair ∙ ap (λ (r : Region). beyond_behind r.kind g s.beyond size) parts.1 in
     let regions = c.set_top.ensures below q e ∙ ap (λ t. below ++ record q { top = t } ∷ []) top in
     (refl, λ i. record s { regions = regions i; beyond = beyond i })
+
+pub returns-clause-taken : goal.returns-clause-taken
+returns-clause-taken c = λ few tops.
+    let s = content c.args.self.now in
+    let below = c.in-Some.below.now in
+    let last = c.in-Some.last.now in
+    let parts = sym c.deref.ensures.value ∙ c.in-Some.ensures.cases.0 in
+    let count = ap length parts in
+    let more = length-append below (last ∷ []) in
+    let top = last_within c.args.self.now.geometry.w below last s.regions parts tops in
+    let space = c.in_ok-top.ensures.space (omega (arith, few, count, more)) top in
+    let regions = c.set_top.ensures below last parts ∙ ap (λ t. below ++ record last { top = t } ∷ []) space.1 in
+    (below, last, parts, space.0, (λ i. record s { regions = regions i; beyond = space.2 i }))

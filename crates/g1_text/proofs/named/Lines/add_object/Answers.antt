@@ -38,7 +38,7 @@ returns-clause-says c = λ g line h.
     let content = texts c.in-Some-split_first.content.now in
     let words = sym line ∙ ap (λ ws. codes "object" ∷ ws) (ap texts c.in-Some.ensures.cases.0 ∙ ap (λ ws. name ∷ ws) (ap texts c.in-Some-split_first.ensures.cases.0)) in
     let o = object_said name size c.in_ok-size.size c.in_ok-size.slots content _ c.in_ok-check_name.ensures within.0 within.1 c.in_ok-size.ensures.form (c.in_ok-check_content.ensures.fills within.0) words in
-    let e : Entry = record { name = c.in-Some.name.now; size = c.in_ok-size.size; slots = c.in_ok-size.slots; number = c.args.number; line = c.args.line; at = 0 } in
+    let e : Entry = record { name = c.in-Some.name.now; size = c.in_ok-size.size; slots = c.in_ok-size.slots; number = c.args.number; line = c.args.line } in
     let entry : IsEntryOf e o.0 = record { name = o.1; size = o.2; slots = o.3; line = o.4 } in
     let count = AllZip-long IsEntryOf c.args.self.now.entries.items g.objects h.entries in
     let none : c.in_ok-insert.field-0 ≡ None = not_some c.in_ok-insert.field-0 (sym c.is_some.ensures ∙ c.if-is_some.false) in
@@ -49,6 +49,7 @@ returns-clause-says c = λ g line h.
         sizes = h.sizes;
         roots = h.roots;
         targets = h.targets;
+        few = h.few;
         holders = h.holders;
         entries = entries_more c.args.self.now.entries.items _ g.objects e o.0 h.entries c.in_ok-push.ensures.items entry;
         places = places_more c.args.self.now.places c.insert.new.self g.objects o.0 name c.len-place.result o.1 h.places (omega (arith, count, c.len-place.ensures)) fresh c.in_ok-insert.ensures.updates;

@@ -1,4 +1,4 @@
-use Rattle.std.proofs.Common.{refl, ℕ, List, [], ◌∷◌, ◌++◌, map, Bor, arith}
+use Rattle.std.proofs.Common.{refl, ℕ, List, [], ◌∷◌, ◌++◌, map, length-append, Bor, arith}
 use Rattle.std.specs.Option.{option_copied}
 use Rattle.std.proofs.lemmas.List.Elements.{All-push}
 use Rattle.g1_text.specs.Graphs.{NamedRoot, IsTargetName}
@@ -25,6 +25,7 @@ returns-clause-says c = λ g h.
         sizes = h.sizes;
         roots = roots_more c.args.self.now.roots.items _ g.roots r c.args.number name h.roots c.in_ok-push.ensures.items (word_of_target name.now);
         targets = All-push (λ (x : NamedRoot). IsTargetName x.target) g.roots r h.targets root.target;
+        few = omega (arith, count, length-append g.roots (r ∷ []));
         holders = holders_more _ _ g.roots r c.len-2.result h.holders c.in_ok-keep_holder.ensures (omega (arith, count, c.len-2.ensures));
         entries = h.entries;
         places = h.places;

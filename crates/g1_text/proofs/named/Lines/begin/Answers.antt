@@ -16,5 +16,5 @@ returns-clause-says c = λ h.
     let s = c.in_ok-self.ensures.says in (
       s.0,
       subst (λ word. SaysSizes s.0 (word ∷ told)) (sym (same_word c.args.first.now (codes "graph") c.if-ne.ensures)) s.2,
-      record { sizes = s.1; roots = h.roots; targets = h.targets; holders = h.holders; entries = h.entries; places = h.places },
+      record { sizes = s.1; roots = h.roots; targets = h.targets; few = h.few; holders = h.holders; entries = h.entries; places = h.places },
     )
