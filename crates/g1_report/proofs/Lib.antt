@@ -1,4 +1,9 @@
+pub mod Answering
+pub mod Counted
 pub mod Found
+pub mod Joined
+pub mod Lookups
 pub mod Passed
 pub mod Rising
+pub mod Starting
 pub mod Taken

@@ -1,3 +1,6 @@
 pub mod Agreement
 pub mod Finding
 pub mod Taken
+pub mod Wording
+pub mod Answer
+pub mod Given

@@ -18,3 +18,7 @@ abbrev pub TakesNone : Option (List ℕ) → Option (List ℕ) → Type 0
 TakesNone None new = ⊤
 TakesNone (Some xs) None = ⊥
 TakesNone (Some xs) (Some ys) = ys ≡ xs
+
+-- a text like this was put behind another one
+abbrev pub Adds : (List ℕ → Type 0) → List ℕ → List ℕ → Type 0
+Adds P old new = (text : List ℕ) × P text × (new ≡ old ++ text)

@@ -1,14 +1,21 @@
 //! What two heaps show, in one line.
-ghost use Rattle.std.specs.Prelude.{◌∷◌};
+ghost use Rattle.std.specs.Prelude.{◌≡◌, ◌∷◌, ◌++◌, ◌*◌, ◌^◌, ◌<◌, ℕ, List, Option, Some, None, codes, decimal, length, flat_map, sum_by, string_bytes, IfSome, OnOk};
+ghost use Rattle.g1_words.specs.Heap.{Heap as HeapOf, object_at};
+ghost use Rattle.g1_same.specs.Ends.{AreValues};
 ghost use Rattle.g1_same.specs.Same.{IsDifference};
 ghost use Rattle.g1_same.specs.Behind.{ShowsAt};
+ghost use Rattle.g1_report.specs.Wording.{told, name_in, name_of, root_text_of, object_text, word_text, path_text, value_text, how_word, met_text, numbers_text, values_text, detail_text, before_text, after_text, place_line, roots_line, same_line};
+ghost use Rattle.g1_report.specs.Answer.{IsByNumber, IsDifferenceLine};
+ghost use Rattle.g1_report.specs.Given.{listed, compared, AreNamedInOrder};
+ghost use Rattle.g1_report.specs.Taken.{Adds};
 
 use crate::names::{Kind, Names};
 use crate::naming::{push_kind, push_named_data, push_named_object, push_named_slots};
 use crate::objects::object_of;
 use crate::places::value_at;
+use crate::staling::push_stale_line;
 use g1_same::{Difference, Ends, Found, How, Path, Renaming, What, ends_at, ends_of};
-use g1_words::{Heap, Region, object_at, region_of};
+use g1_words::Heap;
 use std::alloc::{AllocError, Global};
 use std::collections::HashMap;
 
@@ -36,18 +43,32 @@ pub struct Sides<'a> {
 /// Addresses of objects or stale words, rising, and their names, if they have names.
 pub type Labels<'a> = Option<&'a [(u64, &'a str)]>;
 
+/// The number of a root, and those of slots behind it.
+pub type Steps<'a> = (u64, &'a [u64]);
+
 /// The line that says how much is reached if two heaps show the same graph.
 pub fn push_same_line(
     text: &mut String,
     before: &Heap,
     renaming: &Renaming,
-) -> Result<(), AllocError> {
-    let objects = renaming.before.len();
-    let mut words = 0u64;
-    for address in renaming.before.iter() {
-        words = words.saturating_add(before.words().header(*address).size);
-    }
+) -> Result<(), AllocError>
+    ensures { OnOk result (string_bytes text.new ≡ string_bytes text.old ++ same_line before.now renaming.now.before.items) }
+{
+    let addresses = renaming.before.as_slice();
+    let objects = addresses.len();
+    let words = words_of(before, addresses);
     write!(text, "same objects {objects} words {words}\n")
+}
+
+// The words of all these objects. They are fewer than those of the heap, but 128 bits need no proof of that.
+fn words_of(heap: &Heap, addresses: &[u64]) -> u128
+    ensures { result ≡ sum_by (λ a. (object_at heap.now a).size) addresses.now }
+{
+    let mut words = 0u128;
+    for address in addresses {
+        words += u128::from(heap.words().header(*address).size);
+    }
+    words
 }
 
 /// The line that says where two heaps differ: the path from a root, what is there, and how it
@@ -59,16 +80,21 @@ pub fn push_difference_line(
     difference: &Difference,
 ) -> Result<(), AllocError>
     requires { IsDifference sides.before.now sides.after.now difference.now }
+    ensures { AreNamedInOrder sides.entry → OnOk result (Adds (IsDifferenceLine (compared sides.entry) difference.now) (string_bytes text.old) (string_bytes text.new)) }
 {
     match difference {
-        Difference::Roots { before, after } => {
-            write!(text, "differ roots: {before} before, {after} after\n")
-        }
+        Difference::Roots { before, after } => { push_roots_line(text, *before, *after) }
         Difference::At { root, slots, how } => {
             let ends = ends_of(sides.before, sides.after, difference);
             push_how_line(alloc, text, sides, (*root, slots.as_slice()), how, &ends)
         }
     }
+}
+
+fn push_roots_line(text: &mut String, before: u64, after: u64) -> Result<(), AllocError>
+    ensures { OnOk result (string_bytes text.new ≡ string_bytes text.old ++ roots_line before after) }
+{
+    write!(text, "differ roots: {before} before, {after} after\n")
 }
 
 /// The line of a difference that a walk found, and of the path to it.
@@ -89,9 +115,6 @@ pub fn push_found_line(
     }
 }
 
-/// The number of a root, and those of slots behind it.
-pub type Steps<'a> = (u64, &'a [u64]);
-
 // The line of a path that leads to words which disagree like this.
 fn push_how_line(
     alloc: Global,
@@ -100,95 +123,29 @@ fn push_how_line(
     path: Steps<'_>,
     how: &How,
     ends: &Ends,
-) -> Result<(), AllocError> {
-    let kind = kind_word(how);
-    write!(text, "differ {kind} at ")?;
+) -> Result<(), AllocError>
+    requires { AreValues sides.before.now sides.after.now how.now ends.now.before ends.now.after ends.now.word_before ends.now.word_after }
+    ensures { AreNamedInOrder sides.entry → OnOk result (string_bytes text.new ≡ string_bytes text.old ++ place_line (compared sides.entry) path.entry.0 path.entry.1.now how.now ends.now.before ends.now.after) }
+{
+    push_differ(text, how)?;
     push_path(alloc, text, sides, path)?;
     push_before(text, sides, ends.before)?;
     push_after(text, sides, ends.after)?;
     push_detail(text, sides, how, ends)?;
-    text.push('\n')
+    text.push_str("\n")
 }
 
-/// The line of a path that leads to a stale word, where the heap before has this other word.
-pub fn push_stale_line(
-    alloc: Global,
-    text: &mut String,
-    sides: Sides<'_>,
-    path: Steps<'_>,
-    old: u64,
-    word: u64,
-) -> Result<(), AllocError> {
-    text.push_str("differ stale at ")?;
-    push_path(alloc, text, sides, path)?;
-    push_before(text, sides, old)?;
-    match label(sides.stale_names, word) {
-        Some(name) => push_stale_name(text, sides, old, name),
-        None => push_stale_word(text, sides, old, word),
-    }
-}
-
-// The name that a stale word stands for.
-fn push_stale_name(
-    text: &mut String,
-    sides: Sides<'_>,
-    old: u64,
-    name: &str,
-) -> Result<(), AllocError> {
-    let still = match old.checked_sub(1) {
-        Some(address) if label(sides.labels_before, address) == Some(name) => "still is",
-        _ => "is",
-    };
-    write!(
-        text,
-        "; the word {still} {name}, which no object after has\n"
-    )
-}
-
-// A stale word, the region that it leads to, and what was there before. The places of objects that have names are not
-// the program's own: no word after is compared with them.
-fn push_stale_word(
-    text: &mut String,
-    sides: Sides<'_>,
-    old: u64,
-    word: u64,
-) -> Result<(), AllocError> {
-    let named = sides.labels_before.is_some();
-    let still = if word == old && !named {
-        "still is"
-    } else {
-        "is"
-    };
-    write!(text, "; the word {still} {word}, ")?;
-    let Some((address, number, region)) = behind(sides.after, word) else {
-        return text.push_str("outside the heap\n");
-    };
-    let kind = region.kind;
-    write!(text, "in region {number}, {kind} after")?;
-    if named {
-        return text.push('\n');
-    }
-    let what = match object_at(sides.before, address) {
-        Some(_) if word == old => "the object was before",
-        Some(_) => "another object was before",
-        None => "no object starts",
-    };
-    write!(text, ", where {what}\n")
-}
-
-// The address that a word leads to, with its region, if the heap has that.
-fn behind(heap: &Heap, word: u64) -> Option<(u64, u32, Region)> {
-    let address = word.checked_sub(1)?;
-    let number = region_of(&heap.geometry(), address);
-    if number >= heap.geometry().regions() {
-        return None;
-    }
-    let number = number as u32;
-    Some((address, number, heap.region(number)))
+fn push_differ(text: &mut String, how: &How) -> Result<(), AllocError>
+    ensures { OnOk result (string_bytes text.new ≡ string_bytes text.old ++ (codes "differ " ++ (how_word how.now ++ codes " at "))) }
+{
+    let kind = how_word(how);
+    write!(text, "differ {kind} at ")
 }
 
 // What `differ` says of a kind of difference.
-fn kind_word(how: &How) -> &'static str {
+fn how_word(how: &How) -> &'static str
+    ensures { result.now ≡ how_word how.now }
+{
     match how {
         How::NullBefore => "null",
         How::NullAfter => "null",
@@ -200,53 +157,95 @@ fn kind_word(how: &How) -> &'static str {
     }
 }
 
-fn push_path(
+/// A path by the numbers of its slots, or by the names that a program has for them.
+pub fn push_path(
     alloc: Global,
     text: &mut String,
     sides: Sides<'_>,
     path: Steps<'_>,
-) -> Result<(), AllocError> {
+) -> Result<(), AllocError>
+    ensures { AreNamedInOrder sides.entry → OnOk result (string_bytes text.new ≡ string_bytes text.old ++ path_text (compared sides.entry).roots path.entry.0 path.entry.1.now) }
+{
     let (root, slots) = path;
     push_root(text, sides, root)?;
-    if let Some(names) = sides.names {
-        return push_named_slots(alloc, text, sides.before, names, root, slots);
+    match sides.names {
+        Some(names) => push_named_slots(alloc, text, sides.before, names, root, slots),
+        None => push_slots(text, slots),
     }
+}
+
+fn push_slots(text: &mut String, slots: &[u64]) -> Result<(), AllocError>
+    ensures { OnOk result (string_bytes text.new ≡ string_bytes text.old ++ flat_map (λ slot. codes " slot " ++ decimal slot) slots.now) }
+{
     for slot in slots {
         write!(text, " slot {slot}")?;
     }
     Ok(())
 }
 
-// The name of a root: that of the program's names, or else that of its line.
-fn push_root(text: &mut String, sides: Sides<'_>, root: u64) -> Result<(), AllocError> {
-    let named = match sides.names {
-        Some(names) => names.root(root),
-        None => None,
-    };
-    match named.or(value_at(sides.holders, root)) {
+fn push_root(text: &mut String, sides: Sides<'_>, root: u64) -> Result<(), AllocError>
+    ensures { AreNamedInOrder sides.entry → OnOk result (string_bytes text.new ≡ string_bytes text.old ++ root_text_of (name_of (compared sides.entry).roots root) root) }
+{
+    match root_name(sides, root) {
         Some(name) => text.push_str(name),
         None => write!(text, "root {root}"),
     }
 }
 
-fn push_before(text: &mut String, sides: Sides<'_>, word: u64) -> Result<(), AllocError> {
-    push_word(text, ": ", sides.labels_before, word)?;
-    if let (Some(names), Some(object)) = (sides.names, object_of(sides.before, word)) {
-        push_named_object(text, names, &object)?;
+// The name of a root: that of the program's names, or else that of its line.
+fn root_name<'a>(sides: Sides<'a>, root: u64) -> Option<&'a str>
+    ensures { AreNamedInOrder sides.entry → told result ≡ name_of (compared sides.entry).roots root }
+{
+    if let Some(names) = sides.names
+        && let Some(name) = names.root(root)
+    {
+        return Some(name);
     }
+    value_at(sides.holders, root)
+}
+
+/// What a path leads to before.
+pub fn push_before(text: &mut String, sides: Sides<'_>, word: u64) -> Result<(), AllocError>
+    ensures { AreNamedInOrder sides.entry → OnOk result (string_bytes text.new ≡ string_bytes text.old ++ before_text (compared sides.entry) word) }
+{
+    push_word(text, ": ", sides.labels_before, word)?;
+    push_type_before(text, sides, word)?;
     text.push_str(" before")
 }
 
-fn push_after(text: &mut String, sides: Sides<'_>, word: u64) -> Result<(), AllocError> {
-    push_word(text, ", ", sides.labels_after, word)?;
-    if let Some(kind) = kind_after(sides, word) {
-        push_kind(text, kind)?;
+fn push_type_before(text: &mut String, sides: Sides<'_>, word: u64) -> Result<(), AllocError>
+    ensures { AreNamedInOrder sides.entry → string_bytes text.new ≡ string_bytes text.old }
+{
+    let Some(names) = sides.names else {
+        return Ok(());
+    };
+    match object_of(sides.before, word) {
+        Some(object) => push_named_object(text, names, &object),
+        None => Ok(()),
     }
+}
+
+fn push_after(text: &mut String, sides: Sides<'_>, word: u64) -> Result<(), AllocError>
+    ensures { AreNamedInOrder sides.entry → OnOk result (string_bytes text.new ≡ string_bytes text.old ++ after_text (compared sides.entry) word) }
+{
+    push_word(text, ", ", sides.labels_after, word)?;
+    push_type_after(text, sides, word)?;
     text.push_str(" after")
 }
 
+fn push_type_after(text: &mut String, sides: Sides<'_>, word: u64) -> Result<(), AllocError>
+    ensures { AreNamedInOrder sides.entry → string_bytes text.new ≡ string_bytes text.old }
+{
+    match kind_after(sides, word) {
+        Some(kind) => push_kind(text, kind),
+        None => Ok(()),
+    }
+}
+
 // The kind of the object after that a word references, by its own names, or else by its first data word.
-fn kind_after<'a>(sides: Sides<'a>, word: u64) -> Option<Kind<'a>> {
+fn kind_after<'a>(sides: Sides<'a>, word: u64) -> Option<Kind<'a>>
+    ensures { AreNamedInOrder sides.entry → result ≡ None }
+{
     let object = object_of(sides.after, word)?;
     if let Some(names) = sides.names_after
         && let Some(kind) = names.object(&object)
@@ -257,12 +256,9 @@ fn kind_after<'a>(sides: Sides<'a>, word: u64) -> Option<Kind<'a>> {
     Some(Kind { name, note: "" })
 }
 
-fn push_word(
-    text: &mut String,
-    lead: &str,
-    labels: Labels<'_>,
-    word: u64,
-) -> Result<(), AllocError> {
+fn push_word(text: &mut String, lead: &str, labels: Labels<'_>, word: u64) -> Result<(), AllocError>
+    ensures { IfSome (listed labels.entry) IsByNumber → OnOk result (string_bytes text.new ≡ string_bytes text.old ++ (lead.now ++ word_text (listed labels.entry) word)) }
+{
     text.push_str(lead)?;
     match word.checked_sub(1) {
         Some(address) => {
@@ -274,15 +270,23 @@ fn push_word(
 }
 
 // An object's address, or its name if it has one in its place.
-fn push_object(text: &mut String, labels: Labels<'_>, address: u64) -> Result<(), AllocError> {
+fn push_object(text: &mut String, labels: Labels<'_>, address: u64) -> Result<(), AllocError>
+    ensures { IfSome (listed labels.entry) IsByNumber → OnOk result (string_bytes text.new ≡ string_bytes text.old ++ object_text (listed labels.entry) address) }
+{
     match label(labels, address) {
         Some(name) => text.push_str(name),
         None => write!(text, "{address}"),
     }
 }
 
-fn label<'a>(labels: Labels<'a>, address: u64) -> Option<&'a str> {
-    value_at(labels?, address)
+/// The name of an object or of a stale word, if it has one.
+pub fn label<'a>(labels: Labels<'a>, address: u64) -> Option<&'a str>
+    ensures { IfSome (listed labels.entry) IsByNumber → told result ≡ name_in (listed labels.entry) address }
+{
+    match labels {
+        Some(labels) => value_at(labels, address),
+        None => None,
+    }
 }
 
 // How two words at one place disagree.
@@ -291,7 +295,10 @@ fn push_detail(
     sides: Sides<'_>,
     how: &How,
     ends: &Ends,
-) -> Result<(), AllocError> {
+) -> Result<(), AllocError>
+    requires { AreValues sides.before.now sides.after.now how.now ends.now.before ends.now.after ends.now.word_before ends.now.word_after }
+    ensures { AreNamedInOrder sides.entry → OnOk result (string_bytes text.new ≡ string_bytes text.old ++ detail_text (compared sides.entry) how.now ends.now.before ends.now.after) }
+{
     let (old_names, new_names) = (sides.labels_before, sides.labels_after);
     match how {
         How::NullBefore => Ok(()),
@@ -320,7 +327,10 @@ fn push_detail(
 type Met<'a> = (Labels<'a>, u64, &'a str);
 
 // An object that an earlier path leads to, each with the side that it is of.
-fn push_met(text: &mut String, object: Met<'_>, first: Met<'_>) -> Result<(), AllocError> {
+fn push_met(text: &mut String, object: Met<'_>, first: Met<'_>) -> Result<(), AllocError>
+    ensures { IfSome (listed object.entry.0) IsByNumber → IfSome (listed first.entry.0) IsByNumber → OnOk result (string_bytes text.new ≡ string_bytes text.old
+        ++ met_text (object_text (listed object.entry.0) object.entry.1 ++ (codes " " ++ object.entry.2.now)) (object_text (listed first.entry.0) first.entry.1 ++ (codes " " ++ first.entry.2.now))) }
+{
     text.push_str("; ")?;
     push_of_side(text, object)?;
     text.push_str(" is ")?;
@@ -328,50 +338,102 @@ fn push_met(text: &mut String, object: Met<'_>, first: Met<'_>) -> Result<(), Al
     text.push_str(" on an earlier path")
 }
 
-fn push_of_side(text: &mut String, object: Met<'_>) -> Result<(), AllocError> {
+fn push_of_side(text: &mut String, object: Met<'_>) -> Result<(), AllocError>
+    ensures { IfSome (listed object.entry.0) IsByNumber → OnOk result (string_bytes text.new ≡ string_bytes text.old ++ (object_text (listed object.entry.0) object.entry.1 ++ (codes " " ++ object.entry.2.now))) }
+{
     let (labels, address, when) = object;
     push_object(text, labels, address)?;
     write!(text, " {when}")
 }
 
-fn push_numbers(text: &mut String, what: &str, old: u64, new: u64) -> Result<(), AllocError> {
+fn push_numbers(text: &mut String, what: &str, old: u64, new: u64) -> Result<(), AllocError>
+    ensures { OnOk result (string_bytes text.new ≡ string_bytes text.old ++ numbers_text what.now old new) }
+{
     write!(text, "; {what} {old} before, {new} after")
 }
 
-fn push_data(
-    text: &mut String,
-    sides: Sides<'_>,
-    word: u64,
-    ends: &Ends,
-) -> Result<(), AllocError> {
-    let (was, is) = (ends.word_before, ends.word_after);
+fn push_data(text: &mut String, sides: Sides<'_>, word: u64, ends: &Ends) -> Result<(), AllocError>
+    ensures { AreNamedInOrder sides.entry → OnOk result (string_bytes text.new ≡ string_bytes text.old
+        ++ values_text (compared sides.entry) word ends.now.word_before ends.now.word_after) }
+{
     write!(text, "; data word {word}")?;
-    if let (Some(names), Some(object)) = (sides.names, object_of(sides.before, ends.before)) {
-        push_named_data(text, names, &object, word)?;
-    }
-    push_value(text, sides.names, sides.texts_before, " is ", was)?;
-    push_value(text, sides.names, sides.texts_after, " before, ", is)?;
+    push_word_name(text, sides, word, ends.before)?;
+    push_value(
+        text,
+        sides.names,
+        sides.texts_before,
+        " is ",
+        ends.word_before,
+    )?;
+    push_value(
+        text,
+        sides.names,
+        sides.texts_after,
+        " before, ",
+        ends.word_after,
+    )?;
     text.push_str(" after")
 }
 
-// A data word: what it stands for and its number, or its number alone, in both forms if there are names.
+// The name that a program has for a data word of the object that is referenced before.
+fn push_word_name(
+    text: &mut String,
+    sides: Sides<'_>,
+    word: u64,
+    reference: u64,
+) -> Result<(), AllocError>
+    ensures { AreNamedInOrder sides.entry → string_bytes text.new ≡ string_bytes text.old }
+{
+    let Some(names) = sides.names else {
+        return Ok(());
+    };
+    match object_of(sides.before, reference) {
+        Some(object) => push_named_data(text, names, &object, word),
+        None => Ok(()),
+    }
+}
+
 fn push_value(
     text: &mut String,
     names: Option<&Names<'_>>,
     texts: &HashMap<u64, &str>,
     lead: &str,
     word: u64,
-) -> Result<(), AllocError> {
+) -> Result<(), AllocError>
+    ensures { names.entry ≡ None → OnOk result (string_bytes text.new ≡ string_bytes text.old ++ (lead.now ++ value_text texts.now.entries word)) }
+{
     text.push_str(lead)?;
-    let named = match names {
-        Some(names) => names.text(word),
-        None => None,
-    };
-    match (named, texts.get(&word)) {
+    match names {
+        Some(names) => push_named_value(text, names, texts, word),
+        None => push_plain_value(text, texts, word),
+    }
+}
+
+// A data word: what it stands for and its number, or its number alone.
+fn push_plain_value(
+    text: &mut String,
+    texts: &HashMap<u64, &str>,
+    word: u64,
+) -> Result<(), AllocError>
+    ensures { OnOk result (string_bytes text.new ≡ string_bytes text.old ++ value_text texts.now.entries word) }
+{
+    match texts.get(&word) {
+        Some(said) => write!(text, "{said} ({word})"),
+        None => write!(text, "{word}"),
+    }
+}
+
+// The same where a program has names, which count more. A number alone is there in both forms.
+fn push_named_value(
+    text: &mut String,
+    names: &Names<'_>,
+    texts: &HashMap<u64, &str>,
+    word: u64,
+) -> Result<(), AllocError> {
+    match (names.text(word), texts.get(&word)) {
         (Some(said), _) => push_text(text, said, word),
         (None, Some(said)) => write!(text, "{said} ({word})"),
-        (None, None) if names.is_some() => write!(text, "{word} ({word:#x})"),
-        (None, None) => write!(text, "{word}"),
+        (None, None) => write!(text, "{word} ({word:#x})"),
     }
 }
 

@@ -30,6 +30,7 @@ mod objects;
 mod places;
 mod reporting;
 mod sides;
+mod staling;
 mod verdict;
 
 pub use comparing::Labels;

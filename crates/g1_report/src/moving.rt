@@ -1,28 +1,14 @@
 //! How many objects moved.
-use crate::comparing::{Labels, Sides};
+ghost use Rattle.std.specs.Prelude.{◌≡◌, ◌≤◌, ◌++◌, cond, is_some, length, count_by, string_bytes, OnOk};
+ghost use Rattle.g1_report.specs.Wording.{has_moved, have_moved, is_yes, moved_by, moved_line, names_differ, told};
+ghost use Rattle.g1_report.specs.Given.{compared, AreNamedInOrder};
+
+use crate::comparing::{Sides, label};
 use crate::names::Names;
 use crate::objects::object_of;
-use crate::places::value_at;
 use g1_same::Renaming;
 use g1_words::Heap;
 use std::alloc::AllocError;
-
-// What says of an object where it is.
-#[derive(Clone, Copy)]
-enum Mark<'a> {
-    /// Its address.
-    Address(u64),
-    /// Its name in lines, or what a program's names say of it beside its type.
-    Word(&'a str),
-}
-
-// How the objects of two heaps are told from their copies.
-#[derive(Clone, Copy)]
-enum By {
-    Address,
-    Name,
-    Identifier,
-}
 
 /// The line that says how many objects have another address, another name, or another identifier, and of how many: those
 /// that have one in both heaps.
@@ -30,69 +16,89 @@ pub fn push_moved_line(
     text: &mut String,
     sides: Sides<'_>,
     renaming: &Renaming,
-) -> Result<(), AllocError> {
-    let by = way_of(sides);
-    let (mut moved, mut all) = (0u64, 0u64);
-    for (before, after) in renaming.before.iter().zip(renaming.after.iter()) {
-        let old = mark_at(sides.before, by, sides.labels_before, sides.names, *before);
-        let new = mark_at(
-            sides.after,
-            by,
-            sides.labels_after,
-            sides.names_after,
-            *after,
-        );
-        if let (Some(old), Some(new)) = (old, new) {
-            all = all.saturating_add(1);
-            if !is_equal(old, new) {
-                moved = moved.saturating_add(1);
-            }
-        }
-    }
-    let what = match by {
-        By::Address => "address",
-        By::Name => "name",
-        By::Identifier => "identifier",
-    };
+) -> Result<(), AllocError>
+    requires { length renaming.now.before.items ≡ length renaming.now.after.items }
+    ensures { AreNamedInOrder sides.entry → OnOk result (string_bytes text.new ≡ string_bytes text.old
+        ++ moved_line (compared sides.entry) (have_moved (compared sides.entry) renaming.now.before.items renaming.now.after.items)) }
+{
+    let (moved, all) = count_moved(sides, renaming.before.as_slice(), renaming.after.as_slice());
+    let what = way_word(sides);
     write!(text, "moved {moved} of {all} by {what}\n")
 }
 
 // By identifiers if both heaps have a program's names, and else by what the files have.
-fn way_of(sides: Sides<'_>) -> By {
+fn way_word(sides: Sides<'_>) -> &'static str
+    ensures { AreNamedInOrder sides.entry → result.now ≡ moved_by (compared sides.entry).objects_before }
+{
     if sides.names_after.is_some() {
-        By::Identifier
-    } else if sides.labels_before.is_some() {
-        By::Name
-    } else {
-        By::Address
+        return "identifier";
+    }
+    match sides.labels_before {
+        Some(_) => "name",
+        None => "address",
     }
 }
 
-// What says where the object at an address is, if anything does.
-fn mark_at<'a>(
-    heap: &Heap,
-    by: By,
-    labels: Labels<'a>,
-    names: Option<&Names<'a>>,
-    address: u64,
-) -> Option<Mark<'a>> {
-    match by {
-        By::Address => Some(Mark::Address(address)),
-        By::Name => Some(Mark::Word(value_at(labels?, address)?)),
-        By::Identifier => {
-            let object = object_of(heap, address.saturating_add(1))?;
-            match names?.object(&object)?.note {
-                "" => None,
-                note => Some(Mark::Word(note)),
-            }
-        }
+// How many objects moved, and of how many that is known.
+fn count_moved(sides: Sides<'_>, before: &[u64], after: &[u64]) -> (u64, u64)
+    requires { length before.now ≡ length after.now }
+    ensures moved { AreNamedInOrder sides.entry → result.0 ≡ count_by is_yes (have_moved (compared sides.entry) before.now after.now) }
+    ensures all { AreNamedInOrder sides.entry → result.1 ≡ count_by is_some (have_moved (compared sides.entry) before.now after.now) }
+{
+    let (mut moved, mut all) = (0u64, 0u64);
+    for place in 0..before.len() {
+        let (one_moved, one) = counts_of(has_moved(sides, before[place], after[place]));
+        moved += one_moved;
+        all += one;
+    }
+    (moved, all)
+}
+
+// What one object adds to the objects that moved, and to those of which it is known.
+fn counts_of(moved: Option<bool>) -> (u64, u64)
+    ensures moved { result.0 ≡ cond (is_yes moved) 1 0 }
+    ensures all { result.1 ≡ cond (is_some moved) 1 0 }
+    ensures at_most_one { (result.0 ≤ 1) × (result.1 ≤ 1) }
+{
+    match moved {
+        None => (0, 0),
+        Some(false) => (0, 1),
+        Some(true) => (1, 1),
     }
 }
 
-fn is_equal(old: Mark<'_>, new: Mark<'_>) -> bool {
+// Whether an object moved, if that is known.
+fn has_moved(sides: Sides<'_>, before: u64, after: u64) -> Option<bool>
+    ensures { AreNamedInOrder sides.entry → result ≡ has_moved (compared sides.entry).objects_before (compared sides.entry).objects_after before after }
+{
+    if sides.names_after.is_some() {
+        let old = note_at(sides.before, sides.names, before);
+        return differ(old, note_at(sides.after, sides.names_after, after));
+    }
+    if sides.labels_before.is_none() {
+        return Some(before != after);
+    }
+    differ(
+        label(sides.labels_before, before),
+        label(sides.labels_after, after),
+    )
+}
+
+// Whether two names differ, if both are there.
+fn differ(old: Option<&str>, new: Option<&str>) -> Option<bool>
+    ensures { result ≡ names_differ (told old.entry) (told new.entry) }
+{
     match (old, new) {
-        (Mark::Address(old), Mark::Address(new)) => old == new,
-        (Mark::Word(old), Mark::Word(new)) => old == new,
-        _ => false,
+        (Some(old), Some(new)) => Some(old != new),
+        _ => None,
+    }
+}
+
+// What a program's names say of the object at an address beside its type.
+fn note_at<'a>(heap: &Heap, names: Option<&Names<'a>>, address: u64) -> Option<&'a str> {
+    let object = object_of(heap, address.saturating_add(1))?;
+    match names?.object(&object)?.note {
+        "" => None,
+        note => Some(note),
     }
 }

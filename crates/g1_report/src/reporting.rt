@@ -3,6 +3,9 @@ ghost use Rattle.std.specs.Prelude.{◌≡◌, None, OnOk, IfOk, IfErr, string_b
 ghost use Rattle.std.specs.Io.KnownBytes.{Appends};
 ghost use Rattle.g1_report.specs.Finding.{IsFault, IsRefusal, IsVerdict, IsUntouched};
 ghost use Rattle.g1_report.specs.Taken.{TakesFirst};
+ghost use Rattle.g1_report.specs.Wording.{Called, Compared};
+ghost use Rattle.g1_report.specs.Answer.{compared_of, names_or_none, stale_names, IsPlain, HandsOn};
+ghost use Rattle.g1_report.specs.Given.{listed, compared};
 
 use crate::comparing::{Labels, Sides};
 use crate::lines::Lines;
@@ -89,6 +92,7 @@ impl<T: Drop> From<AllocFailed<T>> for Refused {
 /// `Refused` says why there is no verdict. If it is the set or a stale word, `out` has taken nothing. A fault may come
 /// behind some of the lines.
 pub fn report<L: Lines>(alloc: Global, asked: &Asked<'_>, out: &mut L) -> Result<u8, Refused>
+    ensures text { asked.now.all ≡ None → IsPlain asked.now → IfOk result (λ s. HandsOn asked.now s (L.taken out.old) (L.taken out.new)) }
     ensures status { IfOk result (λ s. IsVerdict asked.now.before.now.image.heap asked.now.after.now.image.heap asked.now.after.now.stale asked.now.set.now asked.now.fill s) }
     ensures refused { IfErr result (λ e. IsRefusal asked.now.before.now.image.heap asked.now.after.now.image.heap asked.now.after.now.stale asked.now.set.now e) }
     ensures untouched { IfErr result (λ e. IsUntouched (L.taken out.old) (L.taken out.new) e) }
@@ -125,6 +129,9 @@ fn hand_on<L: Lines>(
 fn sides_of<'a>(asked: &Asked<'a>) -> Sides<'a>
     ensures before { result.before.now ≡ asked.now.before.now.image.heap }
     ensures after { result.after.now ≡ asked.now.after.now.image.heap }
+    ensures compared { compared result ≡ compared_of asked.now }
+    ensures names { result.names ≡ asked.now.names }
+    ensures names_after { result.names_after ≡ asked.now.names_after }
 {
     Sides {
         before: asked.before.image.heap(),
@@ -140,9 +147,20 @@ fn sides_of<'a>(asked: &Asked<'a>) -> Sides<'a>
     }
 }
 
-fn stale_names_of<'a>(side: &'a Side<'_>) -> Labels<'a> {
+fn stale_names_of<'a>(side: &'a Side<'_>) -> Labels<'a>
+    ensures { listed result ≡ stale_names side.now.stale }
+{
     match &side.stale {
-        Some(strays) if !strays.names.is_empty() => Some(strays.names.as_slice()),
-        _ => None,
+        Some(strays) => names_or_none(strays.names.as_slice()),
+        None => None,
+    }
+}
+
+fn names_or_none<'a>(names: &'a [(u64, &'a str)]) -> Labels<'a>
+    ensures { listed result ≡ names_or_none names.now }
+{
+    match names {
+        [] => None,
+        _ => Some(names),
     }
 }

@@ -20,8 +20,14 @@ pub struct Side<'a> {
 }
 
 impl<'a> Side<'a> {
+    ghost use Rattle.std.specs.Prelude.{◌≡◌};
+    ghost use Rattle.g1_report.specs.Answer.{labels_of};
+    ghost use Rattle.g1_report.specs.Given.{listed};
+
     /// The addresses and the names of the objects, if they have names.
-    pub fn labels(&self) -> Labels<'_> {
+    pub fn labels(&self) -> Labels<'_>
+        ensures { listed result ≡ labels_of self.now }
+    {
         match &self.labels {
             Some(labels) => Some(labels.as_slice()),
             None => None,

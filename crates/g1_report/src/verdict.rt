@@ -1,16 +1,20 @@
 //! What is found first of two heaps, and what is said of it.
-ghost use Rattle.std.specs.Prelude.{◌≡◌, ℕ, List, Option, Some, None, AllPairs, IsTrue, IsFalse, IfOk, IfErr, IfSome, IfNone};
+ghost use Rattle.std.specs.Prelude.{◌≡◌, ◌++◌, ℕ, List, length, Option, Some, None, AllPairs, IsTrue, IsFalse, IfOk, IfErr, IfSome, IfNone, OnOk, string_bytes};
 ghost use Rattle.g1_image.specs.Stale.{HasLowerPlace};
 ghost use Rattle.g1_same.specs.Same.{IsRenaming};
 ghost use Rattle.g1_report.specs.Agreement.{used, KeepsSet};
 ghost use Rattle.g1_report.specs.Finding.{IsFinding, IsRefusal, IsVerdict, Loses};
 ghost use Rattle.g1_report.specs.declared.sides.Strays.{Strays};
+ghost use Rattle.g1_report.specs.Wording.{Compared, lost_line};
+ghost use Rattle.g1_report.specs.Answer.{IsAnswer, IsSameAnswer, same_text, moved_text, kept_text};
+ghost use Rattle.g1_report.specs.Given.{compared, AreNamedInOrder};
 
-use crate::comparing::{Sides, push_difference_line, push_same_line, push_stale_line};
+use crate::comparing::{Sides, push_difference_line, push_same_line};
 use crate::listing::words_of;
 use crate::moving::push_moved_line;
 use crate::reporting::{Asked, Refused};
 use crate::sides::Strays;
+use crate::staling::push_stale_line;
 use g1_choose::given;
 use g1_kept::{Lost, kept};
 use g1_same::{Difference, Earliest, Renaming, StaleEnd, compare, compare_stale};
@@ -100,6 +104,7 @@ pub fn verdict_on(
     finding: &Finding,
 ) -> Result<Verdict, Refused>
     requires { IsFinding sides.before.now sides.after.now asked.now.after.now.stale finding.now }
+    ensures text { AreNamedInOrder sides.entry → IfOk result (λ v. IsAnswer (compared sides.entry) asked.now finding.now v.status (string_bytes v.text)) }
     ensures verdict { IfOk result (λ v. IsVerdict sides.entry.before.now sides.entry.after.now asked.now.after.now.stale asked.now.set.now asked.now.fill v.status) }
     ensures refused { IfErr result (λ e. IsRefusal sides.entry.before.now sides.entry.after.now asked.now.after.now.stale asked.now.set.now e) }
 {
@@ -128,6 +133,7 @@ fn verdict_on_same(
 ) -> Result<Verdict, Refused>
     requires graph { IsRenaming sides.before.now sides.after.now renaming.now.before.items renaming.now.after.items }
     requires none { asked.now.after.now.stale ≡ None }
+    ensures text { AreNamedInOrder sides.entry → IfOk result (λ v. IsSameAnswer (compared sides.entry) asked.now renaming.now v.status (string_bytes v.text)) }
     ensures verdict { IfOk result (λ v. IsVerdict sides.entry.before.now sides.entry.after.now asked.now.after.now.stale asked.now.set.now asked.now.fill v.status) }
     ensures refused { IfErr result (λ e. IsRefusal sides.entry.before.now sides.entry.after.now asked.now.after.now.stale asked.now.set.now e) }
 {
@@ -136,14 +142,50 @@ fn verdict_on_same(
         write!(text, "differ {lost}\n")?;
         return Ok(Verdict { text, status: 1 });
     }
-    push_same_line(&mut text, sides.before, renaming)?;
-    if asked.moved {
-        push_moved_line(&mut text, sides, renaming)?;
-    }
-    if !asked.set.is_empty() {
-        text.push_str("kept\n")?;
-    }
+    push_same_text(&mut text, asked, sides, renaming)?;
     Ok(Verdict { text, status: 0 })
+}
+
+// What is said of two heaps that agree as asked.
+fn push_same_text(
+    text: &mut String,
+    asked: &Asked<'_>,
+    sides: Sides<'_>,
+    renaming: &Renaming,
+) -> Result<(), AllocError>
+    requires { IsRenaming sides.before.now sides.after.now renaming.now.before.items renaming.now.after.items }
+    ensures { AreNamedInOrder sides.entry → OnOk result (string_bytes text.new ≡ string_bytes text.old ++ same_text (compared sides.entry) asked.now renaming.now) }
+{
+    push_same_line(text, sides.before, renaming)?;
+    push_moved(text, asked.moved, sides, renaming)?;
+    push_kept(text, asked.set)
+}
+
+// What moved, if that is asked.
+fn push_moved(
+    text: &mut String,
+    moved: bool,
+    sides: Sides<'_>,
+    renaming: &Renaming,
+) -> Result<(), AllocError>
+    requires { length renaming.now.before.items ≡ length renaming.now.after.items }
+    ensures { AreNamedInOrder sides.entry → OnOk result (string_bytes text.new ≡ string_bytes text.old ++ moved_text moved (compared sides.entry) renaming.now.before.items renaming.now.after.items) }
+{
+    if moved {
+        push_moved_line(text, sides, renaming)
+    } else {
+        Ok(())
+    }
+}
+
+// That what a pause of the set keeps is kept, if a set is given.
+fn push_kept(text: &mut String, set: &[u32]) -> Result<(), AllocError>
+    ensures { OnOk result (string_bytes text.new ≡ string_bytes text.old ++ kept_text set.now) }
+{
+    match set {
+        [] => Ok(()),
+        _ => text.push_str("kept\n"),
+    }
 }
 
 // The first thing that a pause of the set would have kept, if a set is given. Its regions are looked for in the heap

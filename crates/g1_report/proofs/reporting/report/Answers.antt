@@ -1,4 +1,6 @@
-use Rattle.g1_report.specs.Finding.{IsRefusal}
+use Rattle.std.proofs.Common.{sym, ◌∙◌, subst, string_bytes}
+use Rattle.g1_report.specs.Finding.{IsRefusal, IsFinding}
+use Rattle.g1_report.specs.Answer.{AreByNumber, IsAnswer}
 use Rattle.g1_report.proofs.Passed.{passed_on, of_heaps}
 use Rattle.g1_report.proofs.reporting.report.Goals as goal
 
@@ -9,3 +11,21 @@ returns-in_err-finding-clause-refused g c =
     passed_on (λ e. IsRefusal a.before.now.image.heap a.after.now.image.heap a.after.now.stale a.set.now e) c.from_residual.result e c.from_residual.ensures.1
     (of_heaps (λ x y. IsRefusal x y a.after.now.stale a.set.now e) c.sides_of-sides.result.before.now a.before.now.image.heap c.sides_of-sides.result.after.now a.after.now.image.heap
     c.sides_of-sides.ensures.before c.sides_of-sides.ensures.after (c.in_err-finding.ensures.refused a.set.now))
+
+pub returns-clause-text : goal.returns-clause-text
+returns-clause-text g c = λ none plain.
+    let a = c.args.asked.now in
+    let sides = c.sides_of-sides in
+    let text = string_bytes c.in_ok-verdict.verdict.text in
+    record {
+      finding = c.in_ok-finding.finding;
+      found = of_heaps (λ x y. IsFinding x y a.after.now.stale c.in_ok-finding.finding) sides.result.before.now a.before.now.image.heap sides.result.after.now a.after.now.image.heap
+          sides.ensures.before sides.ensures.after c.in_ok-finding.ensures.found;
+      text = text;
+      answer = subst (λ s. IsAnswer s a c.in_ok-finding.finding c.in_ok-verdict.verdict.status text) sides.ensures.compared (c.in_ok-verdict.ensures.text (record {
+        names = sides.ensures.names ∙ plain.names;
+        names_after = sides.ensures.names_after ∙ plain.names_after;
+        in_order = subst AreByNumber (sym sides.ensures.compared) plain.in_order;
+      }));
+      taken = c.in_ok-hand_on.ensures.alone none;
+    }
