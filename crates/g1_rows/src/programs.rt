@@ -6,6 +6,7 @@
 //! reported.
 use crate::rows::{Trial, push_shown};
 use crate::scene::{Content, Devices, Scene, fits};
+use g1_image::ToWriter;
 use g1_testing::{Stream, Trouble};
 use g1_words::{Device, Fault};
 use g1heap_cli::Terminals;
@@ -211,7 +212,7 @@ fn run<R: Threads + Files + Sync>(
     let words = words.as_slice();
     let (writer, errors) = (&mut left.writer, &mut left.errors);
     left.status = if line.starts_with("g1pause") {
-        g1pause_cli::program(rt, alloc, words, reader, writer, errors)
+        g1pause_cli::program(rt, alloc, words, reader, &mut ToWriter::new(writer), errors).status
     } else {
         let is_at_terminal = line.starts_with("g1heap_at_terminal");
         let terminals = Terminals {

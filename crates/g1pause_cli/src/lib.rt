@@ -11,5 +11,6 @@ mod commands;
 mod options;
 mod usage;
 
-pub use commands::program;
+pub use commands::{perform, program};
+pub use options::{Replay, Request};
 pub use usage::NAME;
