@@ -1,5 +1,5 @@
 -- The lines of survivors, by the finders that were met.
-use Rattle.std.proofs.Common.{◌≡◌, ℕ, zero, suc, ◌+◌, ◌<◌, ◌≤◌, List, [], ◌∷◌, ◌++◌, length, map, flat_map, slice_index, refl, sym, ◌∙◌, ap, subst, arith, append-nil}
+use Rattle.std.proofs.Common.{◌≡◌, ℕ, suc, ◌+◌, ◌<◌, ◌≤◌, List, [], ◌∷◌, ◌++◌, length, map, flat_map, slice_index, refl, sym, ◌∙◌, ap, arith, append-nil}
 use Rattle.std.specs.List.{range_with_len}
 use Rattle.std.proofs.lemmas.List.{length-map, length-append}
 use Rattle.g1_words.specs.Heap.{Heap}
@@ -12,7 +12,7 @@ use Rattle.g1_explain.specs.Searched.{finder_at, AreMet, IsSearch}
 use Rattle.g1_explain.specs.Survivors.{survivor_line, survivor_lines}
 use Rattle.g1_explain.proofs.FirstLeads.{targets_of, finders_of}
 use Rattle.g1_explain.proofs.Targets.{searched}
-use Rattle.g1_explain.proofs.AllMet.{all_finders, met_first}
+use Rattle.g1_explain.proofs.AllMet.{met_first}
 
 -- what is made of the places of some references is made of them
 map_places : {A : Type 0} (f : Lead → A) (g : ℕ → A) (a : ℕ) (ls : List Lead) → ((j : ℕ) → j < length ls → g (a + j) ≡ f (record { finder = finder_at (finders_of ls) j; target = slice_index (targets_of ls) j }))

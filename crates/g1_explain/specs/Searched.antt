@@ -1,5 +1,5 @@
 -- A search that is gone over again, to see what finds each object.
-use Rattle.std.specs.Prelude.{◌≡◌, ◌<◌, ◌≤◌, ℕ, suc, ◌+◌, Bool, ◌&&◌, ◌==◌, if◌then◌else◌, nat_lt, List, [], ◌∷◌, ◌++◌, flat_map, length, slice_index, slice_index_or, Contains}
+use Rattle.std.specs.Prelude.{◌≡◌, ◌<◌, ◌≤◌, ℕ, suc, Bool, ◌&&◌, ◌==◌, if◌then◌else◌, nat_lt, List, [], ◌∷◌, ◌++◌, flat_map, length, slice_index, slice_index_or, Contains}
 use Rattle.std.specs.List.{All, range_with_len}
 use Rattle.g1_words.specs.Heap.{Heap, word, objects, object_at}
 use Rattle.g1_words.specs.Survivors.{Survivors}
