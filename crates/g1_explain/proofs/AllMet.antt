@@ -1,5 +1,5 @@
 -- What a search meets again, from the cards that lead into its set.
-use Rattle.std.proofs.Common.{◌≡◌, ℕ, zero, suc, ◌+◌, ◌-◌, ◌<◌, ◌≤◌, inl, inr, Bool, true, List, [], ◌∷◌, ◌++◌, length, filter, flat_map, slice_index, slice_index_or, refl, sym, ◌∙◌, ap, subst, arith, append_assoc}
+use Rattle.std.proofs.Common.{◌≡◌, ℕ, zero, suc, ◌+◌, ◌-◌, ◌<◌, ◌≤◌, Bool, true, List, [], ◌∷◌, ◌++◌, length, filter, flat_map, slice_index, refl, sym, ◌∙◌, ap, subst, arith, append_assoc}
 use Rattle.std.specs.List.{range_with_len}
 use Rattle.std.proofs.lemmas.Grind.{flat_map-append}
 use Rattle.g1_words.specs.Heap.{Heap}
@@ -9,12 +9,11 @@ use Rattle.g1_words.proofs.Members.{In, map_cases, filter_member}
 use Rattle.g1_frontier.specs.Window.{AreCards, AreOutside, LeadIn}
 use Rattle.g1_frontier.proofs.Seeds.{filter_append}
 use Rattle.g1_explain.specs.declared.finder.Finder.{Finder}
-use Rattle.g1_explain.specs.declared.finder.Finder.TheVariants.{Root}
 use Rattle.g1_explain.specs.declared.paths.Leg.{Leg}
 use Rattle.g1_explain.specs.Finders.{Lead, root_leads, slot_leads, object_leads, found_leads, leads, first_leads}
 use Rattle.g1_explain.specs.Searched.{met, card_leads, AreMet, finder_at, before, IsRoute, none, leg}
 use Rattle.g1_explain.proofs.Meets.{met-append, met_grows, range_split}
-use Rattle.g1_explain.proofs.FirstLeads.{targets_of, finders_of, first_member, met_is, met_inner}
+use Rattle.g1_explain.proofs.FirstLeads.{finders_of, first_member, met_is, met_inner}
 use Rattle.g1_explain.proofs.Targets.{searched}
 use Rattle.g1_explain.proofs.CardLeads.{by_cards}
 

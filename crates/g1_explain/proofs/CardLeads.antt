@@ -1,5 +1,5 @@
 -- The slots on the cards that lead into a set have the references of the slots outside it.
-use Rattle.std.proofs.Common.{◌≡◌, ◌≤◌, ◌<◌, ℕ, zero, suc, ◌*◌, ◌/◌, inl, inr, Bool, true, false, not, cond, ◌&&◌, List, [], ◌∷◌, ◌++◌, map, filter, flat_map, Contains, arith, refl}
+use Rattle.std.proofs.Common.{◌≡◌, ◌<◌, ℕ, zero, suc, ◌*◌, ◌/◌, inl, Bool, true, false, not, cond, ◌&&◌, List, [], ◌∷◌, ◌++◌, map, filter, flat_map, Contains, arith, refl}
 use Rattle.std.proofs.Common.{sym, ap, subst, ◌∙◌, eqb, eqb-true, eq-eqb}
 use Rattle.std.proofs.lemmas.Bool.{false≢true}
 use Rattle.std.proofs.lemmas.Grind.{flat_map-append}
@@ -10,14 +10,14 @@ use Rattle.g1_words.specs.References.{Ref, named, refs_at, refs}
 use Rattle.g1_words.specs.Survivors.{in_set}
 use Rattle.g1_words.specs.Valid.{IsValid}
 use Rattle.g1_words.proofs.Bounds.{cards_in_region, card_in_region}
-use Rattle.g1_words.proofs.Firsts.{filter_twice, filter-same}
+use Rattle.g1_words.proofs.Firsts.{filter_twice}
 use Rattle.g1_words.proofs.Members.{In, In-from_contains, Contains-from_in, In-map, In-flat_map, In-filter, filter_member, flat_map_cases, has_from_in, in_from_has}
 use Rattle.g1_words.proofs.Ordered.{Ordered, Ordered-from_pairs, same_order}
 use Rattle.g1_words.proofs.Rising.{Ordered-flat_map, Ordered-filter}
 use Rattle.g1_rem.specs.Slots.{all_slots, slots_on}
 use Rattle.g1_rem.proofs.Bare.{flat_twice}
 use Rattle.g1_frontier.specs.Window.{AreCards, AreOutside, LeadIn}
-use Rattle.g1_frontier.proofs.Seeds.{filter_append, filter_flat, map_flat, flat_same, slots_ordered, apart}
+use Rattle.g1_frontier.proofs.Seeds.{filter_flat, map_flat, flat_same, slots_ordered, apart}
 use Rattle.g1_explain.specs.declared.finder.Finder.TheVariants.{Card}
 use Rattle.g1_explain.specs.Finders.{Lead, lead, slot_leads}
 use Rattle.g1_explain.specs.Searched.{card_leads}

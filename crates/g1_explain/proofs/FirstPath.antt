@@ -2,10 +2,9 @@
 use Rattle.std.proofs.Common.{◌≡◌, ℕ, zero, suc, ◌+◌, ◌<◌, ◌≤◌, ◌⊎◌, inl, inr, true, false, List, [], ◌∷◌, ◌++◌, length, map, slice_index, refl, sym, ◌∙◌, ap, subst, arith}
 use Rattle.std.specs.List.{range_with_len}
 use Rattle.std.proofs.lemmas.List.{length_push, length-map}
-use Rattle.std.proofs.lemmas.Bool.{cases_lt}
-use Rattle.g1_words.specs.Heap.{Heap, word, card_of, object_at}
-use Rattle.g1_words.specs.References.{Ref, refs, named}
-use Rattle.g1_words.specs.Survivors.{in_set, firsts}
+use Rattle.g1_words.specs.Heap.{Heap, word, object_at}
+use Rattle.g1_words.specs.References.{Ref, refs}
+use Rattle.g1_words.specs.Survivors.{in_set}
 use Rattle.g1_words.proofs.Computed.{In-range}
 use Rattle.g1_words.proofs.Firsts.{Distinct, Distinct-firsts}
 use Rattle.g1_words.proofs.Indices.{get_or-In}
@@ -19,8 +18,8 @@ use Rattle.g1_explain.specs.declared.finder.Finder.TheVariants.{Root, Card, Obje
 use Rattle.g1_explain.specs.declared.paths.Leg.{Leg}
 use Rattle.g1_explain.specs.Finders.{Lead, lead, root_leads, slot_leads, object_leads, found_leads, leads, first_leads}
 use Rattle.g1_explain.specs.Searched.{finder_at, before, IsRoute, none, leg}
-use Rattle.g1_explain.proofs.FirstLeads.{targets_of, finders_of, some_first, first_targets}
-use Rattle.g1_explain.proofs.LeadOrder.{Earlier, IsEarlierLead, IsRootLead, root_tells, IsSlotLead, slot_tells, least, first_in_order, places_in_order, place_in}
+use Rattle.g1_explain.proofs.FirstLeads.{targets_of, some_first, first_targets}
+use Rattle.g1_explain.proofs.LeadOrder.{Earlier, IsEarlierLead, root_tells, slot_tells, least, first_in_order, places_in_order, place_in}
 use Rattle.g1_explain.proofs.AllMet.{all_finders}
 use Rattle.g1_explain.proofs.Routes.{no_route, route_one, count_is, IsLedTo, by_root, by_card, by_slot, led_to, led_by}
 

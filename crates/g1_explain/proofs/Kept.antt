@@ -1,10 +1,9 @@
 -- The paths of what keeps an object are first ones.
 use Rattle.std.proofs.Common.{◌≡◌, ◌≢◌, ℕ, zero, suc, ◌+◌, ◌<◌, ◌≤◌, ◌⊎◌, inl, inr, true, false, List, [], ◌∷◌, ◌++◌, length, map, slice_index, Contains, refl, sym, ◌∙◌, ap, subst, arith, append_assoc, append-nil}
 use Rattle.std.proofs.lemmas.Bool.{false≢true}
-use Rattle.std.proofs.lemmas.List.{length_push}
 use Rattle.g1_words.specs.Heap.{Heap, word, card_of, region_of, object_at, objects}
 use Rattle.g1_words.specs.References.{Ref, refs, named, root_targets, targets, refs_at}
-use Rattle.g1_words.specs.Live.{Reached, seed, child, Live}
+use Rattle.g1_words.specs.Live.{seed, child, Live}
 use Rattle.g1_words.specs.Survivors.{in_set, Survivors}
 use Rattle.g1_words.specs.Valid.{IsValid}
 use Rattle.g1_words.proofs.Members.{In, In-from_contains, Contains-from_in, In-flat_map, In-map, has_from_in}
@@ -15,9 +14,9 @@ use Rattle.g1_rem.proofs.Bare.{flat_twice}
 use Rattle.g1_frontier.specs.Window.{AreCards, AreOutside, LeadIn}
 use Rattle.g1_frontier.proofs.Seeds.{map_append}
 use Rattle.g1_mark.specs.Marked.{used}
-use Rattle.g1_mark.proofs.Reaching.{live_from_reached, reached_from_live}
+use Rattle.g1_mark.proofs.Reaching.{reached_from_live}
 use Rattle.g1_mark.proofs.Used.{object_used, slot_used}
-use Rattle.g1_same.specs.Path.{Leads, LeadsTo, Lower, Before}
+use Rattle.g1_same.specs.Path.{Leads, LeadsTo, Before}
 use Rattle.g1_same.proofs.Routes.{leads_to_push}
 use Rattle.g1_explain.specs.declared.finder.Finder.{Finder}
 use Rattle.g1_explain.specs.declared.finder.Finder.TheVariants.{Root, Card, Object as Slot}

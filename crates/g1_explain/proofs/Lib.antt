@@ -10,4 +10,5 @@ pub mod Routes
 pub mod FirstPath
 pub mod NoSlots
 pub mod Kept
+pub mod SurvivorLines
 pub mod Reasons

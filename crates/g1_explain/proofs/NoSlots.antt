@@ -1,5 +1,5 @@
 -- No slot lies on a card that the heap has not.
-use Rattle.std.proofs.Common.{◌≡◌, ◌≤◌, ◌<◌, ℕ, ◌*◌, ◌/◌, inl, List, [], ◌∷◌, refl, sym, ◌∙◌, ap, subst, arith, eqb, eqb-true, length}
+use Rattle.std.proofs.Common.{◌≡◌, ◌≤◌, ℕ, ◌*◌, ◌/◌, inl, List, [], ◌∷◌, refl, sym, ap, subst, arith, eqb, eqb-true}
 use Rattle.std.proofs.Math.Nat.{div-mul-le_self, mul-le-mul_right}
 use Rattle.g1_words.specs.Heap.{Heap, card_of}
 use Rattle.g1_words.specs.Valid.{IsValid}

@@ -1,5 +1,5 @@
 -- What keeps an object, by what a search returned.
-use Rattle.std.proofs.Common.{◌≡◌, ◌<◌, ℕ, suc, inl, inr, true, false, List, [], ◌∷◌, length, slice_index, Contains, refl, sym, ◌∙◌, ap, subst, arith, Vec, Global}
+use Rattle.std.proofs.Common.{◌≡◌, ◌<◌, ℕ, suc, true, List, [], ◌∷◌, Contains, sym, ◌∙◌, ap, subst, arith, Vec, Global}
 use Rattle.std.specs.Prelude.{Option, Some, None, IfSome, IfNone, Result, Ok, Err, IfOk}
 use Rattle.std.proofs.lemmas.Bool.{false≢true}
 use Rattle.g1_words.specs.Heap.{Heap, kind, region_of, is_first, object_at, objects, card_of, word}
@@ -8,7 +8,7 @@ use Rattle.g1_words.specs.Live.{Live}
 use Rattle.g1_words.specs.Survivors.{in_set, Survivors}
 use Rattle.g1_words.specs.Valid.{IsValid, IsSlotOf}
 use Rattle.g1_words.proofs.Computed.{contains_has}
-use Rattle.g1_words.proofs.Members.{In, In-from_contains, Contains-from_in}
+use Rattle.g1_words.proofs.Members.{In-from_contains, Contains-from_in}
 use Rattle.g1_words.proofs.OneToOne.{reached_object}
 use Rattle.g1_words.proofs.Rising.{told_ref}
 use Rattle.g1_words.proofs.Sound.{sound}
@@ -29,7 +29,7 @@ use Rattle.g1_explain.specs.declared.paths.Entry.{Entry}
 use Rattle.g1_explain.specs.declared.paths.Reason.{Reason}
 use Rattle.g1_explain.specs.declared.paths.Reason.TheVariants as reason
 use Rattle.g1_explain.specs.Searched.{AreObjects, IsFoundPath}
-use Rattle.g1_explain.specs.Keeping.{leg, AreLegs, card, path_of, LeadsInto, IsFirst, IsEntry, IsUnrooted, IsPlain, SurvivesAlone, IsReason}
+use Rattle.g1_explain.specs.Keeping.{leg, AreLegs, card, path_of, LeadsInto, IsFirst, IsEntry, IsUnrooted, IsReason}
 use Rattle.g1_explain.proofs.Kept.{live_path, entered_path}
 
 pub some_of : {X E : Type 0} (P Q : X → Type 0) → ((x : X) → P x → Q x) → (r : Result (Option X) E) → IfOk r (λ o. IfSome o P) → IfOk r (λ o. IfSome o Q)

@@ -1,11 +1,10 @@
 -- The legs of a route, and the paths that they have.
-use Rattle.std.proofs.Common.{◌≡◌, ℕ, zero, suc, ◌+◌, ◌<◌, ◌≤◌, ◌⊎◌, inl, inr, true, false, List, [], ◌∷◌, ◌++◌, length, map, slice_index, Contains, refl, sym, ◌∙◌, ap, subst, arith}
+use Rattle.std.proofs.Common.{◌≡◌, ℕ, suc, ◌+◌, ◌<◌, inl, inr, false, List, [], ◌∷◌, ◌++◌, length, slice_index, refl, sym, ◌∙◌, ap, subst, arith}
 use Rattle.std.proofs.lemmas.List.{length_push}
 use Rattle.g1_words.specs.Heap.{Heap, word, card_of, object_at}
 use Rattle.g1_words.specs.References.{Ref, refs}
 use Rattle.g1_words.specs.Survivors.{in_set}
 use Rattle.g1_words.proofs.Members.{In, In-append_cases, filter_member, Contains-from_in}
-use Rattle.g1_frontier.proofs.Seeds.{map_append}
 use Rattle.g1_explain.specs.declared.finder.Finder.{Finder}
 use Rattle.g1_explain.specs.declared.finder.Finder.TheVariants.{Root, Card, Object as Slot}
 use Rattle.g1_explain.specs.declared.paths.Leg.{Leg}
@@ -13,8 +12,8 @@ use Rattle.g1_explain.specs.Finders.{Lead, root_leads, slot_leads, found_leads, 
 use Rattle.g1_explain.specs.Searched.{finder_at, before, IsRoute, none, leg}
 use Rattle.g1_explain.specs.Keeping.{AreLegs}
 use Rattle.g1_explain.specs.Keeping as keeping
-use Rattle.g1_explain.proofs.FirstLeads.{targets_of, finders_of, first_member}
-use Rattle.g1_explain.proofs.LeadOrder.{lead_at, IsRootLead, root_tells, IsSlotLead, slot_tells, IsFoundLead, found_tells}
+use Rattle.g1_explain.proofs.FirstLeads.{targets_of, first_member}
+use Rattle.g1_explain.proofs.LeadOrder.{lead_at, root_tells, slot_tells, found_tells}
 use Rattle.g1_explain.proofs.AllMet.{all_finders}
 
 pub no_route : (h : Heap) (found : List ℕ) (fs : List Finder) (n : ℕ) (legs : List Leg) → n ≡ 0 → IsRoute h found fs n legs → legs ≡ []

@@ -1,10 +1,9 @@
 -- The references of a search lead to what the search finds.
 use Rattle.std.proofs.Common.{◌≡◌, ℕ, zero, suc, ◌+◌, ◌<◌, inl, inr, Bool, true, false, not, ◌&&◌, List, [], ◌∷◌, ◌++◌, length, map, filter, flat_map, slice_index, refl, sym, ◌∙◌, ap, arith}
 use Rattle.std.specs.List.{range_with_len}
-use Rattle.g1_words.specs.Heap.{Heap, word, object_at, slots, card_of}
+use Rattle.g1_words.specs.Heap.{Heap, word, object_at, card_of}
 use Rattle.g1_words.specs.References.{Ref, named, refs, root_targets, targets}
 use Rattle.g1_words.specs.Survivors.{in_set, seeds, children, firsts, Survivors}
-use Rattle.g1_words.proofs.Members.{In}
 use Rattle.g1_words.proofs.Firsts.{filter_twice, filter-same}
 use Rattle.g1_frontier.proofs.Seeds.{filter_append, filter_flat, map_append, map_flat, flat_same}
 use Rattle.g1_explain.specs.declared.finder.Finder.{Finder}

@@ -1,11 +1,11 @@
 -- The text of lines that are pushed one after the other.
 use Rattle.std.proofs.Common.{◌≡◌, ◌≤◌, ℕ, List, [], ◌∷◌, ◌++◌, length, take, map, flat_map, refl, sym, ◌∙◌, ap, append_assoc}
-use Rattle.std.specs.Prelude.{decimal, codes}
+use Rattle.std.specs.Prelude.{decimal}
 use Rattle.g1_words.specs.declared.object.Object.{Object}
 use Rattle.g1_text.specs.Lines.{line_text, further, text_of}
 use Rattle.g1_text.proofs.Printed.{text_append, text_map, take_all}
 use Rattle.g1_explain.specs.declared.paths.Leg.{Leg}
-use Rattle.g1_explain.specs.Lines.{step_words, object_words, leg_line, path_line}
+use Rattle.g1_explain.specs.Lines.{step_words, object_words, path_line}
 
 -- a line, and lines behind it
 pub line_then : (old now after : List ℕ) (line : List (List ℕ)) (lines : List (List (List ℕ))) → now ≡ old ++ line_text line → after ≡ now ++ text_of lines → after ≡ old ++ text_of (line ∷ lines)

@@ -2,7 +2,7 @@
 use Rattle.std.specs.Prelude.{◌≡◌, ◌≢◌, ◌<◌, ℕ, zero, suc, ◌+◌, false, List, [], ◌∷◌, ◌++◌, map, length, slice_index, Contains}
 use Rattle.g1_words.specs.declared.object.Object.{Object}
 use Rattle.g1_words.specs.Heap.{Heap, kind, word, region_of, card_of, objects, object_at, is_first}
-use Rattle.g1_words.specs.References.{Ref, refs}
+use Rattle.g1_words.specs.References.{refs}
 use Rattle.g1_words.specs.Live.{Reached, Live}
 use Rattle.g1_words.specs.Survivors.{seeds, children}
 use Rattle.g1_words.specs.Valid.{IsSlotOf}

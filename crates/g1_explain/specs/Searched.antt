@@ -1,8 +1,10 @@
 -- A search that is gone over again, to see what finds each object.
-use Rattle.std.specs.Prelude.{◌≡◌, ◌<◌, ◌≤◌, ℕ, suc, ◌+◌, Bool, ◌&&◌, ◌==◌, if◌then◌else◌, nat_lt, List, [], ◌∷◌, ◌++◌, flat_map, length, slice_index, slice_index_or, Contains}
+use Rattle.std.specs.Prelude.{◌≡◌, ◌<◌, ◌≤◌, ℕ, suc, Bool, ◌&&◌, ◌==◌, if◌then◌else◌, nat_lt, List, [], ◌∷◌, ◌++◌, flat_map, length, slice_index, slice_index_or, Contains}
 use Rattle.std.specs.List.{All, range_with_len}
 use Rattle.g1_words.specs.Heap.{Heap, word, objects, object_at}
+use Rattle.g1_words.specs.Survivors.{Survivors}
 use Rattle.g1_rem.specs.Slots.{slots_on}
+use Rattle.g1_frontier.specs.Window.{AreCards, AreOutside, LeadIn}
 use Rattle.g1_explain.specs.declared.finder.Finder.{Finder}
 use Rattle.g1_explain.specs.declared.finder.Finder.TheVariants.{Root, Card, Object as Slot}
 use Rattle.g1_explain.specs.declared.paths.Leg.{Leg}
@@ -57,3 +59,10 @@ pub record IsFoundPath (h : Heap) (cards found : List ℕ) (a : ℕ) (legs : Lis
   pub within : place < length found
   pub at : slice_index found place ≡ a
   pub route : IsRoute h found finders (suc place) legs
+
+-- a search of a set finds these objects, from cards that lead into it
+pub record IsSearch (h : Heap) (set cards found : List ℕ) : Type 0 where
+  pub rising : AreCards h cards
+  pub outside : AreOutside h set cards
+  pub lead_in : LeadIn h set cards
+  pub survivors : Survivors h set found

@@ -1,9 +1,12 @@
 //! What finds each object: the first reference to it, in the order of the search.
-ghost use Rattle.std.specs.Prelude.{◌≡◌, ◌≤◌, ℕ, flat_map, length, OnOk, IfOk};
+ghost use Rattle.std.specs.Prelude.{◌≡◌, ◌≤◌, ◌++◌, ℕ, List, flat_map, length, slice_index, string_bytes, OnOk, IfOk};
+ghost use Rattle.std.specs.List.{range_with_len};
 ghost use Rattle.g1_words.specs.Heap.{word};
+ghost use Rattle.g1_text.specs.Lines.{line_text, text_of};
 ghost use Rattle.g1_explain.specs.declared.finder.Finder.TheVariants.{Card};
 ghost use Rattle.g1_explain.specs.Finders.{lead, root_leads, found_leads};
-ghost use Rattle.g1_explain.specs.Searched.{AreObjects, AreMet, is_next, met, card_leads, slots_leads};
+ghost use Rattle.g1_explain.specs.Searched.{AreObjects, AreMet, IsSearch, finder_at, is_next, met, card_leads, slots_leads};
+ghost use Rattle.g1_explain.specs.Survivors.{survivor_line, survivor_lines};
 
 use crate::failure::Failure;
 use crate::finder::{Finder, push_found, push_object};
@@ -23,16 +26,37 @@ pub(crate) fn push_survivors(
     walkable: &Walkable<'_>,
     cards: &[u32],
     survivors: &[u64],
-) -> Result<(), Failure> {
-    let heap = walkable.heap();
+) -> Result<(), Failure>
+    ensures lines { (set : List ℕ) → IsSearch walkable.now.heap set cards.now survivors.now → OnOk result (string_bytes text.new ≡ string_bytes text.old ++ text_of (survivor_lines walkable.now.heap set survivors.now)) }
+{
     let finders = finders(alloc, walkable, cards, survivors, survivors.len())?;
     if finders.len() < survivors.len() {
         return Err(Failure::Contradiction);
     }
-    for (at, finder) in survivors.iter().zip(finders.iter()) {
-        push_object(text, "survivor", &heap.words().header(*at))?;
-        push_found(text, *finder)?;
+    push_finders(text, walkable.heap(), survivors, &finders)?;
+    Ok(())
+}
+
+fn push_finders(
+    text: &mut String,
+    heap: &Heap,
+    survivors: &[u64],
+    finders: &[Finder],
+) -> Result<(), AllocError>
+    requires { length survivors.now ≤ length finders.now }
+    ensures { OnOk result (string_bytes text.new ≡ string_bytes text.old ++ flat_map (λ j. line_text (survivor_line heap.now (record { finder = finder_at finders.now j; target = slice_index survivors.now j }))) (range_with_len 0 (length survivors.now))) }
+{
+    for index in 0..survivors.len() {
+        push_survivor(text, heap, survivors[index], finders[index])?;
     }
+    Ok(())
+}
+
+fn push_survivor(text: &mut String, heap: &Heap, at: u64, finder: Finder) -> Result<(), AllocError>
+    ensures { OnOk result (string_bytes text.new ≡ string_bytes text.old ++ line_text (survivor_line heap.now (record { finder = finder; target = at }))) }
+{
+    push_object(text, "survivor", &heap.words().header(at))?;
+    push_found(text, finder)?;
     Ok(())
 }
 

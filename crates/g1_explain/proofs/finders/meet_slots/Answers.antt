@@ -1,11 +1,9 @@
-use Rattle.std.proofs.Common.{◌≡◌, ◌<◌, ◌≤◌, ◌+◌, ◌-◌, ◌*◌, ◌/◌, ◌%◌, ◌^◌, ◌∙◌, ◌∷◌, ◌++◌, [], ℕ, suc, true, false, Bool, List, ap, sym, subst, arith, refl, flat_map, slice_index, slice_index_or, get_or, string_bytes, length, reverse, append_assoc}
+use Rattle.std.proofs.Common.{◌≡◌, ◌∙◌, ap, arith, flat_map, slice_index, length}
 use Rattle.std.specs.List.{range_with_len}
-use Rattle.g1_words.specs.Heap.{Heap, word, objects, object_at}
-use Rattle.g1_rem.specs.Slots.{slots_on}
-use Rattle.g1_explain.specs.declared.finder.Finder.TheVariants.{Root, Card, Object as Slot}
-use Rattle.g1_explain.specs.Finders.{lead, root_leads, object_leads, found_leads}
-use Rattle.g1_explain.specs.Searched.{met, card_leads, slots_leads, AreObjects}
-use Rattle.g1_explain.proofs.Meets.{met_more, met_number_more, slots_leads_are, three_met}
+use Rattle.g1_explain.specs.declared.finder.Finder.TheVariants.{Object as Slot}
+use Rattle.g1_explain.specs.Finders.{lead}
+use Rattle.g1_explain.specs.Searched.{met}
+use Rattle.g1_explain.proofs.Meets.{met_number_more}
 use Rattle.g1_explain.proofs.finders.meet_slots.Goals as goal
 
 pub loop-slot-preserved : goal.loop-slot-preserved

@@ -1,4 +1,4 @@
-use Rattle.std.proofs.Common.{◌≡◌, ◌<◌, ◌≤◌, ◌+◌, ◌-◌, ◌*◌, ◌/◌, ◌%◌, ◌^◌, ◌∙◌, ◌∷◌, ◌++◌, [], ℕ, suc, true, false, Bool, List, ap, sym, subst, arith, refl, flat_map, slice_index, slice_index_or, get_or, string_bytes, length, reverse, append_assoc}
+use Rattle.std.proofs.Common.{◌≡◌, ◌∙◌, ◌∷◌, [], false, List, sym, refl, get_or, length}
 use Rattle.std.proofs.Common.{◌==◌}
 use Rattle.g1_words.specs.declared.object.Object.{Object}
 use Rattle.g1_explain.specs.declared.paths.Leg.{Leg}

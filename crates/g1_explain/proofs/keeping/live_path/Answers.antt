@@ -1,13 +1,8 @@
-use Rattle.std.proofs.Common.{◌≡◌, ◌<◌, ◌≤◌, ◌+◌, ◌-◌, ◌*◌, ◌/◌, ◌%◌, ◌^◌, ◌∙◌, ◌∷◌, ◌++◌, [], ℕ, suc, true, false, Bool, List, ap, sym, subst, arith, refl, flat_map, slice_index, slice_index_or, get_or, string_bytes, length, reverse, append_assoc}
-use Rattle.g1_words.specs.Heap.{Heap, region_of, object_at, kind, is_first}
-use Rattle.g1_words.specs.Header.{header}
-use Rattle.g1_words.specs.declared.object.Object.{Object}
+use Rattle.std.proofs.Common.{sym, subst}
+use Rattle.g1_words.specs.Heap.{Heap}
 use Rattle.g1_words.specs.Survivors.{Survivors}
-use Rattle.g1_words.specs.Valid.{IsValid}
 use Rattle.g1_mark.specs.Marked.{used}
-use Rattle.g1_explain.specs.Searched.{IsFoundPath, AreObjects}
-use Rattle.g1_explain.proofs.Reasons.{some_of, none_of, found_objects, live_found, live_none, kept_reason, garbage_reason, humongous_kept}
-use Rattle.g1_explain.proofs.Searched.{region_cards}
+use Rattle.g1_explain.proofs.Reasons.{some_of, none_of, found_objects, live_found, live_none}
 use Rattle.g1_explain.proofs.keeping.live_path.Goals as goal
 
 pub returns-clause-some : goal.returns-clause-some

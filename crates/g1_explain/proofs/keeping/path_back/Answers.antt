@@ -1,4 +1,4 @@
-use Rattle.std.proofs.Common.{◌≡◌, ◌<◌, ◌≤◌, ◌+◌, ◌-◌, ◌*◌, ◌/◌, ◌%◌, ◌^◌, ◌∙◌, ◌∷◌, ◌++◌, [], ℕ, suc, true, false, Bool, List, ap, sym, subst, arith, refl, flat_map, slice_index, slice_index_or, get_or, string_bytes, length, reverse, append_assoc}
+use Rattle.std.proofs.Common.{◌≡◌, ◌-◌, ◌∙◌, ◌∷◌, ◌++◌, [], ℕ, suc, ap, sym, subst, arith, slice_index, reverse, append_assoc}
 use Rattle.std.proofs.lemmas.List.{reverse-append}
 use Rattle.g1_words.specs.declared.object.Object.{Object}
 use Rattle.g1_words.specs.Header.{header}

@@ -1,4 +1,4 @@
-use Rattle.std.proofs.Common.{◌≡◌, ◌<◌, ◌≤◌, ◌+◌, ◌∙◌, ◌∷◌, ◌++◌, [], ℕ, suc, List, ap, sym, subst, arith, refl, flat_map, slice_index, string_bytes, length, reverse}
+use Rattle.std.proofs.Common.{arith, string_bytes}
 use Rattle.g1_explain.specs.Lines.{leg_line}
 use Rattle.g1_explain.proofs.Texts.{all_lines}
 use Rattle.g1_explain.proofs.paths.push_path.Goals as goal

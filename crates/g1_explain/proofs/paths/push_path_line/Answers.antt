@@ -1,4 +1,4 @@
-use Rattle.std.proofs.Common.{◌≡◌, ◌<◌, ◌≤◌, ◌+◌, ◌-◌, ◌*◌, ◌/◌, ◌%◌, ◌^◌, ◌∙◌, ◌∷◌, ◌++◌, [], ℕ, suc, true, false, Bool, List, ap, sym, subst, arith, refl, flat_map, slice_index, slice_index_or, get_or, string_bytes, length, reverse, append_assoc}
+use Rattle.std.proofs.Common.{string_bytes}
 use Rattle.g1_explain.proofs.Texts.{path_end}
 use Rattle.g1_explain.proofs.paths.push_path_line.Goals as goal
 
