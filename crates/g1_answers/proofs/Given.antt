@@ -1,7 +1,7 @@
 -- What a command gives, from what its steps return.
-use Rattle.std.proofs.Common.{◌≡◌, ◌≢◌, ◌⊎◌, inl, inr, ℕ, List, [], Option, Some, None, Result, Ok, Err, refl, sym, subst}
+use Rattle.std.proofs.Common.{◌≡◌, ◌⊎◌, inl, inr, ℕ, List, [], Option, Some, None, Result, Ok, Err, refl, sym, subst}
 use Rattle.std.specs.Prelude.{IfErr}
-use Rattle.std.specs.Io.KnownBytes.{Appends, Keeps}
+use Rattle.std.specs.Io.KnownBytes.{Keeps}
 use Rattle.std.proofs.KnownBytes.{Keeps-refl}
 use Rattle.g1_words.specs.declared.limits.Limits.{Limits}
 use Rattle.g1_words.specs.declared.fault.Fault.{Fault}
@@ -16,7 +16,7 @@ use Rattle.g1_pause.specs.Answer.{IsAnswerWithin}
 use Rattle.g1_pause.specs.Streams.{RunGivesWithin}
 use Rattle.g1_command.specs.Deliveries.{Delivers}
 use Rattle.g1_command.proofs.Delivered.{flushed}
-use Rattle.g1_answers.specs.Replies.{Settled, refused, settled, MayRefuse, Gives}
+use Rattle.g1_answers.specs.Replies.{Settled, refused, MayRefuse, Gives}
 
 -- a reply, as a text or a fault
 abbrev pub Reply : Type 1
