@@ -262,7 +262,7 @@ fn humongous_reason(
         None => Ok(Reason::Garbage),
         Some(finder) => {
             if !leads_to(heap, finder, at) {
-                return Err(Failure::Contradiction);
+                return Ok(Reason::Garbage);
             }
             let object = heap.words().header(at);
             let path = vec![in alloc; Leg { object, finder }]?;
