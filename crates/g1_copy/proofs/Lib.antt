@@ -11,6 +11,7 @@ pub mod InPlace
 pub mod FatesMade
 pub mod PatchesBefore
 pub mod PatchesShared
+pub mod PatchesRenamed
 pub mod RememberedJoined
 pub mod RememberedPaused
 pub mod UnnamedMarks

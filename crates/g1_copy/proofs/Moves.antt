@@ -37,7 +37,7 @@ module _ (h : Heap) (set l : List ℕ) (valid : IsValid h) (can : CanPlace h set
       cc
 
   -- its place is one of the heap's words
-  place_in_heap : (a : ℕ) → In l a → forward h l a < h.geometry.n * h.geometry.w
+  pub place_in_heap : (a : ℕ) → In l a → forward h l a < h.geometry.n * h.geometry.w
   place_in_heap a i = (div-lt_iff_lt-mul (let e = valid.limits.w_least in omega (arith, e))).0 (place_free a i).1
 
 -- the patch of a slot that names an address

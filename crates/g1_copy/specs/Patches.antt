@@ -1,5 +1,6 @@
 -- Slots of kept regions that name survivors, with their new words.
 use Rattle.std.specs.Prelude.{◌≡◌, ◌≤◌, ◌<◌, ℕ, suc, ◌+◌, ◌*◌, not, ◌&&◌, List, length, map, filter, flat_map, slice_index, slice_index_or}
+use Rattle.g1_words.specs.Copy.{renamed}
 use Rattle.g1_words.specs.Heap.{Heap, card_of}
 use Rattle.g1_words.specs.Lists.{has}
 use Rattle.g1_words.specs.References.{Ref, refs, refs_at}
@@ -18,6 +19,10 @@ patches_on h l cards = map (patch h l) (filter (λ e. has cards (card_of h e.slo
 -- the slots outside the set that name a survivor, by address
 abbrev pub all_patches : Heap → List ℕ → List ℕ → List (ℕ × ℕ)
 all_patches h set l = map (patch h l) (filter (λ e. not (in_set h set e.slot) && has l e.target) (refs h))
+
+-- these are the slots outside the set that name a survivor, by address, each with its word: renamed, the words are those of the patches
+abbrev pub AreLeads : Heap → List ℕ → List ℕ → List (ℕ × ℕ) → Type 0
+AreLeads h set l xs = map (λ x. (x.0, renamed (forward h l) x.1)) xs ≡ all_patches h set l
 
 -- the patch of one slot, if it names a survivor
 abbrev pub patch_at : Heap → List ℕ → ℕ → List (ℕ × ℕ)

@@ -5,7 +5,8 @@
 //! 2. `patches` lists the slots outside the set that reference a survivor, with their new words: those
 //!    on the cards that lead into the set (`cards_into` of `g1_rem`).
 //! 3. `new_rem` makes the remembered sets of the image once the survivors have moved.
-//! 4. `prepare` joins these, and `prepare_on` does so for a caller that has listed the cards. It
+//! 4. `prepare` joins these, `prepare_on` does so for a caller that has listed the cards, and
+//!    `prepare_by_leads` for one that has listed the slots on them that reference a survivor. It
 //!    finds the humongous objects that nothing references once the survivors have moved: no root
 //!    does, and no slot on a card of their remembered sets outside their own regions. Their regions are
 //!    freed with the set's, and the cards in these regions leave all remembered sets. It takes all
@@ -31,5 +32,5 @@ mod unnamed;
 pub use committing::commit;
 pub use gathering::gather;
 pub use patching::patches;
-pub use preparing::{Basis, Prepared, prepare, prepare_on};
+pub use preparing::{Basis, Prepared, prepare, prepare_by_leads, prepare_on};
 pub use remembering::new_rem;

@@ -4,9 +4,10 @@ ghost use Rattle.g1_words.specs.Valid.{IsValid};
 ghost use Rattle.g1_image.specs.Image.{card_in};
 ghost use Rattle.g1_rem.specs.Slots.{slots_on};
 ghost use Rattle.g1_rem.specs.Starts.{IsStartsOf, card_count};
-ghost use Rattle.g1_copy.specs.Plans.{IsPlanOf};
-ghost use Rattle.g1_copy.specs.Patches.{patch_at, patches_at, patches_by_card, patches_on, AreBefore, AreFirsts};
+ghost use Rattle.g1_copy.specs.Plans.{IsPauseOf, IsPlanOf};
+ghost use Rattle.g1_copy.specs.Patches.{AreLeads, all_patches, patch_at, patches_at, patches_by_card, patches_on, AreBefore, AreFirsts};
 
+use crate::gathering::rename_reference;
 use g1_layout::Plan;
 use g1_rem::{SCANNED_CARDS_A_THREAD, Starts, slots_on};
 use g1_words::{Fault, Heap};
@@ -168,6 +169,20 @@ pub(crate) fn patches_by(
     match threads_for(workers, cards.len(), SCANNED_CARDS_A_THREAD) {
         1 => patches_alone(alloc, moves, cards),
         threads => patches_by_threads(rt, alloc, moves, cards, threads),
+    }
+}
+
+/// Makes the patches of the slots that lead into the set: puts the word after the pause in place of each
+/// slot's word.
+pub(crate) fn rename_slots(heap: &Heap, plan: &Plan, slots: &mut Vec<(u64, u64)>)
+    requires plan { IsPauseOf heap.now plan.now.set plan.now }
+    requires leads { AreLeads heap.now plan.now.set plan.now.survivors slots.old.items }
+    ensures { slots.new.items ≡ all_patches heap.now plan.now.set plan.now.survivors }
+{
+    g1_words::laws::valid(heap);
+    for index in 0..slots.len() {
+        let slot = slots[index];
+        slots[index] = (slot.0, rename_reference(plan, slot.1));
     }
 }
 

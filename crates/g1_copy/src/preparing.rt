@@ -7,6 +7,7 @@ ghost use Rattle.g1_layout.specs.declared.plan.Run.{Run};
 ghost use Rattle.g1_rem.specs.EntryCards.{cards_into};
 ghost use Rattle.g1_rem.specs.Starts.{IsStartsOf};
 ghost use Rattle.g1_copy.specs.Fates.{AreFates, fate_at, region_by_fate};
+ghost use Rattle.g1_copy.specs.Patches.{AreLeads, all_patches};
 ghost use Rattle.g1_copy.specs.Plans.{IsPauseOf};
 ghost use Rattle.g1_copy.specs.Prepared.{IsMadeFor};
 ghost use Rattle.g1_copy.specs.declared.fates.Fate.TheVariants.{Filled};
@@ -14,7 +15,7 @@ ghost use Rattle.g1_copy.specs.declared.fates.Fate.TheVariants.{Filled};
 use crate::fates::{Fate, fates, free};
 use crate::gathering::{gather_by, rename_reference};
 use crate::laws;
-use crate::patching::{Moves, firsts, patches_by};
+use crate::patching::{Moves, firsts, patches_by, rename_slots};
 use crate::remembering::{Changes, remembered_by_fate};
 use crate::unnamed::{humongous_regions, leave_all, unnamed};
 use g1_layout::{Plan, Run};
@@ -230,14 +231,65 @@ pub fn prepare_on(
     let Basis {
         tracked,
         starts,
-        remembered,
-        set,
         plan,
         cards,
+        ..
     } = *basis;
     let heap = image(tracked).heap();
     let moves = Moves { heap, starts, plan };
     let patches = patches_by(rt, alloc, &moves, cards, workers)?;
+    prepare_patches(rt, alloc, basis, patches, workers)
+}
+
+/// As `prepare_on`, for a caller that has listed the slots outside the set that reference a survivor, by
+/// address, each with its word. It looks at no card that leads into the set.
+///
+/// # Errors
+///
+/// `Fault::Memory` alone.
+pub fn prepare_by_leads(
+    rt: &(impl Threads + Sync),
+    alloc: Global,
+    basis: &Basis<'_>,
+    leads: Vec<(u64, u64)>,
+    workers: u64,
+) -> Result<Prepared, Fault>
+    requires starts { IsStartsOf basis.now.tracked.now.heap basis.now.starts.now }
+    requires remembered { map (λ s. s.items) basis.now.remembered.now ≡ map (refined basis.now.tracked.now) (regions basis.now.tracked.now.heap) }
+    requires plan { IsPauseOf basis.now.tracked.now.heap basis.now.set.now basis.now.plan.now }
+    requires leads { AreLeads basis.now.tracked.now.heap basis.now.set.now basis.now.plan.now.survivors leads.items }
+    ensures ok { IfOk result (λ p. IsMadeFor p basis.now.tracked.now basis.now.set.now basis.now.plan.now.survivors) }
+    ensures memory { IfErr result (λ e. e ≡ Fault.Memory) }
+{
+    let mut patches = leads;
+    rename_slots(image(basis.tracked).heap(), basis.plan, &mut patches);
+    prepare_patches(rt, alloc, basis, patches, workers)
+}
+
+/// All that a pause writes, for a caller that has the patches.
+fn prepare_patches(
+    rt: &(impl Threads + Sync),
+    alloc: Global,
+    basis: &Basis<'_>,
+    patches: Vec<(u64, u64)>,
+    workers: u64,
+) -> Result<Prepared, Fault>
+    requires starts { IsStartsOf basis.now.tracked.now.heap basis.now.starts.now }
+    requires remembered { map (λ s. s.items) basis.now.remembered.now ≡ map (refined basis.now.tracked.now) (regions basis.now.tracked.now.heap) }
+    requires plan { IsPauseOf basis.now.tracked.now.heap basis.now.set.now basis.now.plan.now }
+    requires patches { patches.items ≡ all_patches basis.now.tracked.now.heap basis.now.set.now basis.now.plan.now.survivors }
+    ensures ok { IfOk result (λ p. IsMadeFor p basis.now.tracked.now basis.now.set.now basis.now.plan.now.survivors) }
+    ensures memory { IfErr result (λ e. e ≡ Fault.Memory) }
+{
+    let Basis {
+        tracked,
+        starts,
+        remembered,
+        set,
+        plan,
+        ..
+    } = *basis;
+    let heap = image(tracked).heap();
     let gathered = gather_by(rt, alloc, heap, plan, workers)?;
     let mut fates = fates(alloc, heap, set, plan)?;
     let changes = Changes {

@@ -31,6 +31,10 @@ module _ (h : Heap) (valid : IsValid h) where
       let end = object_within h valid o (contains_has h o valid.shaped c) in
       omega (arith, fit, end, valid.word_count)
 
+  -- its size fits 32 bits
+  pub size_small : (o : Object) → Contains (objects h) o → o.size < 2 ^ 32
+  size_small o c = let end = object_within h valid o (contains_has h o valid.shaped c) in omega (arith, end, valid.limits.words_most)
+
   -- so is its header
   pub object_in_words : (a : ℕ) → Contains (objects h) (object_at h a) → (a < length h.words) × (a + 1 + word h a % 2 ^ 32 ≤ length h.words)
   object_in_words a c = let k = slots_in_words (object_at h a) c in (omega (arith, k), k)

@@ -1,14 +1,16 @@
 -- What one worker finds.
-use Rattle.std.proofs.Common.{◌≡◌, ◌≤◌, ◌<◌, ℕ, ◌+◌, ◌*◌, ◌/◌, inl, inr, Bool, true, false, cond, not, ◌||◌, eqb, eqb-true, eq-eqb, List, [], ◌∷◌, ◌++◌, filter, set, replicate}
+use Rattle.std.proofs.Common.{◌≡◌, ◌≤◌, ◌<◌, ℕ, ◌+◌, ◌*◌, ◌/◌, ◌^◌, inl, inr, Bool, true, false, cond, not, ◌||◌, eqb, eqb-true, eq-eqb, List, [], ◌∷◌, ◌++◌, filter, set, replicate}
 use Rattle.std.proofs.Common.{flat_map, map, length, take, drop, get_or, Contains, refl, sym, ap, subst, ◌∙◌, arith, All, append_assoc, append-nil, length-append, length-set, get_or-set_same, get_or-set_other, true≢false}
 use Rattle.std.proofs.lemmas.Bool.{cases_lt}
 use Rattle.std.proofs.lemmas.Nat.{le-div}
-use Rattle.std.proofs.lemmas.List.{take_more, flat_map_more, length-replicate}
+use Rattle.std.proofs.lemmas.List.{map-append, take_more, flat_map_more, length-replicate}
 use Rattle.std.proofs.lemmas.List.Folds.{flat_map-map}
 use Rattle.std.proofs.lemmas.Grind.{flat_map-append}
 use Rattle.std.proofs.lemmas.List.Elements.{All-append, All-cons, All-nil}
 use Rattle.g1_words.specs.Geometry.{most_words}
+use Rattle.g1_words.specs.declared.object.Object.{Object}
 use Rattle.g1_words.specs.Heap.{word, object_at, objects, slots}
+use Rattle.g1_words.specs.Layout.{sizes_of}
 use Rattle.g1_words.specs.Lists.{has}
 use Rattle.g1_words.specs.Live.{Reached, seed, child}
 use Rattle.g1_words.specs.References.{named}
@@ -23,15 +25,17 @@ use Rattle.g1_frontier.specs.declared.scope.Scope.{Scope}
 use Rattle.g1_frontier.specs.Window.{AreCards, AreOutside, LeadIn}
 use Rattle.g1_frontier.specs.Numbers.{BeginsIn}
 use Rattle.g1_frontier.specs.Scope.{IsScope, inside, names_in, place_in, place_count}
-use Rattle.g1_frontier.specs.Queue.{card_names, object_names, HasFound, HasNoted, IsUnderWay}
+use Rattle.g1_frontier.specs.Found.{slots_into}
+use Rattle.g1_frontier.specs.Queue.{card_leads, card_names, object_names, HasFound, HasNoted, IsUnderWay}
 use Rattle.g1_frontier.proofs.Finding.{same_test}
 use Rattle.g1_frontier.proofs.Links.{has_snoc}
 use Rattle.g1_frontier.proofs.Marks.{firsts_again, firsts_more}
 use Rattle.g1_frontier.proofs.Places.{past_regions}
 use Rattle.g1_frontier.proofs.Positions.{same_there}
-use Rattle.g1_frontier.proofs.Scopes.{apart, below, some_words, all_from_in}
+use Rattle.g1_frontier.proofs.Names.{size_small}
+use Rattle.g1_frontier.proofs.Scopes.{apart, below, some_words, all_from_in, all_of_map}
 use Rattle.g1_frontier.proofs.Searching.{distinct_few}
-use Rattle.g1_frontier.proofs.Seeds.{filter_flat, flat_same, seeds_named}
+use Rattle.g1_frontier.proofs.Seeds.{filter_flat, flat_same, leads_named, seeds_named}
 use Rattle.g1_frontier.proofs.Turns.{take_longer, take_parts, in_front, in_rest, ends}
 
 -- ---- first occurrences
@@ -45,6 +49,18 @@ firsts_old found a once e = sym (firsts_one found a once ∙ ap (λ b. found ++ 
 
 firsts_new : (found : List ℕ) (a : ℕ) → found ≡ firsts found → has found a ≡ false → found ++ a ∷ [] ≡ firsts (found ++ a ∷ [])
 firsts_new found a once e = sym (firsts_one found a once ∙ ap (λ b. found ++ cond (not b) (a ∷ []) []) e)
+
+-- ---- lists
+
+map_of_map : {A B C : Type 0} (f : B → C) (g : A → B) (xs : List A) → map f (map g xs) ≡ map (λ x. f (g x)) xs
+map_of_map f g [] = refl
+map_of_map f g (x ∷ xs) = ap (λ l. f (g x) ∷ l) (map_of_map f g xs)
+
+-- what one member more lists
+pub listed_more : {A B : Type 0} (f : A → List B) (xs : List A) (n : ℕ) (d : A) (old before after : List B) → n < length xs → before ≡ old ++ flat_map f (take n xs)
+    → after ≡ before ++ f (get_or xs n d) → after ≡ old ++ flat_map f (take (n + 1) xs)
+listed_more f xs n d old before after lt e g =
+    g ∙ ap (λ l. l ++ f (get_or xs n d)) e ∙ flat_map_more f old (take n xs) (get_or xs n d) ∙ ap (λ l. old ++ flat_map f l) (sym (take_more xs n d lt))
 
 -- ---- marks
 
@@ -138,6 +154,13 @@ module _ (s : Scope) (ok : IsScope s) where
       subst (λ l. HasNoted s l a c) (flat_map_more f [] (take n xs) (get_or xs n d) ∙ ap (flat_map f) (sym (take_more xs n d lt)))
       (noted_append (flat_map f (take n xs)) (f (get_or xs n d)) a b c x y)
 
+  -- ---- what was listed
+
+  -- the leads on the cards are all that lead into the window
+  pub all_leads : (cards : List ℕ) → AreCards s.heap.now cards → AreOutside s.heap.now s.window.now cards → LeadIn s.heap.now s.window.now cards
+      → flat_map (card_leads s) cards ≡ slots_into s.heap.now s.window.now
+  all_leads cards rising outside lead_in = leads_named s.heap.now s.window.now cards ok.valid rising outside lead_in
+
   -- ---- the whole search
 
   abbrev first_seeds : List ℕ
@@ -187,17 +210,44 @@ module _ (s : Scope) (ok : IsScope s) where
         flat_map-map (object_names s) (object_at s.heap.now) batch
         ∙ flat_same (λ c. object_names s (object_at s.heap.now c)) next_of batch (λ c i. object_children c)
 
+    abbrev behind : List ℕ
+    behind = filter (λ y. not (has a.found.items y)) (firsts (flat_map next_of batch))
+
+    -- what was found stays in front
+    found_stays : (b : Queue) → HasNoted s (flat_map (object_names s) (map (object_at s.heap.now) (take n (drop from a.found.items)))) a b → b.found.items ≡ a.found.items ++ behind
+    found_stays b x =
+        x.found ∙ ap (λ l. firsts (a.found.items ++ l)) batch_names ∙ firsts-append a.found.items (flat_map next_of batch) ∙ ap (λ l. l ++ behind) (sym u.queue.once)
+
+    -- so the batch stands behind what was searched
+    pub batch_behind : (to : ℕ) → from + n ≡ to → (b : Queue) → to ≤ length a.found.items
+        → HasNoted s (flat_map (object_names s) (map (object_at s.heap.now) (take n (drop from a.found.items)))) a b
+        → take to b.found.items ≡ take from a.found.items ++ take n (drop from a.found.items)
+    batch_behind to sum b le x =
+        ap (take to) (found_stays b x) ∙ take_longer to a.found.items behind le ∙ ap (λ k. take k a.found.items) (sym sum) ∙ take_parts from n a.found.items
+
+    -- its sizes are listed behind those before
+    pub batch_sized : (to : ℕ) → from + n ≡ to → (b : Queue) → to ≤ length a.found.items
+        → HasNoted s (flat_map (object_names s) (map (object_at s.heap.now) (take n (drop from a.found.items)))) a b
+        → (old new : List ℕ) (ahead : List Object) → old ≡ sizes_of s.heap.now (take from a.found.items) → ahead ≡ map (object_at s.heap.now) (take n (drop from a.found.items))
+        → new ≡ old ++ map (λ o. o.size) ahead → new ≡ sizes_of s.heap.now (take to b.found.items)
+    batch_sized to sum b le x old new ahead o h e =
+        e ∙ (λ i. o i ++ map (λ o. o.size) (h i)) ∙ ap (λ l. sizes_of s.heap.now (take from a.found.items) ++ l) (map_of_map (λ o. o.size) (object_at s.heap.now) batch)
+        ∙ sym (map-append (λ c. (object_at s.heap.now c).size) (take from a.found.items) batch) ∙ ap (sizes_of s.heap.now) (sym (batch_behind to sum b le x))
+
+    -- they fit 32 bits
+    pub batch_small : All (λ o. o.size < 2 ^ 32) (map (object_at s.heap.now) (take n (drop from a.found.items)))
+    batch_small = all_of_map (λ o. o.size < 2 ^ 32) (object_at s.heap.now) batch
+        (λ k d lt. size_small s.heap.now ok.valid (object_at s.heap.now (get_or batch k d)) (batch_objects k d lt))
+
     -- what they reference is noted
     pub moved_on : (to : ℕ) → from + n ≡ to → (b : Queue) → to ≤ length a.found.items
         → HasNoted s (flat_map (object_names s) (map (object_at s.heap.now) (take n (drop from a.found.items)))) a b → IsUnderWay s to b
     moved_on to sum b le x =
         let front : List ℕ = flat_map next_of (take from a.found.items) in
         let more : List ℕ = flat_map next_of batch in
-        let behind : List ℕ = filter (λ y. not (has a.found.items y)) (firsts more) in
         let e : b.found.items ≡ firsts (a.found.items ++ more) = x.found ∙ ap (λ l. firsts (a.found.items ++ l)) batch_names in
-        let stays : b.found.items ≡ a.found.items ++ behind = e ∙ firsts-append a.found.items more ∙ ap (λ l. l ++ behind) (sym u.queue.once) in
-        let same : take to b.found.items ≡ take from a.found.items ++ batch =
-        ap (take to) stays ∙ take_longer to a.found.items behind le ∙ ap (λ k. take k a.found.items) (sym sum) ∙ take_parts from n a.found.items in
+        let stays : b.found.items ≡ a.found.items ++ behind = found_stays b x in
+        let same : take to b.found.items ≡ take from a.found.items ++ batch = batch_behind to sum b le x in
         let whole : front ++ more ≡ flat_map next_of (take to b.found.items) =
         sym (flat_map-append next_of (take from a.found.items) batch) ∙ ap (flat_map next_of) (sym same) in
         let long : length b.found.items ≡ length a.found.items + length behind = ap length stays ∙ length-append a.found.items behind in record {

@@ -19,6 +19,7 @@ use Rattle.g1_rem.specs.Slots.{all_slots, slots_on}
 use Rattle.g1_rem.proofs.Rising.{Rises, Rises-above}
 use Rattle.g1_rem.proofs.Card.{all_rise}
 use Rattle.g1_rem.proofs.Bare.{flat_twice}
+use Rattle.g1_frontier.specs.Found.{lead, slots_into}
 use Rattle.g1_frontier.specs.Window.{AreCards, AreOutside, LeadIn}
 
 -- ---- lists of lists
@@ -163,3 +164,37 @@ module _ (h : Heap) (window cards : List ℕ) (valid : IsValid h) (rising : AreC
   -- what the roots and the slots on the cards reference in the window are the seeds
   pub seeds_named : filter (in_set h window) (flat_map named h.roots) ++ flat_map (λ c. filter (in_set h window) (flat_map (λ p. named (word h p)) (slots_on h c))) cards ≡ seeds h window
   seeds_named = ap (λ l. filter (in_set h window) (flat_map named h.roots) ++ l) by_cards
+
+  -- ---- the slots that lead in
+
+  abbrev lead_at : ℕ → List (ℕ × ℕ)
+  lead_at p = map (λ a. (p, word h p)) (inner p)
+
+  lead_in_by : (p a : ℕ) (b o t : Bool) → (t ≡ true → b ≡ not o) → cond b (map (λ (x : ℕ). (p, suc a)) (cond t (a ∷ []) [])) []
+      ≡ map lead (cond (t && not o) (record { slot = p; target = a } ∷ []) [])
+  lead_in_by p a b o true f = ap (λ c. cond c ((p, suc a) ∷ []) []) (f refl) ∙ last (not o)
+    where
+      last : (c : Bool) → cond c ((p, suc a) ∷ []) [] ≡ map lead (cond c (record { slot = p; target = a } ∷ []) [])
+      last true = refl
+      last false = refl
+  lead_in_by p a true o false f = refl
+  lead_in_by p a false o false f = refl
+
+  lead_by_slot : (p x : ℕ) → In (all_slots h) p → word h p ≡ x
+      → cond (on_cards p) (map (λ a. (p, x)) (filter (in_set h window) (named x))) [] ≡ map lead (filter crosses (map (λ a. record { slot = p; target = a }) (named x)))
+  lead_by_slot p zero i e = none (on_cards p) []
+    where
+      none : (b : Bool) → ((xs : List (ℕ × ℕ)) → cond b xs xs ≡ xs)
+      none true xs = refl
+      none false xs = refl
+  lead_by_slot p (suc a) i e = lead_in_by p a (on_cards p) (in_set h window p) (in_set h window a) (tells p a (on_cards p) (in_set h window p) refl refl i e)
+
+  -- the slots on the cards that reference an object in the window are all that lead in
+  pub leads_named : flat_map (λ c. flat_map (λ p. map (λ a. (p, word h p)) (filter (in_set h window) (named (word h p)))) (slots_on h c)) cards ≡ slots_into h window
+  leads_named =
+      flat_of_flat lead_at (slots_on h) cards
+      ∙ ap (flat_map lead_at) card_slots
+      ∙ flat_of_filter lead_at on_cards (all_slots h)
+      ∙ flat_same (λ p. cond (on_cards p) (lead_at p) []) (λ p. map lead (filter crosses (refs_at h p))) (all_slots h) (λ p i. lead_by_slot p (word h p) i refl)
+      ∙ sym (map_flat lead (λ p. filter crosses (refs_at h p)) (all_slots h))
+      ∙ ap (map lead) (sym (filter_flat crosses (refs_at h) (all_slots h)) ∙ ap (filter crosses) (sym (flat_twice h (objects h))))

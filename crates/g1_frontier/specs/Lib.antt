@@ -6,5 +6,6 @@ pub mod Offering
 pub mod Looking
 pub mod Round
 pub mod Search
+pub mod Found
 pub mod Queue
 pub mod Laws

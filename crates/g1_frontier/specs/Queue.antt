@@ -1,5 +1,5 @@
 -- What the search of one worker holds.
-use Rattle.std.specs.Prelude.{◌≡◌, ◌≤◌, ℕ, true, false, List, ◌++◌, flat_map, take, length, slice_index_or, Contains}
+use Rattle.std.specs.Prelude.{◌≡◌, ◌≤◌, ℕ, true, false, List, ◌++◌, map, flat_map, take, length, slice_index_or, Contains}
 use Rattle.std.specs.List.{All}
 use Rattle.g1_words.specs.declared.object.Object.{Object}
 use Rattle.g1_words.specs.Heap.{word, slots}
@@ -15,6 +15,14 @@ use Rattle.g1_frontier.specs.Scope.{inside, names_in, place_in, place_count}
 -- what the slots on a card reference in the window, by slot
 abbrev pub card_names : Scope → ℕ → List ℕ
 card_names s c = flat_map (λ p. names_in s (word s.heap.now p)) (slots_on s.heap.now c)
+
+-- a slot with its word, if that references an object in the window
+abbrev pub leads_of : Scope → ℕ → ℕ → List (ℕ × ℕ)
+leads_of s p x = map (λ a. (p, x)) (names_in s x)
+
+-- those of the slots on a card, by slot
+abbrev pub card_leads : Scope → ℕ → List (ℕ × ℕ)
+card_leads s c = flat_map (λ p. leads_of s p (word s.heap.now p)) (slots_on s.heap.now c)
 
 -- what the slots of an object reference in the window, by slot
 abbrev pub object_names : Scope → Object → List ℕ

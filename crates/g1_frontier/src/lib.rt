@@ -33,7 +33,8 @@
 //! A worker alone competes with nobody, so it takes no rounds and no claim table. It finds what is
 //! referenced in order, and marks it in one bit for each word of the window. What it has found is its
 //! queue: it reads the headers of the next objects in the queue at once, then their slots, and ends when
-//! nothing is left in the queue.
+//! nothing is left in the queue. `discover_seen` hands on what it saw on its way: the sizes of the
+//! survivors, and the slots on the cards that lead into the window, each with its word.
 //!
 //! So the answer is the same for all workers and chunk sizes. A round takes memory in proportion to
 //! what it looks at and finds. A region's place in the window is in a table of four bytes
@@ -42,6 +43,7 @@
 #![tactic(auto)]
 
 mod crew;
+mod found;
 mod headers;
 mod item;
 pub mod laws;
@@ -55,6 +57,7 @@ mod scope;
 mod sought;
 mod survivors;
 
+pub use found::{Found, Seen};
 pub use item::Item;
 pub use round::claim_round;
-pub use survivors::discover;
+pub use survivors::{discover, discover_seen};

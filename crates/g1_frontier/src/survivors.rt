@@ -8,8 +8,10 @@ ghost use Rattle.g1_frontier.specs.Window.{AreRegions, AreCards, AreOutside, Lea
 ghost use Rattle.g1_frontier.specs.Items.{first_items, numbered_on};
 ghost use Rattle.g1_frontier.specs.Scope.{IsScope};
 ghost use Rattle.g1_frontier.specs.Search.{IsSearching};
+ghost use Rattle.g1_frontier.specs.Found.{IsFound};
 
 use crate::crew::{Crew, Merging};
+use crate::found::Found;
 use crate::headers::slot_counts_by;
 use crate::item::Item;
 use crate::numbers::Numbers;
@@ -156,12 +158,12 @@ fn survivors_in<R: Threads + Sync, G: Gate + Sync>(
     crew: &Crew<'_, R, G>,
     scope: &Scope,
     cards: &[u32],
-) -> Result<Vec<u64>, Fault>
+) -> Result<Found, Fault>
     requires scope { IsScope scope.now }
     requires cards { AreCards scope.now.heap.now cards.now }
     requires outside { AreOutside scope.now.heap.now scope.now.window.now cards.now }
     requires lead_in { LeadIn scope.now.heap.now scope.now.window.now cards.now }
-    ensures ok { IfOk result (λ v. Survivors scope.now.heap.now scope.now.window.now v.items) }
+    ensures ok { IfOk result (IsFound scope.now.heap.now scope.now.window.now) }
     ensures memory { IfErr result (λ e. e ≡ Memory) }
 {
     if let Numbering::Words = scope.numbering {
@@ -175,7 +177,10 @@ fn survivors_in<R: Threads + Sync, G: Gate + Sync>(
         search = next_round(&hired, scope, &mut rooms, search)?;
         round = round.saturating_add(1);
     }
-    Ok(search.found)
+    Ok(Found {
+        survivors: search.found,
+        seen: None,
+    })
 }
 
 /// The survivors of a window of regions: the addresses of the objects in it that are reached from
@@ -209,6 +214,35 @@ pub fn discover<R: Threads + Sync, G: Gate + Sync>(
     requires team { IsTeam workers chunk }
     ensures ok { IfOk result (λ v. Survivors heap.now window.now v.items) }
     ensures only { IfOk result (λ v. (l : List ℕ) → Survivors heap.now window.now l → l ≡ v.items) }
+    ensures memory { IfErr result (λ e. e ≡ Memory) }
+{
+    let found = discover_seen(rt, alloc, heap, starts, window, cards, workers, chunk, gate)?;
+    Ok(found.survivors)
+}
+
+/// As `discover`, with what one worker saw on its way if it searched alone: so no header and no slot has
+/// to be read again for it.
+///
+/// # Errors
+/// `Memory`.
+pub fn discover_seen<R: Threads + Sync, G: Gate + Sync>(
+    rt: &R,
+    alloc: Global,
+    heap: &Heap,
+    starts: &Starts,
+    window: &[u32],
+    cards: &[u32],
+    workers: u64,
+    chunk: u64,
+    gate: &G,
+) -> Result<Found, Fault>
+    requires starts { IsStartsOf heap.now starts.now }
+    requires window { AreRegions heap.now window.now }
+    requires cards { AreCards heap.now cards.now }
+    requires outside { AreOutside heap.now window.now cards.now }
+    requires lead_in { LeadIn heap.now window.now cards.now }
+    requires team { IsTeam workers chunk }
+    ensures ok { IfOk result (IsFound heap.now window.now) }
     ensures memory { IfErr result (λ e. e ≡ Memory) }
 {
     let positions = positions(alloc, heap.geometry().regions(), window)?;

@@ -5,7 +5,8 @@
 //! else at the start of the next free region (next fit). `place` goes by these steps:
 //!
 //! 1. It reads the survivors' sizes, and counts the regions that they need, on beyond the free ones. It
-//!    refuses if they need more than are free, even if memory is refused.
+//!    refuses if they need more than are free, even if memory is refused. `place_sized` takes the sizes
+//!    from its caller.
 //! 2. It lists to-space, and by the sizes each survivor's new address.
 //! 3. It lists the runs: which stretch of the survivors is in each region of to-space, and where
 //!    the region's last object ends.
@@ -21,5 +22,5 @@ mod numbers;
 mod placing;
 mod plan;
 
-pub use placing::place;
+pub use placing::{place, place_sized};
 pub use plan::{Plan, Run};

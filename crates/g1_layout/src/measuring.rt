@@ -51,6 +51,25 @@ pub(crate) fn measure(alloc: Global, heap: &Heap, survivors: &[u64]) -> Measured
     }
 }
 
+/// How many regions survivors of these sizes take, whether or not as many are free, and how many words.
+pub(crate) fn measure_sized(heap: &Heap, survivors: &[u64], sizes: &[u32]) -> (u64, u64)
+    requires lay { CanLay heap.now survivors.now }
+    requires sizes { sizes.now ≡ sizes_of heap.now survivors.now }
+    ensures need { result.0 ≡ need heap.now survivors.now }
+    ensures words { result.1 ≡ sum (sizes_of heap.now survivors.now) }
+{
+    let geometry = heap.geometry();
+    let mut end: u64 = 0;
+    let mut words: u64 = 0;
+    for i in 0..survivors.len() {
+        let taken = u64::from(sizes[i]);
+        end = next_fit(&geometry, end, taken) + taken;
+        words += taken;
+    }
+    let need = region_of(&geometry, end + (geometry.region_words() - 1));
+    (need, words)
+}
+
 /// The number of free regions.
 pub(crate) fn free_count(heap: &Heap) -> u64
     ensures { result ≡ length (free_regions heap.now) }

@@ -4,7 +4,7 @@ ghost use Rattle.g1_layout.specs.Placed.{CanPlace};
 ghost use Rattle.g1_layout.specs.Batch.{IsBatch};
 ghost use Rattle.g1_layout.specs.Plan.{laid_before, run_at, runs, plan_of};
 
-use crate::measuring::{Measured, free_count, free_regions, measure, next_fit};
+use crate::measuring::{Measured, free_count, free_regions, measure, measure_sized, next_fit};
 use crate::new_addresses::Table;
 use crate::plan::{Plan, Run};
 use g1_words::{Fault, Heap, region_of};
@@ -165,5 +165,36 @@ pub fn place(alloc: Global, heap: &Heap, set: &[u32], survivors: &[u64]) -> Resu
         return Err(Fault::Memory);
     };
     let plan = planned(alloc, heap, set, survivors, &sizes, need, words)?;
+    Ok(plan)
+}
+
+/// As `place`, for a caller that has the survivors' sizes. It reads no header.
+///
+/// # Errors
+///
+/// As `place`.
+pub fn place_sized(
+    alloc: Global,
+    heap: &Heap,
+    set: &[u32],
+    survivors: &[u64],
+    sizes: &[u32],
+) -> Result<Plan, Fault>
+    requires can { CanPlace heap.now set.now survivors.now }
+    requires sizes { sizes.now ≡ sizes_of heap.now survivors.now }
+    ensures plan { IfOk result (λ p. p ≡ plan_of heap.now set.now survivors.now) }
+    ensures room { length (free_regions heap.now) < need heap.now survivors.now → result ≡ Err (Fault.Room (need heap.now survivors.now) (length (free_regions heap.now))) }
+    ensures memory { need heap.now survivors.now ≤ length (free_regions heap.now) → IfErr result (λ e. e ≡ Fault.Memory) }
+{
+    g1_words::laws::valid(heap);
+    let (regions, words) = measure_sized(heap, survivors, sizes);
+    let free = free_count(heap);
+    if regions > free {
+        return Err(Fault::Room {
+            need: regions,
+            free,
+        });
+    }
+    let plan = planned(alloc, heap, set, survivors, sizes, regions, words)?;
     Ok(plan)
 }

@@ -2,10 +2,12 @@
 use Rattle.std.proofs.Common.{◌≡◌, ◌≢◌, ◌≤◌, ◌<◌, ℕ, zero, suc, ◌+◌, ◌*◌, ◌/◌, ◌^◌, Bool, List, [], ◌∷◌, ◌++◌, map, filter, flat_map, length, get_or, set, take, drop, slice_index, replicate}
 use Rattle.std.proofs.Common.{Contains, arith, refl, sym, ap, subst, ◌∙◌, eqb, length-set, get_or-set_same, get_or-set_other}
 use Rattle.std.specs.List.{range_with_len}
+use Rattle.std.proofs.lemmas.List.{get_or-map}
 use native.Mathlib.Decide.{ℕ_discrete}
 use Rattle.g1_words.specs.Geometry.{most_words}
 use Rattle.g1_words.specs.declared.object.Object.{Object}
 use Rattle.g1_words.specs.Heap.{Heap, word, regions, region_of, objects, objects_in, object_at}
+use Rattle.g1_words.specs.Layout.{sizes_of}
 use Rattle.g1_words.specs.Lists.{has}
 use Rattle.g1_words.specs.Live.{bytes_where, IsLiveBytes}
 use Rattle.g1_words.specs.Survivors.{firsts, seeds, children, Survivors}
@@ -55,6 +57,10 @@ len_zeros (suc n) = let k = len_zeros n in omega (arith, k)
 no_objects : (os : List Object) → sizes (filter (λ o. has [] o.at) os) ≡ 0
 no_objects [] = refl
 no_objects (o ∷ os) = no_objects os
+
+-- the size that is listed for an address
+pub size_there : (h : Heap) (addresses listed : List ℕ) (i x : ℕ) → listed ≡ sizes_of h addresses → i < length addresses → x ≡ get_or listed i 0 → x ≡ word h (get_or addresses i 0) / 2 ^ 32
+size_there h addresses listed i x e lt read = read ∙ ap (λ l. get_or l i 0) e ∙ get_or-map (λ a. (object_at h a).size) addresses i 0 0 lt
 
 -- what is read behind the first so many
 split_at : (xs : List ℕ) (i : ℕ) (d : ℕ) → i < length xs → xs ≡ take i xs ++ get_or xs i d ∷ drop (i + 1) xs

@@ -2,6 +2,7 @@ ghost use Rattle.std.specs.Prelude.{◌≡◌, ◌<◌, ◌≤◌, ◌+◌, ◌^
 ghost use Rattle.std.specs.List.{All};
 ghost use Rattle.g1_words.specs.Heap.{object_at, objects, regions};
 ghost use Rattle.g1_words.specs.Lists.{has};
+ghost use Rattle.g1_words.specs.Layout.{sizes_of};
 ghost use Rattle.g1_words.specs.Live.{bytes_where};
 ghost use Rattle.g1_words.specs.Survivors.{firsts};
 ghost use Rattle.g1_words.specs.Valid.{IsValid};
@@ -41,6 +42,27 @@ fn bytes_at(alloc: Global, heap: &Heap, addresses: &[u64]) -> Result<Vec<u64>, A
     for address in addresses {
         let region = region_of(&geometry, *address) as usize;
         bytes[region] += 8 * size_at(heap, *address);
+    }
+    Ok(bytes)
+}
+
+/// As `bytes_at`, if the sizes of the objects are known.
+pub fn bytes_of(
+    alloc: Global,
+    heap: &Heap,
+    addresses: &[u64],
+    sizes: &[u32],
+) -> Result<Vec<u64>, AllocError>
+    requires objects { All (λ a. Contains (objects heap.now) (object_at heap.now a)) addresses.now }
+    requires once { addresses.now ≡ firsts addresses.now }
+    requires sizes { sizes.now ≡ sizes_of heap.now addresses.now }
+    ensures { IfOk result (λ v. v.items ≡ map (bytes_where heap.now (has addresses.now)) (regions heap.now)) }
+{
+    let geometry = heap.geometry();
+    let mut bytes = vec![in alloc; 0u64; geometry.regions() as usize]?;
+    for index in 0..addresses.len() {
+        let region = region_of(&geometry, addresses[index]) as usize;
+        bytes[region] += 8 * u64::from(sizes[index]);
     }
     Ok(bytes)
 }

@@ -4,7 +4,7 @@
 //!    and no card is needed. Its survivors are then all that the roots reach.
 //! 2. Each live object's bytes are added to those of the region in which it starts. Workers add up
 //!    those of a part of the objects each, one worker for each 16,384 of them, and one thread adds
-//!    their lists.
+//!    their lists. If one worker searched alone, it has seen the objects' sizes, and adds them up.
 //!
 //! `live_bytes` does both, `live_objects` the first alone.
 #![tactic(auto)]

@@ -5,10 +5,11 @@ ghost use Rattle.g1_words.specs.Survivors.{Survivors};
 ghost use Rattle.g1_words.specs.Valid.{IsValid};
 ghost use Rattle.g1_work.specs.Team.{IsTeam};
 ghost use Rattle.g1_rem.specs.Starts.{IsStartsOf};
+ghost use Rattle.g1_frontier.specs.Found.{IsFound};
 ghost use Rattle.g1_mark.specs.Marked.{used};
 
-use crate::bytes::{bytes_at_by, used_regions};
-use g1_frontier::discover;
+use crate::bytes::{bytes_at_by, bytes_of, used_regions};
+use g1_frontier::{Found, discover_seen};
 use g1_rem::Starts;
 use g1_words::{Fault, Heap};
 use g1_work::{Gate, Team};
@@ -32,9 +33,27 @@ pub fn live_objects<R: Threads + Sync, G: Gate + Sync>(
     ensures ok { IfOk result (λ v. Survivors heap.now (used heap.now) v.items) }
     ensures memory { IfErr result (λ e. e ≡ Memory) }
 {
+    let found = found_live(rt, alloc, heap, starts, team, gate)?;
+    Ok(found.survivors)
+}
+
+// What the search for all that the roots reach finds.
+fn found_live<R: Threads + Sync, G: Gate + Sync>(
+    rt: &R,
+    alloc: Global,
+    heap: &Heap,
+    starts: &Starts,
+    team: Team,
+    gate: &G,
+) -> Result<Found, Fault>
+    requires starts { IsStartsOf heap.now starts.now }
+    ensures valid { IsValid heap.now }
+    ensures ok { IfOk result (IsFound heap.now (used heap.now)) }
+    ensures memory { IfErr result (λ e. e ≡ Memory) }
+{
     let window = used_regions(alloc, heap)?;
     let cards: [u32; 0] = [];
-    discover(
+    discover_seen(
         rt,
         alloc,
         heap,
@@ -70,6 +89,10 @@ pub fn live_bytes<R: Threads + Sync, G: Gate + Sync>(
     ensures memory { IfErr result (λ e. e ≡ Memory) }
 {
     let team = Team::new(workers, chunk);
-    let live = live_objects(rt, alloc, heap, starts, team, gate)?;
-    Ok(bytes_at_by(rt, alloc, heap, live.as_slice(), workers)?)
+    let live = found_live(rt, alloc, heap, starts, team, gate)?;
+    let objects = live.survivors.as_slice();
+    match &live.seen {
+        Some(seen) => Ok(bytes_of(alloc, heap, objects, seen.sizes.as_slice())?),
+        None => Ok(bytes_at_by(rt, alloc, heap, objects, workers)?),
+    }
 }

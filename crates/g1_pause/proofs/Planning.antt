@@ -1,6 +1,6 @@
 -- What each step of a pause asks of the steps before it.
 use Rattle.std.proofs.Common.{◌≡◌, ℕ, ◌⊎◌, inl, inr, ◌<◌, ◌≤◌, List, length, map, All, Result, Ok, Err, refl, sym, ◌∙◌, ap, subst}
-use Rattle.std.specs.Prelude.{IfErr}
+use Rattle.std.specs.Prelude.{Option, None, Some, IfErr, IfSome}
 use Rattle.std.specs.List.Sorted.{IsStrictlyIncreasing}
 use Rattle.std.proofs.lemmas.Bool.{cases_lt}
 use Rattle.g1_words.specs.declared.fault.Fault.{Fault}
@@ -12,6 +12,8 @@ use Rattle.g1_words.specs.Valid.{IsValid}
 use Rattle.g1_image.specs.Image.{Image}
 use Rattle.g1_image.specs.Cards.{IsTracked, refined}
 use Rattle.g1_rem.specs.Starts.{card_count}
+use Rattle.g1_frontier.specs.declared.found.Seen.{Seen}
+use Rattle.g1_frontier.specs.Found.{slots_into, IsSeen}
 use Rattle.g1_frontier.specs.Laws.{AreRefinedOf, RefinedLeadIn}
 use Rattle.g1_frontier.specs.Window.{AreRegions, AreCards, AreOutside, LeadIn}
 use Rattle.g1_choose.specs.declared.parameters.Cost.{Cost}
@@ -25,6 +27,11 @@ use Rattle.g1_pause.specs.declared.settings.Choice.{Choice}
 use Rattle.g1_pause.specs.Answer.{IsSetFor, IsEvacuated, no_room}
 use Rattle.g1_pause.specs.Steps.{LacksRoom}
 use Rattle.g1_pause.proofs.CollectionSets.{set_ordinary, set_regions}
+
+-- what one worker saw has the slots that lead in
+pub seen_leads : (h : Heap) (set l : List ℕ) (o : Option Seen) → IfSome o (IsSeen h set l) → IfSome o (λ s. s.leads.items ≡ slots_into h set)
+seen_leads h set l None seen = tt
+seen_leads h set l (Some s) seen = seen.leads
 
 -- the cards are cards of the heap, rising
 pub cards_there : (h : Heap) (cards set : List ℕ) (remembered : List (List ℕ)) → CardsStandOutside → cards ≡ cards_into h remembered set → AreCards h cards

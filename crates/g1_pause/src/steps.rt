@@ -1,8 +1,14 @@
-ghost use Rattle.std.specs.Prelude.{◌≡◌, ◌⊎◌, map, IfSome, IfNone, IfOk, IfErr};
+ghost use Rattle.std.specs.Prelude.{◌≡◌, ◌≤◌, ◌<◌, ◌⊎◌, length, map, IfSome, IfNone, IfOk, IfErr};
 ghost use Rattle.g1_words.specs.Heap.{regions};
-ghost use Rattle.g1_words.specs.Survivors.{Survivors};
+ghost use Rattle.g1_words.specs.Layout.{free_regions, need};
 ghost use Rattle.g1_image.specs.Cards.{refined};
 ghost use Rattle.g1_rem.specs.EntryCards.{cards_into};
+ghost use Rattle.g1_rem.specs.Starts.{IsStartsOf};
+ghost use Rattle.g1_frontier.specs.Found.{slots_into, IsFound};
+ghost use Rattle.g1_layout.specs.Placed.{CanPlace};
+ghost use Rattle.g1_layout.specs.Plan.{plan_of};
+ghost use Rattle.g1_copy.specs.Plans.{IsPauseOf};
+ghost use Rattle.g1_copy.specs.Prepared.{IsMadeFor};
 ghost use Rattle.g1_pause.specs.Answer.{IsSetFor, FaultOfChoice};
 ghost use Rattle.g1_pause.specs.Bought.{IsBought, IsListed};
 ghost use Rattle.g1_pause.specs.Steps.{IsOutcome};
@@ -10,11 +16,11 @@ ghost use Rattle.g1_pause.specs.Steps.{IsOutcome};
 use crate::before::Before;
 use crate::choosing::{CollectionSet, collection_set};
 use crate::settings::Settings;
-use g1_copy::{Basis, Prepared, prepare_on};
-use g1_frontier::discover;
-use g1_layout::{Plan, place};
+use g1_copy::{Basis, Prepared, prepare_by_leads, prepare_on};
+use g1_frontier::{Found, Seen, discover_seen};
+use g1_layout::{Plan, place, place_sized};
 use g1_rem::cards_into;
-use g1_words::Fault;
+use g1_words::{Fault, Heap};
 use g1_work::Gate;
 use std::alloc::Global;
 use std::thread::Threads;
@@ -67,8 +73,8 @@ pub fn take_steps<R: Threads + Sync, G: Gate + Sync>(
 {
     let collection = collection_set(rt, alloc, before, settings, gate)?;
     let set: &[u32] = &collection.regions;
-    let (cards, survivors) = find_survivors(rt, alloc, before, set, settings, gate)?;
-    let outcome = lay_out(rt, alloc, before, set, &cards, survivors, settings)?;
+    let (cards, found) = find_survivors(rt, alloc, before, set, settings, gate)?;
+    let outcome = lay_out(rt, alloc, before, set, &cards, found, settings)?;
     Ok(Steps {
         collection,
         cards,
@@ -84,17 +90,17 @@ fn find_survivors<R: Threads + Sync, G: Gate + Sync>(
     set: &[u32],
     settings: &Settings,
     gate: &G,
-) -> Result<(Vec<u32>, Vec<u64>), Fault>
+) -> Result<(Vec<u32>, Found), Fault>
     requires { IsSetFor settings.now.cost before.now settings.now.choice set.now }
     ensures cards { IfOk result (λ x. x.0.items ≡ cards_into before.now.heap (map (refined before.now) (regions before.now.heap)) set.now) }
-    ensures survivors { IfOk result (λ x. Survivors before.now.heap set.now x.1.items) }
+    ensures found { IfOk result (λ x. IsFound before.now.heap set.now x.1) }
     ensures memory { IfErr result (λ e. e ≡ Fault.Memory) }
 {
     let heap = before.image().heap();
     let cards = cards_into(alloc, heap, before.remembered(), set)?;
     g1_copy::laws::cards_lead_in();
     g1_frontier::laws::refined_lead_in();
-    let survivors = discover(
+    let found = discover_seen(
         rt,
         alloc,
         heap,
@@ -105,7 +111,7 @@ fn find_survivors<R: Threads + Sync, G: Gate + Sync>(
         settings.chunk(),
         gate,
     )?;
-    Ok((cards, survivors))
+    Ok((cards, found))
 }
 
 /// Where a set's survivors go, and what the pause writes, if they have room.
@@ -115,19 +121,19 @@ fn lay_out<R: Threads + Sync>(
     before: &Before<'_>,
     set: &[u32],
     cards: &[u32],
-    survivors: Vec<u64>,
+    found: Found,
     settings: &Settings,
 ) -> Result<Outcome, Fault>
     requires set { IsSetFor settings.now.cost before.now settings.now.choice set.now }
     requires cards { cards.now ≡ cards_into before.now.heap (map (refined before.now) (regions before.now.heap)) set.now }
-    requires survivors { Survivors before.now.heap set.now survivors.items }
+    requires found { IsFound before.now.heap set.now found }
     ensures outcome { IfOk result (λ x. IsOutcome before.now set.now x) }
     ensures memory { IfErr result (λ e. e ≡ Fault.Memory) }
 {
     g1_layout::laws::placeable();
-    match place(alloc, before.image().heap(), set, &survivors) {
+    match placed(alloc, before.image().heap(), set, &found) {
         Err(Fault::Room { need, free }) => Ok(Outcome::NoRoom {
-            survivors,
+            survivors: found.survivors,
             need,
             free,
         }),
@@ -142,8 +148,44 @@ fn lay_out<R: Threads + Sync>(
                 plan: &plan,
                 cards,
             };
-            let prepared = prepare_on(rt, alloc, &basis, settings.workers())?;
+            let prepared = prepared(rt, alloc, &basis, found.seen, settings.workers())?;
             Ok(Outcome::Ready { plan, prepared })
         }
+    }
+}
+
+/// Where a set's survivors go, by their sizes if the search has seen them.
+fn placed(alloc: Global, heap: &Heap, set: &[u32], found: &Found) -> Result<Plan, Fault>
+    requires can { CanPlace heap.now set.now found.now.survivors.items }
+    requires found { IsFound heap.now set.now found.now }
+    ensures plan { IfOk result (λ p. p ≡ plan_of heap.now set.now found.now.survivors.items) }
+    ensures room { length (free_regions heap.now) < need heap.now found.now.survivors.items → result ≡ Err (Fault.Room (need heap.now found.now.survivors.items) (length (free_regions heap.now))) }
+    ensures memory { need heap.now found.now.survivors.items ≤ length (free_regions heap.now) → IfErr result (λ e. e ≡ Fault.Memory) }
+{
+    match &found.seen {
+        Some(seen) => place_sized(alloc, heap, set, &found.survivors, &seen.sizes),
+        None => place(alloc, heap, set, &found.survivors),
+    }
+}
+
+/// What a pause writes, by the slots that lead into the set if the search has seen them.
+fn prepared<R: Threads + Sync>(
+    rt: &R,
+    alloc: Global,
+    basis: &Basis<'_>,
+    seen: Option<Seen>,
+    workers: u64,
+) -> Result<Prepared, Fault>
+    requires starts { IsStartsOf basis.now.tracked.now.heap basis.now.starts.now }
+    requires remembered { map (λ s. s.items) basis.now.remembered.now ≡ map (refined basis.now.tracked.now) (regions basis.now.tracked.now.heap) }
+    requires plan { IsPauseOf basis.now.tracked.now.heap basis.now.set.now basis.now.plan.now }
+    requires cards { basis.now.cards.now ≡ cards_into basis.now.tracked.now.heap (map (λ s. s.items) basis.now.remembered.now) basis.now.set.now }
+    requires seen { IfSome seen (λ s. s.leads.items ≡ slots_into basis.now.tracked.now.heap basis.now.set.now) }
+    ensures ok { IfOk result (λ p. IsMadeFor p basis.now.tracked.now basis.now.set.now basis.now.plan.now.survivors) }
+    ensures memory { IfErr result (λ e. e ≡ Fault.Memory) }
+{
+    match seen {
+        Some(seen) => prepare_by_leads(rt, alloc, basis, seen.leads, workers),
+        None => prepare_on(rt, alloc, basis, workers),
     }
 }

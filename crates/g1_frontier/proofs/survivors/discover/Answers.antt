@@ -1,54 +1,10 @@
-use Rattle.std.proofs.Common.{◌≡◌, ℕ, List, inl, inr, arith, ap, sym, subst, length, ◌∙◌}
-use Rattle.std.proofs.lemmas.Result.{IfOk-weaker}
-use Rattle.g1_words.specs.Survivors.{Survivors, seeds, children}
+use Rattle.g1_words.specs.Survivors.{seeds, children}
 use Rattle.g1_words.proofs.Unique.{breadth_first_unique}
-use Rattle.g1_frontier.specs.Window.{AreRising, AreWindowPositions}
-use Rattle.g1_frontier.proofs.Numberings.{scope_by_either}
 use Rattle.g1_frontier.proofs.survivors.discover.Goals as goal
-use Rattle.g1_frontier.proofs.survivors.discover.Goals.{then-takes_rounds+in_ok-new_by, else-takes_rounds}
-
-pub survivors_in-requires-clause-scope : goal.survivors_in-requires-clause-scope
-survivors_in-requires-clause-scope g c κs within =
-    scope_by_either _ (record {
-      valid = c.geometry.ensures.valid;
-      starts = c.requires.starts;
-      regions = c.requires.window;
-      positions = subst (AreWindowPositions c.args.window.now) (sym c.as_slice.ensures.value) c.in_ok-positions.ensures.positions;
-      count =
-          let regions = c.regions.ensures.value ∙ ap (λ g. g.n) c.geometry.ensures.same in
-          omega (arith, ap length c.as_slice.ensures.value, c.in_ok-positions.positions.ok, c.in_ok-positions.ensures.count, regions);
-    }) (elim c.if-takes_rounds.branch [
-      | then-takes_rounds+in_ok-new_by w ↦ inr (w.in_ok-new_by.field-0, w.numbering-is, w.in_ok-new_by.ensures.starts, w.in_ok-new_by.ensures.few)
-      | else-takes_rounds w ↦ inl w.numbering-is
-    ])
-
-pub returns-clause-only : goal.returns-clause-only
-returns-clause-only g c =
-    let h = c.args.heap.now in
-    let window : List ℕ = c.args.window.now in
-    IfOk-weaker c.survivors_in.result (λ v. Survivors h window v.items) (λ v. (l : List ℕ) → Survivors h window l → l ≡ v.items)
-    (λ v b l a. breadth_first_unique (seeds h window) (children h window) l v.items a b) c.survivors_in.ensures.ok
-
-pub positions-requires-clause-regions : goal.positions-requires-clause-regions
-positions-requires-clause-regions g c = subst (λ n. AreRising n c.args.window.now) (sym (c.regions.ensures.value ∙ ap (λ g. g.n) c.geometry.ensures.same)) c.requires.window
-
-pub positions-requires-clause-few : goal.positions-requires-clause-few
-positions-requires-clause-few g c = omega (arith, c.regions.ensures.value, c.regions.ensures.limits.n_most)
-
-pub new-requires : goal.new-requires
-new-requires g c = c.requires.team
 
 pub returns-clause-ok : goal.returns-clause-ok
-returns-clause-ok g c = c.survivors_in.ensures.ok
+returns-clause-ok g c = c.in_ok-found.ensures.ok.survivors
 
-pub returns-clause-memory : goal.returns-clause-memory
-returns-clause-memory g c = c.survivors_in.ensures.memory
-
-pub survivors_in-requires-clause-cards : goal.survivors_in-requires-clause-cards
-survivors_in-requires-clause-cards g c κs within = c.requires.cards
-
-pub survivors_in-requires-clause-outside : goal.survivors_in-requires-clause-outside
-survivors_in-requires-clause-outside g c κs within = c.requires.outside
-
-pub survivors_in-requires-clause-lead_in : goal.survivors_in-requires-clause-lead_in
-survivors_in-requires-clause-lead_in g c κs within = c.requires.lead_in
+pub returns-clause-only : goal.returns-clause-only
+returns-clause-only g c = λ l a.
+    breadth_first_unique (seeds c.args.heap.now c.args.window.now) (children c.args.heap.now c.args.window.now) l c.in_ok-found.found.survivors.items a c.in_ok-found.ensures.ok.survivors

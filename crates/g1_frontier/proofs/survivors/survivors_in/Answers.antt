@@ -15,9 +15,13 @@ pub returns-clause-ok : goal.returns-clause-ok
 returns-clause-ok g c =
     let s = c.loop-search.search in
     let i = c.loop-search.invariant in
-    ends (seeds c.args.scope.now.heap.now c.args.scope.now.window.now) (children c.args.scope.now.heap.now c.args.scope.now.window.now) s.found.items
-    s.from (omega (arith, c.loop-search-test.false, c.len.ensures, s.found.ok)) i.in_order
-    (λ a k. i.reached a (Contains-from_in s.found.items a k))
+    record {
+      survivors =
+          ends (seeds c.args.scope.now.heap.now c.args.scope.now.window.now) (children c.args.scope.now.heap.now c.args.scope.now.window.now) s.found.items
+          s.from (omega (arith, c.loop-search-test.false, c.len.ensures, s.found.ok)) i.in_order
+          (λ a k. i.reached a (Contains-from_in s.found.items a k));
+      seen = tt;
+    }
 
 pub search_alone-requires-clause-scope : goal.search_alone-requires-clause-scope
 search_alone-requires-clause-scope g c = c.requires.scope

@@ -1,19 +1,4 @@
-use Rattle.std.proofs.Common.{◌∙◌, ap, sym, subst}
-use Rattle.std.proofs.lemmas.Bool.{false≢true}
-use Rattle.g1_words.specs.References.{refs}
-use Rattle.g1_words.specs.Survivors.{in_set}
-use Rattle.g1_words.proofs.Members.{In-from_contains}
-use Rattle.g1_frontier.specs.Window.{AreRegions}
-use Rattle.g1_mark.proofs.Used.{used_are_regions, slot_used}
 use Rattle.g1_mark.proofs.live.live_objects.Goals as goal
 
-pub discover-requires-clause-window : goal.discover-requires-clause-window
-discover-requires-clause-window g c κs within =
-    let h = c.args.heap.now in
-    subst (AreRegions h) (sym (c.as_slice.ensures.value ∙ c.in_ok-window.ensures.used)) (used_are_regions h)
-
-pub discover-requires-clause-lead_in : goal.discover-requires-clause-lead_in
-discover-requires-clause-lead_in g c κs within =
-    let h = c.args.heap.now in
-    λ e i t f. absurd (false≢true (sym f ∙ ap (λ w. in_set h w e.slot) (c.as_slice.ensures.value ∙ c.in_ok-window.ensures.used)
-    ∙ slot_used h c.used_regions.ensures.valid e (In-from_contains (refs h) e i)))
+pub returns-clause-ok : goal.returns-clause-ok
+returns-clause-ok g c = c.in_ok-found.ensures.ok.survivors

@@ -18,26 +18,26 @@ cards_into-requires-clause-set g c =
     let he : c.heap-heap.result.now ≡ c.args.before.now.heap = c.heap-heap.ensures.same ∙ ap (λ (j : Image). j.heap) c.image.ensures.same in
     (set_there c.args.settings.now.cost c.args.settings.now.choice c.args.before.now c.heap-heap.result.now he c.args.set.now c.requires c.args.set.now refl).below
 
-pub discover-requires-clause-window : goal.discover-requires-clause-window
-discover-requires-clause-window g c κs within =
+pub discover_seen-requires-clause-window : goal.discover_seen-requires-clause-window
+discover_seen-requires-clause-window g c κs within =
     let he : c.heap-heap.result.now ≡ c.args.before.now.heap = c.heap-heap.ensures.same ∙ ap (λ (j : Image). j.heap) c.image.ensures.same in
     set_there c.args.settings.now.cost c.args.settings.now.choice c.args.before.now c.heap-heap.result.now he c.args.set.now c.requires c.args.set.now refl
 
-pub discover-requires-clause-cards : goal.discover-requires-clause-cards
-discover-requires-clause-cards g c κs within =
+pub discover_seen-requires-clause-cards : goal.discover_seen-requires-clause-cards
+discover_seen-requires-clause-cards g c κs within =
     cards_there c.heap-heap.result.now c.deref.result.now c.args.set.now (map (λ s. s.items) c.remembered.result.now)
-    c.cards_lead_in.ensures.outside (the_cards g (goal.at.discover-requires-clause-cards g c).After-deref)
+    c.cards_lead_in.ensures.outside (the_cards g (goal.at.discover_seen-requires-clause-cards g c).After-deref)
 
-pub discover-requires-clause-outside : goal.discover-requires-clause-outside
-discover-requires-clause-outside g c κs within =
+pub discover_seen-requires-clause-outside : goal.discover_seen-requires-clause-outside
+discover_seen-requires-clause-outside g c κs within =
     let he : c.heap-heap.result.now ≡ c.args.before.now.heap = c.heap-heap.ensures.same ∙ ap (λ (j : Image). j.heap) c.image.ensures.same in
     (set_leads c.args.settings.now.cost c.args.settings.now.choice c.args.before.now c.heap-heap.result.now he c.args.set.now c.requires
     c.deref.result.now c.args.set.now c.args.set.now (map (λ s. s.items) c.remembered.result.now) c.image.ensures.tracked c.cards_lead_in.ensures.refined c.refined_lead_in.ensures.window
-    (the_cards g (goal.at.discover-requires-clause-outside g c).After-deref) refl refl c.remembered.ensures.refined).0
+    (the_cards g (goal.at.discover_seen-requires-clause-outside g c).After-deref) refl refl c.remembered.ensures.refined).0
 
-pub discover-requires-clause-lead_in : goal.discover-requires-clause-lead_in
-discover-requires-clause-lead_in g c κs within =
+pub discover_seen-requires-clause-lead_in : goal.discover_seen-requires-clause-lead_in
+discover_seen-requires-clause-lead_in g c κs within =
     let he : c.heap-heap.result.now ≡ c.args.before.now.heap = c.heap-heap.ensures.same ∙ ap (λ (j : Image). j.heap) c.image.ensures.same in
     (set_leads c.args.settings.now.cost c.args.settings.now.choice c.args.before.now c.heap-heap.result.now he c.args.set.now c.requires
     c.deref.result.now c.args.set.now c.args.set.now (map (λ s. s.items) c.remembered.result.now) c.image.ensures.tracked c.cards_lead_in.ensures.refined c.refined_lead_in.ensures.window
-    (the_cards g (goal.at.discover-requires-clause-lead_in g c).After-deref) refl refl c.remembered.ensures.refined).1
+    (the_cards g (goal.at.discover_seen-requires-clause-lead_in g c).After-deref) refl refl c.remembered.ensures.refined).1
