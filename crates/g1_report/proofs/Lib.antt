@@ -2,6 +2,7 @@ pub mod Answering
 pub mod Counted
 pub mod Found
 pub mod Joined
+pub mod Behind
 pub mod Lookups
 pub mod Passed
 pub mod Rising

@@ -1,7 +1,6 @@
 -- What is handed on of a verdict on two heaps, without a program's names.
 use Rattle.std.specs.Prelude.{◌≡◌, ◌⊎◌, ℕ, Bool, true, false, List, [], ◌∷◌, ◌++◌, Option, Some, None, IfSome, codes}
 use Rattle.std.specs.List.Sorted.{IsNonDecreasingBy}
-use Rattle.std.specs.Io.KnownBytes.{Appends}
 use Rattle.g1_same.specs.declared.difference.Difference.{Difference}
 use Rattle.g1_same.specs.declared.difference.Difference.TheVariants.{Roots, At}
 use Rattle.g1_same.specs.declared.renaming.Renaming.{Renaming}
@@ -13,6 +12,7 @@ use Rattle.g1_report.specs.declared.reporting.Asked.{Asked}
 use Rattle.g1_report.specs.declared.verdict.Finding.{Finding}
 use Rattle.g1_report.specs.declared.verdict.Finding.TheVariants.{Same, Differ, Stale}
 use Rattle.g1_report.specs.Wording.{Called, Compared, place_line, roots_line, stale_line, lost_line, same_line, have_moved, moved_line}
+use Rattle.g1_report.specs.Listed.{lists, HandedOn}
 use Rattle.g1_report.specs.Agreement.{KeepsSet}
 use Rattle.g1_report.specs.Finding.{IsFinding, Loses}
 
@@ -90,10 +90,10 @@ IsAnswer s a (Same r) status text = IsSameAnswer s a r status text
 IsAnswer s a (Differ d) status text = (status ≡ 1) × IsDifferenceLine s d text
 IsAnswer s a (Stale e) status text = (status ≡ 1) × (text ≡ stale_line s e.root e.slots.items e.before e.word)
 
--- WHAT IS HANDED ON: the text of what is found first of the two heaps
+-- WHAT IS HANDED ON: the text of what is found first of the two heaps; if all differences are asked for, further lines behind it
 pub record HandsOn (a : Asked) (status : ℕ) (old new : Option (List ℕ)) : Type 0 where
   pub finding : Finding
   pub found : IsFinding a.before.now.image.heap a.after.now.image.heap a.after.now.stale finding
   pub text : List ℕ
   pub answer : IsAnswer (compared_of a) a finding status text
-  pub taken : Appends old new text
+  pub taken : HandedOn (compared_of a) (lists finding a.all) old new text

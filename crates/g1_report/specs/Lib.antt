@@ -3,4 +3,5 @@ pub mod Finding
 pub mod Taken
 pub mod Wording
 pub mod Answer
+pub mod Listed
 pub mod Given

@@ -7,6 +7,7 @@ ghost use Rattle.g1_same.specs.Behind.{ShowsAt};
 ghost use Rattle.g1_report.specs.Wording.{told, name_in, name_of, root_text_of, object_text, word_text, path_text, value_text, how_word, met_text, numbers_text, values_text, detail_text, before_text, after_text, place_line, roots_line, same_line};
 ghost use Rattle.g1_report.specs.Answer.{IsByNumber, IsDifferenceLine};
 ghost use Rattle.g1_report.specs.Given.{listed, compared, AreNamedInOrder};
+ghost use Rattle.g1_report.specs.Listed.{found_line};
 ghost use Rattle.g1_report.specs.Taken.{Adds};
 
 use crate::names::{Kind, Names};
@@ -106,6 +107,8 @@ pub fn push_found_line(
     found: &Found,
 ) -> Result<(), AllocError>
     requires { ShowsAt sides.before.now sides.after.now (path.now.root ∷ path.now.slots.items) found.now }
+    ensures { AreNamedInOrder sides.entry → OnOk result (string_bytes text.new ≡ string_bytes text.old
+        ++ found_line (compared sides.entry) path.now.root path.now.slots.items found.now.what found.now.place.before found.now.place.after) }
 {
     let ends = ends_at(sides.before, sides.after, found);
     let path = (path.root, path.slots.as_slice());

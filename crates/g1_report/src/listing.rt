@@ -1,9 +1,11 @@
 //! The lines of all differences: the first ones, and how many there are of each kind.
-ghost use Rattle.std.specs.Prelude.{◌≡◌, [], OnOk, IfErr};
+ghost use Rattle.std.specs.Prelude.{◌≡◌, ◌++◌, [], codes, decimal, sum, string_bytes, OnOk, IfErr};
 ghost use Rattle.g1_same.specs.Behind.{IsThere};
 ghost use Rattle.g1_same.specs.Underway.{IsUnderway};
 ghost use Rattle.g1_report.specs.Finding.{IsFault};
 ghost use Rattle.g1_report.specs.Taken.{TakesFirst};
+ghost use Rattle.g1_report.specs.Listed.{TakesLines, TakesAll, count_text, counts_line};
+ghost use Rattle.g1_report.specs.Given.{compared, AreNamedInOrder};
 
 use crate::comparing::{Sides, push_found_line};
 use crate::lines::Lines;
@@ -11,11 +13,6 @@ use crate::reporting::{Asked, Refused};
 use crate::sides::Strays;
 use g1_same::{Differences, Found, How, StaleWords, What};
 use std::alloc::{AllocError, Global};
-
-// The kinds of differences, as lines have them.
-const KINDS: [&str; 8] = [
-    "roots", "stale", "null", "split", "joined", "size", "slots", "data",
-];
 
 /// The line of the first difference, and behind it those of the walk's next ones up to the number asked, and the line of
 /// all numbers. Each has the whole path, so it is handed on as soon as it is made.
@@ -28,6 +25,7 @@ pub fn list_all<L: Lines>(
     out: &mut L,
 ) -> Result<(), Refused>
     ensures first { OnOk result (TakesFirst (L.taken out.old) (L.taken out.new) first.now) }
+    ensures all { AreNamedInOrder sides.entry → OnOk result (TakesAll (compared sides.entry) (L.taken out.old) (L.taken out.new) first.now) }
     ensures fault { IfErr result IsFault }
 {
     let mut counts = [0u64; 8];
@@ -71,6 +69,7 @@ fn take_found<L: Lines>(
     requires after { walk.now.after.now ≡ sides.after.now }
     requires there { IsThere walk.now.before.now walk.now.after.now walk.now.walk found.now }
     ensures taken { OnOk result (TakesFirst (L.taken out.old) (L.taken out.new) []) }
+    ensures line { AreNamedInOrder sides.entry → OnOk result (TakesLines (compared sides.entry) (L.taken out.old) (L.taken out.new) []) }
     ensures fault { IfErr result IsFault }
 {
     if !listed {
@@ -110,7 +109,7 @@ fn add_one(counts: &mut [u64; 8], kind: usize) {
     }
 }
 
-// The place among `KINDS`.
+// The place of a kind among the numbers of all kinds.
 fn kind_of(what: &What) -> usize {
     match what {
         What::Stale(_) => 1,
@@ -124,16 +123,44 @@ fn kind_of(what: &What) -> usize {
     }
 }
 
-fn push_counts(text: &mut String, counts: &[u64; 8]) -> Result<(), AllocError> {
-    let mut all = 0u64;
+// The numbers of all kinds, in the order of kinds.
+fn push_counts(text: &mut String, counts: &[u64; 8]) -> Result<(), AllocError>
+    ensures { OnOk result (string_bytes text.new ≡ string_bytes text.old ++ counts_line counts.now) }
+{
+    push_sum(text, sum_of(counts))?;
+    push_count(text, "roots", counts[0])?;
+    push_count(text, "stale", counts[1])?;
+    push_count(text, "null", counts[2])?;
+    push_count(text, "split", counts[3])?;
+    push_count(text, "joined", counts[4])?;
+    push_count(text, "size", counts[5])?;
+    push_count(text, "slots", counts[6])?;
+    push_count(text, "data", counts[7])?;
+    text.push_str("\n")
+}
+
+fn push_sum(text: &mut String, all: u128) -> Result<(), AllocError>
+    ensures { OnOk result (string_bytes text.new ≡ string_bytes text.old ++ (codes "differences " ++ (decimal all ++ codes ":"))) }
+{
+    write!(text, "differences {all}:")
+}
+
+fn sum_of(counts: &[u64]) -> u128
+    ensures { result ≡ sum counts.now }
+{
+    let mut all = 0u128;
     for count in counts {
-        all = all.saturating_add(*count);
+        all += u128::from(*count);
     }
-    write!(text, "differences {all}:")?;
-    for (kind, count) in KINDS.iter().zip(counts.iter()) {
-        if *count > 0 {
-            write!(text, " {kind} {count}")?;
-        }
+    all
+}
+
+// A kind and its number, if there are any.
+fn push_count(text: &mut String, kind: &str, count: u64) -> Result<(), AllocError>
+    ensures { OnOk result (string_bytes text.new ≡ string_bytes text.old ++ count_text kind.now count) }
+{
+    match count {
+        0 => Ok(()),
+        _ => write!(text, " {kind} {count}"),
     }
-    text.push('\n')
 }

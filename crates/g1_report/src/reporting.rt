@@ -1,11 +1,11 @@
 //! What is asked of two heaps, and the answer in lines.
-ghost use Rattle.std.specs.Prelude.{◌≡◌, None, OnOk, IfOk, IfErr, string_bytes};
-ghost use Rattle.std.specs.Io.KnownBytes.{Appends};
+ghost use Rattle.std.specs.Prelude.{◌≡◌, OnOk, IfOk, IfErr, string_bytes};
 ghost use Rattle.g1_report.specs.Finding.{IsFault, IsRefusal, IsVerdict, IsUntouched};
 ghost use Rattle.g1_report.specs.Taken.{TakesFirst};
 ghost use Rattle.g1_report.specs.Wording.{Called, Compared};
 ghost use Rattle.g1_report.specs.Answer.{compared_of, names_or_none, stale_names, IsPlain, HandsOn};
-ghost use Rattle.g1_report.specs.Given.{listed, compared};
+ghost use Rattle.g1_report.specs.Listed.{lists, HandedOn};
+ghost use Rattle.g1_report.specs.Given.{listed, compared, AreNamedInOrder};
 
 use crate::comparing::{Labels, Sides};
 use crate::lines::Lines;
@@ -92,7 +92,7 @@ impl<T: Drop> From<AllocFailed<T>> for Refused {
 /// `Refused` says why there is no verdict. If it is the set or a stale word, `out` has taken nothing. A fault may come
 /// behind some of the lines.
 pub fn report<L: Lines>(alloc: Global, asked: &Asked<'_>, out: &mut L) -> Result<u8, Refused>
-    ensures text { asked.now.all ≡ None → IsPlain asked.now → IfOk result (λ s. HandsOn asked.now s (L.taken out.old) (L.taken out.new)) }
+    ensures text { IsPlain asked.now → IfOk result (λ s. HandsOn asked.now s (L.taken out.old) (L.taken out.new)) }
     ensures status { IfOk result (λ s. IsVerdict asked.now.before.now.image.heap asked.now.after.now.image.heap asked.now.after.now.stale asked.now.set.now asked.now.fill s) }
     ensures refused { IfErr result (λ e. IsRefusal asked.now.before.now.image.heap asked.now.after.now.image.heap asked.now.after.now.stale asked.now.set.now e) }
     ensures untouched { IfErr result (λ e. IsUntouched (L.taken out.old) (L.taken out.new) e) }
@@ -114,15 +114,26 @@ fn hand_on<L: Lines>(
     out: &mut L,
 ) -> Result<(), Refused>
     ensures first { OnOk result (TakesFirst (L.taken out.old) (L.taken out.new) (string_bytes verdict.now.text)) }
-    ensures alone { asked.now.all ≡ None → OnOk result (Appends (L.taken out.old) (L.taken out.new) (string_bytes verdict.now.text)) }
+    ensures all { AreNamedInOrder sides.entry → OnOk result (HandedOn (compared sides.entry) (lists finding.now asked.now.all) (L.taken out.old) (L.taken out.new) (string_bytes verdict.now.text)) }
     ensures fault { IfErr result IsFault }
 {
-    match (finding, asked.all) {
-        (Finding::Same(_), _) | (_, None) => {
+    match lists(finding, asked.all) {
+        None => {
             out.take(verdict.text.as_str())?;
             Ok(())
         }
-        (_, Some(most)) => list_all(alloc, asked, sides, verdict.text.as_str(), most, out),
+        Some(most) => list_all(alloc, asked, sides, verdict.text.as_str(), most, out),
+    }
+}
+
+// How many differences are listed, if they are: one graph has none.
+fn lists(finding: &Finding, all: Option<u64>) -> Option<u64>
+    ensures { result ≡ lists finding.now all }
+{
+    match finding {
+        Finding::Same(_) => None,
+        Finding::Differ(_) => all,
+        Finding::Stale(_) => all,
     }
 }
 

@@ -1,6 +1,8 @@
 use Rattle.std.proofs.Common.{◌≡◌, ◌+◌, ◌-◌, ◌*◌, ◌^◌}
 use Rattle.g1_same.specs.Underway.{IsUnderway}
 use Rattle.g1_report.specs.Taken.{TakesFirst}
+use Rattle.g1_report.specs.Listed.{TakesLines}
+use Rattle.g1_report.specs.Given.{compared, AreNamedInOrder}
 use Rattle.g1_report.proofs.listing.list_all.Given as goal
 
 abbrev pub invariant-differences : goal.invariant-differences
@@ -8,6 +10,7 @@ invariant-differences g l = record {
   underway : IsUnderway l.walk;
   before : l.walk.before.now ≡ l.sides.before.now;
   after : l.walk.after.now ≡ l.sides.after.now;
+  lines : AreNamedInOrder l.sides → TakesLines (compared l.sides) (g.L.Lines.taken l.fn.out) (g.L.Lines.taken l.out) l.first;
   took : TakesFirst (g.L.Lines.taken l.fn.out) (g.L.Lines.taken l.out) l.first;
 }
 

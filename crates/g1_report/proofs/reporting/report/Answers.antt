@@ -1,6 +1,8 @@
 use Rattle.std.proofs.Common.{sym, ◌∙◌, subst, string_bytes}
 use Rattle.g1_report.specs.Finding.{IsRefusal, IsFinding}
 use Rattle.g1_report.specs.Answer.{AreByNumber, IsAnswer}
+use Rattle.g1_report.specs.Listed.{HandedOn, lists}
+use Rattle.g1_report.specs.Given.{AreNamedInOrder}
 use Rattle.g1_report.proofs.Passed.{passed_on, of_heaps}
 use Rattle.g1_report.proofs.reporting.report.Goals as goal
 
@@ -13,19 +15,20 @@ returns-in_err-finding-clause-refused g c =
     c.sides_of-sides.ensures.before c.sides_of-sides.ensures.after (c.in_err-finding.ensures.refused a.set.now))
 
 pub returns-clause-text : goal.returns-clause-text
-returns-clause-text g c = λ none plain.
+returns-clause-text g c = λ plain.
     let a = c.args.asked.now in
     let sides = c.sides_of-sides in
     let text = string_bytes c.in_ok-verdict.verdict.text in
+    let named : AreNamedInOrder sides.result = record {
+      names = sides.ensures.names ∙ plain.names;
+      names_after = sides.ensures.names_after ∙ plain.names_after;
+      in_order = subst AreByNumber (sym sides.ensures.compared) plain.in_order;
+    } in
     record {
       finding = c.in_ok-finding.finding;
       found = of_heaps (λ x y. IsFinding x y a.after.now.stale c.in_ok-finding.finding) sides.result.before.now a.before.now.image.heap sides.result.after.now a.after.now.image.heap
           sides.ensures.before sides.ensures.after c.in_ok-finding.ensures.found;
       text = text;
-      answer = subst (λ s. IsAnswer s a c.in_ok-finding.finding c.in_ok-verdict.verdict.status text) sides.ensures.compared (c.in_ok-verdict.ensures.text (record {
-        names = sides.ensures.names ∙ plain.names;
-        names_after = sides.ensures.names_after ∙ plain.names_after;
-        in_order = subst AreByNumber (sym sides.ensures.compared) plain.in_order;
-      }));
-      taken = c.in_ok-hand_on.ensures.alone none;
+      answer = subst (λ s. IsAnswer s a c.in_ok-finding.finding c.in_ok-verdict.verdict.status text) sides.ensures.compared (c.in_ok-verdict.ensures.text named);
+      taken = subst (λ s. HandedOn s (lists c.in_ok-finding.finding a.all) (g.L.Lines.taken c.args.out.now) (g.L.Lines.taken c.hand_on.new.out) text) sides.ensures.compared (c.in_ok-hand_on.ensures.all named);
     }
