@@ -17,7 +17,7 @@ use std::os::fd::AsRawFd;
 use std::os::unix::fs::symlink;
 use std::rt::Files;
 use std::thread::Threads;
-use std::{fs, io};
+use std::{fs, io, mem};
 
 /// The names of the programs.
 const NAMES: [&str; 3] = ["g1pause", "g1heap", "g1heap_at_terminal"];
@@ -210,19 +210,34 @@ fn run<R: Threads + Files + Sync>(
     let (rt, alloc) = (trial.rt, trial.alloc);
     let words = words_of(alloc, line)?;
     let words = words.as_slice();
-    let (writer, errors) = (&mut left.writer, &mut left.errors);
-    left.status = if line.starts_with("g1pause") {
-        g1pause_cli::program(rt, alloc, words, reader, &mut ToWriter::new(writer), errors).status
-    } else {
-        let is_at_terminal = line.starts_with("g1heap_at_terminal");
-        let terminals = Terminals {
-            input: is_at_terminal,
-            output: is_at_terminal,
-        };
-        let call = g1heap_cli::Call { words, terminals };
-        g1heap_cli::program(rt, alloc, call, reader, writer, errors)
+    if line.starts_with("g1pause") {
+        run_g1pause(trial, words, reader, left);
+        return Ok(());
+    }
+    let is_at_terminal = line.starts_with("g1heap_at_terminal");
+    let terminals = Terminals {
+        input: is_at_terminal,
+        output: is_at_terminal,
     };
+    let call = g1heap_cli::Call { words, terminals };
+    let (writer, errors) = (&mut left.writer, &mut left.errors);
+    left.status = g1heap_cli::program(rt, alloc, call, reader, writer, errors);
     Ok(())
+}
+
+/// g1pause is given a sink that owns its writer: so the stream is moved into it, and back.
+fn run_g1pause<R: Threads + Files + Sync>(
+    trial: &Trial<'_, R>,
+    words: &[String],
+    reader: &mut Stream,
+    left: &mut Left,
+) {
+    let (rt, alloc) = (trial.rt, trial.alloc);
+    let unused = Stream::of(Vec::new(alloc), 0);
+    let mut sink = ToWriter::new(mem::replace(&mut left.writer, unused));
+    let errors = &mut left.errors;
+    left.status = g1pause_cli::program(rt, alloc, words, reader, &mut sink, errors).status;
+    left.writer = sink.into_inner();
 }
 
 /// Whether a program left these bytes on standard output, and else what it has to leave.
