@@ -2,7 +2,8 @@
 """Tests of what makes, packs and installs a release: test_release.py [-v]
 
 A release of lines of shell and a checkout are installed, each over the other, and uninstalled: nothing of them may stay.
-What --help says makes manual pages, and completion that bash, zsh and fish understand, as far as they are there.
+What --help says makes manual pages, and completion that bash, zsh and fish understand, as far as they are there. The
+examples of the pages are done by the programs of out/, if they are built.
 A library of the judge without a proof is in no release.
 """
 import os
@@ -23,8 +24,10 @@ sys.path[:0] = [str(TOP / "tools"), str(TOP / "tools" / "lib")]
 import build_judge  # noqa: E402
 import completion  # noqa: E402
 import manual  # noqa: E402
+import programs  # noqa: E402
 import release  # noqa: E402
 import stamp  # noqa: E402
+from random_dumps import RandomDump  # noqa: E402
 
 
 class Manual(unittest.TestCase):
@@ -86,6 +89,9 @@ Example: g1heap same B
         self.assertEqual(lines[at + 1:at + 7], [".TP", "\\fB0\\fR", "the same", ".TP", "\\fB141\\fR", "the reader went away"])
         self.assertIn(".BR g1heap (1)", lines[lines.index(".SH SEE ALSO"):])
         self.assertIn(".BR g1heap\\-same (1),", pages["g1heap.1"].splitlines())
+        at = lines.index(".SH EXAMPLES")
+        self.assertEqual(lines[at + 1:at + 5], [".PP", ".nf", "    g1heap same B", ".fi"])
+        self.assertIn("    g1heap same \\-\\-all 10 BEFORE AFTER", lines[at:])
 
     def test_the_pages_that_are_named_are_there(self):
         for page in {*manual.PAGES.values(), "COMMANDS.md"}:
@@ -128,6 +134,47 @@ Example: g1heap same B
                      "'--image[A number and a file]:N: :FILE:_files'", "'(-o --output)'{-o,--output}'[Writes this file]:FILE:_files'",
                      "'*:file:_files' ;;"):
             self.assertIn(part, text)
+
+
+@unittest.skipUnless(all(pathlib.Path(programs.find(name)).is_file() for name in stamp.PROGRAMS), programs.BUILD)
+class Examples(unittest.TestCase):
+    """The examples of the manual pages, done by the built programs."""
+
+    LINES = """heap 16 4 4
+covered
+root 16
+region 1 ordinary
+object 16 3/1 32 7
+region 2 ordinary
+object 32 2/1 16
+"""
+
+    def room(self):
+        """A folder with the files that the examples name."""
+        room = tempfile.TemporaryDirectory()
+        self.addCleanup(room.cleanup)
+        folder = pathlib.Path(room.name)
+        self.called(folder, "g1heap make -o IMAGE", self.LINES)
+        shutil.copy(folder / "IMAGE", folder / "BEFORE")
+        self.called(folder, "g1heap pause --set 1,2 -o AFTER BEFORE")
+        (folder / "MAP").write_text("object 16 Pair\n")
+        (folder / "TRACE").write_text("heap 16 4 4 1\nnew 0 0 1\nsay 0 0\n")
+        (folder / "DUMP").write_bytes(RandomDump(1).bytes)
+        return folder
+
+    def called(self, folder, command, given=""):
+        path = ":".join([*(str(pathlib.Path(programs.find(name)).parent) for name in stamp.PROGRAMS), os.environ["PATH"]])
+        done = subprocess.run(["sh", "-c", command], cwd=folder, input=given, env=dict(os.environ, PATH=path), capture_output=True,
+                              text=True, check=False)
+        self.assertEqual((done.returncode, done.stderr), (0, ""), command)
+
+    def test_each_example_does_what_it_says(self):
+        for name, commands in manual.EXAMPLES.items():
+            for command, found in commands.items():
+                with self.subTest(name=name, command=command):
+                    room = self.room()
+                    for line in [line for _, lines in found for line in lines]:
+                        self.called(room, line)
 
 
 class Packing(unittest.TestCase):

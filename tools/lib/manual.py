@@ -8,6 +8,33 @@ FOLDER = "share/doc/g1pause/docs"
 # The page on each command, in that folder. Those that are not named here are in COMMANDS.md.
 PAGES = {"same": "COMPARE.md", "print": "HEAP_TEXT.md", "make": "HEAP_TEXT.md", "convert": "JVM.md", "explain": "EXPLAIN.md",
          "why": "EXPLAIN.md", "trace": "TRACE.md", "pause": "PAUSE.md", "run": "TRACE.md"}
+# Examples behind that of the help: what they do, and the command lines. "" is the program's own page.
+EXAMPLES = {
+    "g1heap": {
+        "": [("Collects regions 1 and 2, and asks whether a program could notice:",
+              ["g1heap pause --set 1,2 -o AFTER BEFORE", "g1heap same --set 1,2 --covered BEFORE AFTER"])],
+        "show": [("Writes the image in version 2 of its format:", ["g1heap show --repack -o NEW IMAGE"])],
+        "check": [("Goes on only if every reference is covered:", ["g1heap check IMAGE > /dev/null && g1heap live IMAGE"])],
+        "live": [("Adds up by four threads:", ["g1heap live --workers 4 IMAGE"])],
+        "choose": [("What a budget buys if a card costs 10 and a byte 1:",
+                    ["g1heap choose --budget 1000 --card 10 --byte 1 IMAGE"])],
+        "pause": [("Collects regions 1 and 2, and compares both images:",
+                   ["g1heap pause --set 1,2 -o AFTER BEFORE", "g1heap same --set 1,2 BEFORE AFTER"])],
+        "same": [("Judges a collection of regions 1 and 2, with the cards:",
+                  ["g1heap same --set 1,2 --covered BEFORE AFTER"]),
+                 ("Lists ten differences, and counts all:", ["g1heap same --all 10 BEFORE AFTER"])],
+        "print": [("The lines of region 1 alone:", ["g1heap print --region 1 IMAGE"]),
+                  ("Data words in hexadecimal:", ["g1heap print --hex IMAGE"])],
+        "make": [("Makes an image of its own lines:", ["g1heap print IMAGE | g1heap make -o NEW"])],
+        "convert": [("Makes an image, with the names for 'same --names MAP':", ["g1heap convert --names MAP -o IMAGE DUMP"])],
+        "explain": [("Where each survivor of region 1 goes:", ["g1heap explain --set 1 --map IMAGE"])],
+        "why": [("The same with the names of a program:", ["g1heap why --names MAP IMAGE 16"])],
+        "trace": [("Also writes the image after the second command:", ["g1heap trace --image 2 AFTER TRACE"])],
+    },
+    "g1pause": {
+        "pause": [("Collects regions 1 and 2:", ["g1pause pause 1 2 < IMAGE > AFTER"])],
+    },
+}
 
 
 def said(words):
@@ -59,6 +86,18 @@ def listed(heading, entries):
     return lines
 
 
+def examples(first, others):
+    """The lines of the section of examples: that of the help, and those behind it."""
+    if not first and not others:
+        return []
+    lines = [".SH EXAMPLES"]
+    for meaning, commands in [("", [first] if first else []), *others]:
+        if meaning:
+            lines += [".PP", roff(meaning)]
+        lines += [".PP", ".nf", *(f"    {roff(command)}" for command in commands), ".fi"]
+    return lines
+
+
 def see_also(program, command, others):
     """Where to read on: the pages of the commands or of the program, the other program, and a page of the release."""
     if command:
@@ -79,8 +118,7 @@ def page(name, help_text, command, others, version, seconds):
              ".SH SYNOPSIS", f"\\fB{roff(help_text.usage)}\\fR"]
     lines += listed("COMMANDS", help_text.commands) + listed("ARGUMENTS", help_text.arguments)
     lines += listed("OPTIONS", help_text.options) + listed("EXIT STATUS", help_text.statuses)
-    if help_text.example:
-        lines += [".SH EXAMPLES", ".nf", f"    {roff(help_text.example)}", ".fi"]
+    lines += examples(help_text.example, EXAMPLES.get(name, {}).get(command or "", []))
     return "\n".join(lines + see_also(name, command, others)) + "\n"
 
 
