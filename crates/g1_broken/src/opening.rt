@@ -4,13 +4,16 @@ use g1_image::{Entry, Front, Heading, MAGIC, TextParts, Version};
 use g1_words::{Geometry, Limits, MOST_ROOTS};
 
 /// What files of other kinds begin with.
-const BEGINNINGS: [(&[u8], Look); 8] = [
+const BEGINNINGS: [(&[u8], Look); 11] = [
     (b"\x1f\x8b", Look::Gzip),
     (b"\x28\xb5\x2f\xfd", Look::Zstd),
     (b"\xfd7zXZ", Look::Xz),
     (b"BZh", Look::Bzip2),
     (b"PK\x03\x04", Look::Zip),
     (b"JAVA PROFILE", Look::Dump),
+    (b"\xef\xbb\xbf", Look::OrderMark),
+    (b"\xff\xfe", Look::Utf16),
+    (b"\xfe\xff", Look::Utf16),
     (b"graph", Look::Graph),
     (b"#", Look::Lines),
 ];

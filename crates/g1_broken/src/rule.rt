@@ -218,8 +218,12 @@ pub enum Look {
     Bzip2,
     #[error("it is a zip archive: unzip first")]
     Zip,
-    #[error("it is a heap dump of a Java virtual machine: tools/hprof2image.py makes an image of it")]
+    #[error("it is a heap dump of a Java virtual machine: 'g1heap convert' makes an image of it")]
     Dump,
+    #[error("it begins with the byte order mark of UTF-8: take away these three bytes")]
+    OrderMark,
+    #[error("it is text in UTF-16: write it in UTF-8")]
+    Utf16,
     #[error("it is an image of version {0}: this program reads the versions 1 and 2")]
     Version(char),
     #[error("it is lines of an image: 'g1heap make' makes an image of them")]
