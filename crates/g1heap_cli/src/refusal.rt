@@ -55,6 +55,16 @@ pub fn of_heap(alloc: Global, name: &str, heap: &Heap, fault: Fault) -> Refusal 
     of_rule(alloc, name, fault, rule)
 }
 
+/// The fault of an image that lacks cover, and that its graph is the one of the image before.
+pub fn of_cover(alloc: Global, name: &str, heap: &Heap, fault: Fault) -> Refusal {
+    match of_heap(alloc, name, heap, fault) {
+        Refusal::Told { status, text } => {
+            refusal(status, format!(in alloc; "{text}g1heap: the graph is the same\n"))
+        }
+        refused => refused,
+    }
+}
+
 /// The fault of an image whose words reference no object, if these words are null in its heap.
 pub fn of_stale(alloc: Global, name: &str, heap: &Heap, stale: &Stale, fault: Fault) -> Refusal {
     of_rule(alloc, name, fault, rule_of_stale(heap, stale, fault))

@@ -2,7 +2,9 @@
 use crate::files::{SideContent, read_side};
 use crate::line_writer::LineWriter;
 use crate::mapping::read_names;
-use crate::refusal::{not_for_both, not_for_lines, of_heap, of_stale, one_hash, refuse_lines};
+use crate::refusal::{
+    not_for_both, not_for_lines, of_cover, of_heap, of_stale, one_hash, refuse_lines,
+};
 use crate::young::with_young;
 use g1_command::Refusal;
 use g1_image::Image;
@@ -194,7 +196,7 @@ fn push_cover<T: Threads + Sync, W: Write>(
     let image = to_cover(job.alloc, job.same, after)?;
     if let Err((image, fault)) = verify(job.rt, job.alloc, image) {
         let name = job.same.after.as_str();
-        return Err(of_heap(job.alloc, name, image.heap(), fault));
+        return Err(of_cover(job.alloc, name, image.heap(), fault));
     }
     answer.take("covered\n")?;
     Ok(0)
