@@ -31,9 +31,9 @@ pub fn one_value()
     ensures { OneValue }
 {}
 
-/// Two heaps that carry graphs by name show the same graph exactly if the graphs are the same by name: one is the other with
-/// new names, whatever the order of the lines. So it is of no matter to `same` where the objects stand. The heaps are
-/// valid, and each object of a graph has a name of its own, as in each graph that a text says.
+/// Two valid heaps that carry graphs by name show the same graph exactly if the graphs are the same by name: one is the
+/// other with new names, whatever the order of the objects. So two that carry one graph show the same graph, wherever its
+/// objects stand. Each object of a graph has to have a name of its own: it has in a graph that a text says.
 pub fn same_by_name()
     ensures names { TextsGiveOwnNames }
     ensures heaps { SameCarried }
