@@ -35,7 +35,7 @@ heap_object o = record { at = o.1; size = size_of o.0; refs = length o.0.slots }
 
 -- LISTS
 
-flat_map_map : {A B C : Type 0} (f : B → List C) (v : A → B) (xs : List A) → flat_map f (map v xs) ≡ flat_map (λ x. f (v x)) xs
+pub flat_map_map : {A B C : Type 0} (f : B → List C) (v : A → B) (xs : List A) → flat_map f (map v xs) ≡ flat_map (λ x. f (v x)) xs
 flat_map_map f v [] = refl
 flat_map_map f v (x ∷ xs) = ap (λ l. f (v x) ++ l) (flat_map_map f v xs)
 

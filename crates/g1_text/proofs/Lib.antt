@@ -30,6 +30,10 @@ pub mod Written
 pub mod ByName
 pub mod NamedLines
 pub mod OneGraph
+pub mod OneValue
+pub mod NamedObjects
+pub mod Renaming
+pub mod RenamedExample
 pub mod Laying
 pub mod HeapWords
 pub mod Carrying

@@ -10,10 +10,10 @@ use Rattle.g1_text.specs.Graphs.{NamedObject, NamedGraph, IsTargetName, target_w
 use Rattle.g1_text.specs.ByName.{place_of}
 use Rattle.g1_text.specs.Carried.{reference_for, word_for, stale_if, stale_at}
 
-some_some : {A : Type 0} {x y : A} → ◌≡◌ {A = Option A} (Some x) (Some y) → x ≡ y
+pub some_some : {A : Type 0} {x y : A} → ◌≡◌ {A = Option A} (Some x) (Some y) → x ≡ y
 some_some e = cc
 
-none_some : {A : Type 0} {x : A} → ◌≡◌ {A = Option A} None (Some x) → ⊥
+pub none_some : {A : Type 0} {x : A} → ◌≡◌ {A = Option A} None (Some x) → ⊥
 none_some e = cc
 
 -- a place is that of an object

@@ -1,9 +1,15 @@
 -- The laws that public functions of this crate prove.
-use Rattle.std.specs.Prelude.{◌≡◌, ℕ, List, ◌∷◌, Option, map}
+use Rattle.std.specs.Prelude.{◌≡◌, ◌↔◌, ℕ, List, ◌∷◌, Option, map}
+use Rattle.g1_words.specs.Heap.{Heap}
+use Rattle.g1_words.specs.Valid.{IsValid}
+use Rattle.g1_words.specs.Graph.{SameGraph}
 use Rattle.g1_image.specs.Image.{Image, IsImage}
 use Rattle.g1_text.specs.Lines.{image_text, image_lines, heading}
 use Rattle.g1_text.specs.Reading.{HasLines}
 use Rattle.g1_text.specs.Graphs.{NamedGraph, SaysGraph}
+use Rattle.g1_text.specs.Forms.{StandsFor}
+use Rattle.g1_text.specs.Carried.{Carries}
+use Rattle.g1_text.specs.Renamed.{HasOwnNames, SameByName}
 use Rattle.g1_text.specs.Content.{Content, Line, Begins, Says, Adds, IsContentOf, SaysImage, words_of}
 
 -- a full text is that of one image
@@ -34,3 +40,20 @@ TextsSayOne = (text : List ℕ) (i j : Image) → SaysImage text i → SaysImage
 -- a text says at most one graph by name
 abbrev pub TextsSayOneGraph : Type 0
 TextsSayOneGraph = (text : List ℕ) (g h : NamedGraph) → SaysGraph text g → SaysGraph text h → g ≡ h
+
+-- a word stands for at most one number
+abbrev pub OneValue : Type 0
+OneValue = (m n : ℕ) (word : List ℕ) → StandsFor m word → StandsFor n word → m ≡ n
+
+-- in a graph that a text says each object has a name of its own
+abbrev pub TextsGiveOwnNames : Type 0
+TextsGiveOwnNames = (text : List ℕ) (g : NamedGraph) → SaysGraph text g → HasOwnNames g
+
+-- two heaps that carry graphs by name show the same graph exactly if these are the same by name
+abbrev pub SameCarried : Type 0
+SameCarried = (g h : NamedGraph) (ats bts : List ℕ) (x y : Heap) → HasOwnNames g → HasOwnNames h → IsValid x → IsValid y → Carries g ats x → Carries h bts y
+    → SameGraph x y ↔ SameByName g h
+
+-- two heaps that carry one graph by name show the same graph, wherever its objects stand
+abbrev pub SameWhereverPlaced : Type 0
+SameWhereverPlaced = (g : NamedGraph) (ats bts : List ℕ) (x y : Heap) → HasOwnNames g → IsValid x → IsValid y → Carries g ats x → Carries g bts y → SameGraph x y

@@ -11,3 +11,5 @@ pub mod ByName
 pub mod Laid
 pub mod Carried
 pub mod Filled
+pub mod Renamed
+pub mod RenamedExample

@@ -1,4 +1,6 @@
-ghost use Rattle.g1_text.specs.Laws.{OneImage, LinesAddUp, LinesSayImage, TextsSayImage, LinesSayOne, TextsSayOne, TextsSayOneGraph};
+ghost use Rattle.g1_text.specs.Laws.{OneImage, LinesAddUp, LinesSayImage, TextsSayImage, LinesSayOne, TextsSayOne, TextsSayOneGraph, OneValue, TextsGiveOwnNames, SameCarried, SameWhereverPlaced};
+ghost use Rattle.g1_text.specs.Renamed.{SameByName};
+ghost use Rattle.g1_text.specs.RenamedExample.{told, told_otherwise, exchanged};
 
 /// An image has one full text, and a full text is that of one image.
 pub fn one_full_text()
@@ -22,4 +24,25 @@ pub fn one_meaning()
 /// A text says at most one graph by name.
 pub fn one_graph()
     ensures { TextsSayOneGraph }
+{}
+
+/// A data word, as people write it, stands for at most one number.
+pub fn one_value()
+    ensures { OneValue }
+{}
+
+/// Two valid heaps that carry graphs by name show the same graph exactly if the graphs are the same by name: one is the
+/// other with new names, whatever the order of the objects. So two that carry one graph show the same graph, wherever its
+/// objects stand. Each object of a graph has to have a name of its own: it has in a graph that a text says.
+pub fn same_by_name()
+    ensures names { TextsGiveOwnNames }
+    ensures heaps { SameCarried }
+    ensures layout { SameWhereverPlaced }
+{}
+
+/// An example: other names, another order of the lines and other digits of a number make no other graph. Two slots that are
+/// exchanged make one.
+pub fn same_by_name_example()
+    ensures same { SameByName told told_otherwise }
+    ensures another { SameByName told exchanged → ⊥ }
 {}
