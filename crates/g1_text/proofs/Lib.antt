@@ -38,3 +38,4 @@ pub mod Lookups
 pub mod Pushing
 pub mod Holding
 pub mod Rooms
+pub mod Refusing

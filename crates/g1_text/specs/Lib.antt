@@ -11,3 +11,4 @@ pub mod ByName
 pub mod Laid
 pub mod Carried
 pub mod Filled
+pub mod Reported
