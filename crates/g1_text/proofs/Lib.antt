@@ -39,3 +39,4 @@ pub mod Pushing
 pub mod Holding
 pub mod Rooms
 pub mod Refusing
+pub mod DataWords
