@@ -42,3 +42,5 @@ pub mod Lookups
 pub mod Pushing
 pub mod Holding
 pub mod Rooms
+pub mod Refusing
+pub mod DataWords

@@ -13,3 +13,4 @@ pub mod Carried
 pub mod Filled
 pub mod Renamed
 pub mod RenamedExample
+pub mod Reported

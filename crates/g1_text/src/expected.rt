@@ -163,12 +163,14 @@ pub(crate) enum Refusal {
 
 impl Refusal {
     ghost use Rattle.std.specs.Prelude.{◌≡◌};
+    ghost use Rattle.g1_text.specs.declared.expected.Expected.{Expected as Wanted};
     ghost use Rattle.g1_text.specs.Refused.{IsLineOrMemory};
 
     /// The same, of the line of this number.
     pub(crate) fn at(self, number: u64) -> Wrong
         ensures memory { self ≡ Refusal.Memory → result ≡ Wrong.Fault Fault.Memory }
         ensures line { IsLineOrMemory result }
+        ensures number { (e : Wanted) → self ≡ Refusal.Expected e → result ≡ Wrong.Line number e }
     {
         match self {
             Refusal::Expected(expected) => Wrong::Line { number, expected },

@@ -9,6 +9,7 @@ ghost use Rattle.g1_text.specs.Content.{Content, IsClosed, IsContentOf, SaysAll,
 ghost use Rattle.g1_text.specs.Counted.{IsMadeOf};
 ghost use Rattle.g1_text.specs.Drafts.{content};
 ghost use Rattle.g1_text.specs.Refused.{IsLineOrMemory};
+ghost use Rattle.g1_text.specs.Reported.{Reports};
 
 use crate::covering::cover;
 use crate::draft::Draft;
@@ -33,6 +34,7 @@ pub fn make(alloc: Global, text: &[u8]) -> Result<Vec<u8>, Wrong>
     ensures says { (i : ImageOf) → SaysImage text.now i → MatchResult result (λ v. IsTextIn Two v.items i) (λ e. e ≡ Wrong.Fault Fault.Memory) }
     ensures only { (lines : List (List (List ℕ))) (c : Content) → HasLines text.now lines → SaysAll None lines (Some c) → IsClosed c → CountsFit (file_with c) → IfOk result (λ v. IsMadeOf c v.items) }
     ensures known { OnOk result (HasMeaning ImageHeading ImageLine text.now) }
+    ensures reports { IfErr result (Reports text.now) }
 {
     let mut draft = read(alloc, text)?;
     finish(alloc, &mut draft)

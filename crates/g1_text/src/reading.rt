@@ -10,6 +10,7 @@ ghost use Rattle.g1_text.specs.Forms.{ImageHeading, ImageLine, RootLine, DirtyLi
 ghost use Rattle.g1_text.specs.Content.{Content, Counts, Line, Root, Dirty, Numbers, Remembered, Holds, words_of, Takes, MayFollow, with_region, one_found, Begins, Says, SaysAll, IsClosed};
 ghost use Rattle.g1_text.specs.Drafts.{content, counts_of, Becomes, said, IsTaken, AreTaken};
 ghost use Rattle.g1_text.specs.Refused.{IsLineOrMemory};
+ghost use Rattle.g1_text.specs.Reported.{IsFirstWrong, IsReported};
 
 use crate::draft::{Draft, Heading, Placed, Told};
 use crate::expected::{Expected, Refusal, Wrong};
@@ -24,6 +25,7 @@ pub(crate) fn read(alloc: Global, text: &[u8]) -> Result<Draft, Wrong>
     ensures fault { IfErr result IsLineOrMemory }
     ensures says { (lines : List (List (List ℕ))) (c : Content) → HasLines text.now lines → SaysAll None lines (Some c) → IsClosed c → MatchResult result (λ d. content d ≡ c) (λ e. e ≡ Wrong.Fault Fault.Memory) }
     ensures known { OnOk result (HasMeaning ImageHeading ImageLine text.now) }
+    ensures reports { IfErr result (IsReported text.now) }
 {
     let mut draft = None;
     let parts = read_lines(alloc, &mut draft, text)?;
@@ -39,6 +41,8 @@ fn read_lines(alloc: Global, draft: &mut Option<Draft>, text: &[u8]) -> Result<u
     ensures fault { IfErr result IsLineOrMemory }
     ensures says { (lines : List (List (List ℕ))) (c : Content) → HasLines text.now lines → SaysAll (said draft.old) lines (Some c) → MatchResult result (λ _. said draft.new ≡ Some c) (λ e. e ≡ Wrong.Fault Fault.Memory) }
     ensures known { OnOk result (All IsUtf8 (parts_of text.now) × AreTaken ImageHeading ImageLine (is_some (said draft.old)) (lines_in text.now) (is_some (said draft.new))) }
+    ensures count { said draft.old ≡ None → IfOk result (λ n. n ≡ length (parts_of text.now)) }
+    ensures reports { said draft.old ≡ None → IfErr result (IsFirstWrong text.now) }
 {
     let mut number = 0u64;
     let mut words = Vec::new(alloc);
@@ -69,7 +73,9 @@ pub(crate) fn first_line(text: &[u8]) -> (&[u8], Option<&[u8]>)
 }
 
 // The number of the last line. The LF that ends it begins no other one.
-fn last_line(text: &[u8], parts: u64) -> u64 {
+fn last_line(text: &[u8], parts: u64) -> u64
+    ensures { 0 < parts → (result ≡ parts) ⊎ ((front : List ℕ) × (text.now ≡ front ++ 10 ∷ []) × (result + 1 ≡ parts)) }
+{
     if text.ends_with(b"\n") {
         parts.saturating_sub(1)
     } else {

@@ -1,6 +1,6 @@
 //! Data words, as people write them.
-ghost use Rattle.std.specs.Prelude.{◌≡◌, ◌<◌, ◌^◌, ℕ, Some, IfSome, decimal};
-ghost use Rattle.g1_text.specs.Forms.{Negates, HasHexDigits, HasPoint, Quotes, StandsFor, hash_of};
+ghost use Rattle.std.specs.Prelude.{◌≡◌, ◌<◌, ◌^◌, ℕ, Some, None, IfSome, MatchOption, decimal};
+ghost use Rattle.g1_text.specs.Forms.{Negates, HasHexDigits, HasPoint, Quotes, StandsFor, IsDataWord, hash_of};
 
 use crate::words::whole;
 
@@ -8,6 +8,7 @@ use crate::words::whole;
 /// its hash, or a number with a point, by the bits of a double.
 pub fn data_word(text: &str) -> Option<u64>
     ensures form { IfSome result (λ n. StandsFor n text.now) }
+    ensures all { result ≡ None → IsDataWord text.now → ⊥ }
     ensures full { (n : ℕ) → n < 2 ^ 64 → text.now ≡ decimal n → result ≡ Some n }
 {
     if let Some(number) = whole(text) {
@@ -27,7 +28,7 @@ pub fn data_word(text: &str) -> Option<u64>
 
 // A number below 0, or -0, as two's complement.
 fn negative(text: &str) -> Option<u64>
-    ensures { IfSome result (λ n. Negates n text.now) }
+    ensures { MatchOption result ((n : ℕ) → Negates n text.now → ⊥) (λ n. Negates n text.now) }
 {
     let number = whole(text.strip_prefix('-')?)?;
     if number > 1 << 63 {
@@ -41,7 +42,7 @@ fn negative(text: &str) -> Option<u64>
 
 // The digits behind `0x`. `from_str_radix` takes a plus in front of them, too.
 fn hexadecimal(text: &str) -> Option<u64>
-    ensures { IfSome result (λ n. HasHexDigits n text.now) }
+    ensures { MatchOption result ((n : ℕ) → HasHexDigits n text.now → ⊥) (λ n. HasHexDigits n text.now) }
 {
     let digits = text.strip_prefix('0')?.strip_prefix('x')?;
     if digits.starts_with('+') {
@@ -52,7 +53,7 @@ fn hexadecimal(text: &str) -> Option<u64>
 
 // The bits of the number.
 fn with_point(text: &str) -> Option<u64>
-    ensures { IfSome result (λ n. HasPoint n text.now) }
+    ensures { MatchOption result ((n : ℕ) → HasPoint n text.now → ⊥) (λ n. HasPoint n text.now) }
 {
     text.split_once('.')?;
     let number = text.parse::<f64>().ok()?;
@@ -64,7 +65,7 @@ fn with_point(text: &str) -> Option<u64>
 
 // The hash of what is between the quotes.
 fn quoted(text: &str) -> Option<u64>
-    ensures { IfSome result (λ n. Quotes n text.now) }
+    ensures { MatchOption result ((n : ℕ) → Quotes n text.now → ⊥) (λ n. Quotes n text.now) }
 {
     let inner = text.strip_prefix('"')?.strip_suffix('"')?;
     Some(hash(inner.as_bytes()))

@@ -6,6 +6,8 @@ use Rattle.g1_text.specs.Counted.{IsMadeOf}
 use Rattle.g1_text.proofs.Counted.{uncovered}
 use Rattle.g1_text.proofs.FullText.{full_text_says}
 use Rattle.g1_text.proofs.Results.{on_ok}
+use Rattle.g1_text.specs.Reported.{Reports}
+use Rattle.g1_text.proofs.Refusing.{reports_early, all_late}
 use Rattle.g1_text.proofs.making.make.Goals as goal
 
 pub returns-in_err-draft-clause-whole : goal.returns-in_err-draft-clause-whole
@@ -36,3 +38,11 @@ returns-clause-only c = λ lines d has says closed fit.
 
 pub returns-clause-known : goal.returns-clause-known
 returns-clause-known c = on_ok c.finish.result c.in_ok-draft.ensures.known
+
+pub returns-in_err-draft-clause-reports : goal.returns-in_err-draft-clause-reports
+returns-in_err-draft-clause-reports c =
+    let out : Reports c.args.text.now c.in_err-draft.field-0.0 = reports_early c.args.text.now c.in_err-draft.field-0.0 c.in_err-draft.ensures.reports in
+    search rules
+
+pub returns-clause-reports : goal.returns-clause-reports
+returns-clause-reports c = all_late c.args.text.now c.finish.result c.finish.ensures.fault c.in_ok-draft.ensures.known

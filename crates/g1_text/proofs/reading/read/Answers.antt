@@ -1,4 +1,4 @@
-use Rattle.std.proofs.Common.{◌≤◌, false, length, sym, ◌∙◌, ap, subst}
+use Rattle.std.proofs.Common.{rules, ◌≤◌, inr, false, length, refl, sym, ◌∙◌, ap, subst}
 use Rattle.std.specs.Option.{is_some}
 use Rattle.std.proofs.lemmas.Bool.{false≢true}
 use Rattle.g1_text.specs.Reading.{lines_in}
@@ -7,6 +7,8 @@ use Rattle.g1_text.specs.Content.{Content}
 use Rattle.g1_text.specs.Drafts.{said, AreTaken}
 use Rattle.g1_text.proofs.Turns.{some_one}
 use Rattle.g1_text.proofs.Formed.{meant_text}
+use Rattle.g1_text.specs.Reported.{IsReported}
+use Rattle.g1_text.proofs.Refusing.{reported, last_line_is}
 use Rattle.g1_text.proofs.reading.read.Goals as goal
 
 pub returns-in_default-clause-says : goal.returns-in_default-clause-says
@@ -22,3 +24,15 @@ returns-clause-known c =
     let lines = c.in_ok-parts.ensures.known in
     meant_text ImageHeading ImageLine c.args.text.now
     (lines.0, subst (λ o. AreTaken ImageHeading ImageLine false (lines_in c.args.text.now) (is_some (said o))) c.in-Some.is lines.1)
+
+pub returns-in_err-parts-clause-reports : goal.returns-in_err-parts-clause-reports
+returns-in_err-parts-clause-reports c =
+    let out : IsReported c.args.text.now c.in_err-parts.field-0.0 = reported c.args.text.now c.in_err-parts.field-0.0 (c.in_err-parts.ensures.reports refl) in
+    search rules
+
+pub returns-in_default-clause-reports : goal.returns-in_default-clause-reports
+returns-in_default-clause-reports c =
+    let bytes = c.args.text.now in
+    let lines = c.in_ok-parts.ensures.known in
+    let taken = subst (λ o. AreTaken ImageHeading ImageLine false (lines_in bytes) (is_some (said o))) c.in_default.is lines.1 in
+    subst (IsReported bytes) (sym (c.at.ensures.number _ refl)) (inr (last_line_is bytes c.in_ok-parts.parts c.last_line.result (c.in_ok-parts.ensures.count refl) lines.0 taken c.last_line.ensures))

@@ -1,0 +1,48 @@
+-- Which line a refusal of lines reports.
+use Rattle.std.specs.Prelude.{◌≡◌, ◌⊎◌, ◌+◌, ℕ, true, Option, Some, None, List, [], ◌∷◌, ◌++◌, length, map, filter, All, IsUtf8}
+use Rattle.g1_words.specs.declared.fault.Fault.TheVariants.{Memory}
+use Rattle.g1_text.specs.declared.expected.Wrong.{Wrong}
+use Rattle.g1_text.specs.declared.expected.Wrong.TheVariants.{Line, Fault}
+use Rattle.g1_text.specs.Reading.{words_in, says_something, parts_of, lines_in}
+use Rattle.g1_text.specs.Forms.{ImageHeading, ImageLine, HaveForms, HasMeaning}
+use Rattle.g1_text.specs.Content.{Content, Says, SaysAll}
+
+-- what these lines of a text say, without blank ones and comments
+abbrev pub said_in : List (List ℕ) → List (List (List ℕ))
+said_in lines = filter says_something (map words_in lines)
+
+-- a line may not follow what was said: in UTF-8 it says something, and no full line of these words is the next one
+abbrev pub MayNotFollow : Option Content → List ℕ → Type 0
+MayNotFollow said line = IsUtf8 line → (says_something (words_in line) ≡ true) × ((d : Content) → Says said (words_in line) d → ⊥)
+
+-- THE FIRST WRONG LINE, counted from 1 with blank lines and comments: each word of the lines above it has a meaning, and if these are full lines, the line may not follow what they say
+pub record IsFirstWrongLine (text : List ℕ) (number : ℕ) : Type 0 where
+  pub above : List (List ℕ)
+  pub line : List ℕ
+  pub below : List (List ℕ)
+  pub parts : parts_of text ≡ above ++ line ∷ below
+  pub counted : number ≡ length above + 1
+  pub utf8 : All IsUtf8 above
+  pub forms : (said_in above ≡ []) ⊎ HaveForms ImageHeading ImageLine (said_in above)
+  pub wrong : (said : Option Content) → SaysAll None (said_in above) said → MayNotFollow said line
+
+-- no line says anything, and this is the last one: an LF at the end of the text begins no other one
+pub record IsLastLine (text : List ℕ) (number : ℕ) : Type 0 where
+  pub utf8 : All IsUtf8 (parts_of text)
+  pub none : lines_in text ≡ []
+  pub last : (number ≡ length (parts_of text)) ⊎ ((front : List ℕ) × (text ≡ front ++ 10 ∷ []) × (number + 1 ≡ length (parts_of text)))
+
+-- the first wrong line, or that memory is out
+abbrev pub IsFirstWrong : List ℕ → Wrong → Type 0
+IsFirstWrong text (Line number expected) = IsFirstWrongLine text number
+IsFirstWrong text (Fault f) = f ≡ Memory
+
+-- WHAT IS REPORTED while lines are read: the first wrong line; the last line, if there is no heading; or that memory is out
+abbrev pub IsReported : List ℕ → Wrong → Type 0
+IsReported text (Line number expected) = IsFirstWrongLine text number ⊎ IsLastLine text number
+IsReported text (Fault f) = f ≡ Memory
+
+-- WHAT A REFUSAL REPORTS: as above; and another line only if each word of each line has a meaning
+abbrev pub Reports : List ℕ → Wrong → Type 0
+Reports text (Line number expected) = IsFirstWrongLine text number ⊎ IsLastLine text number ⊎ HasMeaning ImageHeading ImageLine text
+Reports text (Fault f) = f ≡ Memory
