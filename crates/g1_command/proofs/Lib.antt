@@ -1,1 +1,4 @@
 pub mod Delivered
+pub mod Numerals
+pub mod Got
+pub mod Tabled

@@ -1,2 +1,4 @@
 pub mod Deliveries
 pub mod Refusals
+pub mod Values
+pub mod Table

@@ -1,4 +1,9 @@
 //! The options of a pause that both programs have: its budget, and what costs how much.
+ghost use Rattle.std.specs.Prelude.{IfOk, IfErr};
+ghost use Rattle.std.specs.List.{Any};
+ghost use Rattle.clap.specs.Words.{found_of, rows_of};
+ghost use Rattle.g1_command.specs.Values.{IsCostOf, IsNoNumberOf, Because, cost_options};
+
 use crate::table::{Argument, VALUE};
 use crate::values::{Misuse, required_number};
 use clap::ArgMatches;
@@ -52,7 +57,10 @@ pub const BYTE: Argument = Argument {
 static COSTS: [Argument; 4] = [FIXED, DIRTY, CARD, BYTE];
 
 /// The costs that `FIXED`, `DIRTY`, `CARD` and `BYTE` give.
-pub fn cost_of(alloc: Global, values: &ArgMatches<'_>) -> Result<Cost, Misuse> {
+pub fn cost_of(alloc: Global, values: &ArgMatches<'_>) -> Result<Cost, Misuse>
+    ensures cost { IfOk result (IsCostOf (rows_of (found_of values.now))) }
+    ensures refused { IfErr result (Because (Any (IsNoNumberOf (rows_of (found_of values.now))) cost_options)) }
+{
     let [fixed, dirty, card, byte] = &COSTS;
     Ok(Cost {
         fixed: required_number(alloc, values, fixed)?,

@@ -1,4 +1,11 @@
 //! A program's commands as a table, and what clap makes of it.
+ghost use Rattle.std.specs.Prelude.{◌≡◌, true, false, Some, length, map, IfOk};
+ghost use Rattle.std.specs.Option.{option_map_or};
+ghost use Rattle.clap.specs.Walk.{is_empty};
+ghost use Rattle.clap.specs.declared.builder.command.Command.TheViews.{out-Command};
+ghost use Rattle.clap.specs.Words.{app_of, rule_of, is_simple_and_free, fault_of, HasMatchesOf, FailsBy};
+ghost use Rattle.g1_command.specs.Table.{least_values, most_values, action_by, is_needed, is_place, rule_by, command_by, program_by};
+
 use clap::{Arg, ArgAction, ArgMatches, Command, Error};
 use std::alloc::{AllocError, Global};
 use std::ops::RangeInclusive;
@@ -94,7 +101,9 @@ impl Argument {
     }
 }
 
-fn arg_of<'a>(alloc: Global, argument: &Argument) -> Result<Arg<'a>, AllocError> {
+fn arg_of<'a>(alloc: Global, argument: &Argument) -> Result<Arg<'a>, AllocError>
+    ensures { IfOk result (λ a. (rule_of a ≡ rule_by argument.now) × (a.global ≡ false)) }
+{
     let (counts, action, is_needed) = rules(argument);
     let arg = Arg::new(alloc, argument.id)
         .help(argument.help)
@@ -104,18 +113,40 @@ fn arg_of<'a>(alloc: Global, argument: &Argument) -> Result<Arg<'a>, AllocError>
         .required(is_needed)
         .default_values(argument.default)
         .conflicts_with_all(argument.conflicts)?;
-    if matches!(argument.form, Form::Place | Form::ManyPlaces) {
-        return Ok(arg);
+    Ok(with_names(arg, argument))
+}
+
+// The argument with the names that it is given by, if it is not given by its place.
+fn with_names<'a>(arg: Arg<'a>, argument: &Argument) -> Arg<'a>
+    ensures place { is_place argument.now.form ≡ true → result ≡ arg.entry }
+    ensures named { is_place argument.now.form ≡ false → result ≡ record arg.entry { long = Some argument.now.id; short = option_map_or (λ x. Some x) argument.now.letter arg.entry.short } }
+{
+    if is_place(argument.form) {
+        return arg;
     }
     let arg = arg.long(argument.id);
     match argument.letter {
-        Some(letter) => Ok(arg.short(letter)),
-        None => Ok(arg),
+        Some(letter) => arg.short(letter),
+        None => arg,
+    }
+}
+
+fn is_place(form: Form) -> bool
+    ensures { result ≡ is_place form }
+{
+    match form {
+        Form::Place | Form::ManyPlaces => true,
+        Form::Flag | Form::Value | Form::NeededValue | Form::ManyValues | Form::Repeated => false,
     }
 }
 
 // How many values it takes, what is done with them, and whether it has to be given.
-fn rules(argument: &Argument) -> (RangeInclusive<usize>, ArgAction, bool) {
+fn rules(argument: &Argument) -> (RangeInclusive<usize>, ArgAction, bool)
+    ensures least { result.0.start ≡ least_values argument.now.form (length argument.now.values.now) }
+    ensures most { result.0.end ≡ most_values argument.now.form (length argument.now.values.now) }
+    ensures action { result.1 ≡ action_by argument.now.form }
+    ensures needed { result.2 ≡ is_needed argument.now.form (is_empty argument.now.default.now) }
+{
     let count = argument.values.len();
     match argument.form {
         Form::Flag => (count..=count, ArgAction::SetTrue, false),
@@ -133,7 +164,9 @@ pub fn build_command<'a>(
     alloc: Global,
     name: &'a str,
     usage: &Usage,
-) -> Result<Command<'a>, AllocError> {
+) -> Result<Command<'a>, AllocError>
+    ensures { IfOk result (λ c. (app_of c ≡ command_by name.entry.now usage.now) × ((out-Command c).has_globals ≡ false)) }
+{
     let mut command = Command::new(alloc, name)
         .about(usage.about)
         .after_help(usage.after_help);
@@ -143,7 +176,9 @@ pub fn build_command<'a>(
     Ok(command)
 }
 
-fn build_program<'a>(alloc: Global, program: &Program<'_>) -> Result<Command<'a>, AllocError> {
+fn build_program<'a>(alloc: Global, program: &Program<'_>) -> Result<Command<'a>, AllocError>
+    ensures { IfOk result (λ c. app_of c ≡ program_by program.now) }
+{
     let mut command = Command::new(alloc, program.name)
         .no_binary_name(true)
         .version(program.version)
@@ -162,7 +197,10 @@ pub fn match_words<'a>(
     alloc: Global,
     program: &Program<'_>,
     words: &'a [String],
-) -> Result<ArgMatches<'a>, Error> {
+) -> Result<ArgMatches<'a>, Error>
+    ensures matches { IfOk result (HasMatchesOf (program_by program.now) (map (λ w. w.bytes.items) words.entry.now)) }
+    ensures kinds { is_simple_and_free (program_by program.now) ≡ true → FailsBy (fault_of (program_by program.now) (map (λ w. w.bytes.items) words.entry.now)) result }
+{
     build_program(alloc, program)?.try_get_matches_from(words)
 }
 

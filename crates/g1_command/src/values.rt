@@ -1,4 +1,8 @@
 //! Whole numbers among the values that clap found.
+ghost use Rattle.std.specs.Prelude.{◌≡◌, ◌^◌, OnOk, IfOk, IfErr, MatchOption};
+ghost use Rattle.clap.specs.Words.{first_of, found_of, rows_of};
+ghost use Rattle.g1_command.specs.Values.{IsBelow, IsNumber, IsNumberOf, IsRegion, AreRegionsOf, IfGiven, IsNoNumberOf, IsNoRegionOf, AreNoRegionsOf, IsValue, Because};
+
 use crate::refusal::Refusal;
 use crate::table::{Argument, Program, Usage, build_command, command_named};
 use clap::error::ErrorKind;
@@ -8,7 +12,9 @@ use std::alloc::{AllocError, AllocFailed, Global};
 
 impl Argument {
     /// What is wrong with a value that is no number of this argument's.
-    pub fn refuse(&self, alloc: Global, value: &str) -> Result<Misuse, AllocError> {
+    pub fn refuse(&self, alloc: Global, value: &str) -> Result<Misuse, AllocError>
+        ensures { IfOk result IsValue }
+    {
         let shown = self.shown(alloc)?;
         let (what, range) = (wrong_with(value), self.range);
         Ok(Misuse::Value(format!(in alloc;
@@ -46,12 +52,22 @@ pub enum Misuse {
 }
 
 impl From<AllocError> for Misuse {
+    ghost use Rattle.std.specs.Prelude.{◌≡◌};
+    ghost use Rattle.g1_command.specs.declared.values.Misuse.TheVariants.{Memory};
+
+    ghost from_gives = { λ _ e. e ≡ Memory };
+
     fn from(_error: AllocError) -> Misuse {
         Misuse::Memory
     }
 }
 
 impl<T: Drop> From<AllocFailed<T>> for Misuse {
+    ghost use Rattle.std.specs.Prelude.{◌≡◌};
+    ghost use Rattle.g1_command.specs.declared.values.Misuse.TheVariants.{Memory};
+
+    ghost from_gives = { λ _ e. e ≡ Memory };
+
     fn from(_error: AllocFailed<T>) -> Misuse {
         Misuse::Memory
     }
@@ -125,7 +141,9 @@ pub fn help_or_refusal(alloc: Global, error: &Error) -> Result<String, Refusal> 
 }
 
 /// A whole number in decimal digits alone. clap would take a sign, and `parse` takes a plus.
-pub fn whole(text: &str) -> Option<u64> {
+pub fn whole(text: &str) -> Option<u64>
+    ensures { MatchOption result (IsBelow (2 ^ 64) text.now → ⊥) (λ n. IsNumber n text.now) }
+{
     if text.starts_with('+') {
         return None;
     }
@@ -137,7 +155,10 @@ pub fn number(
     alloc: Global,
     values: &ArgMatches<'_>,
     argument: &Argument,
-) -> Result<Option<u64>, Misuse> {
+) -> Result<Option<u64>, Misuse>
+    ensures number { IfOk result (IfGiven IsNumber (first_of argument.now.id.now (rows_of (found_of values.now)))) }
+    ensures refused { IfErr result (Because (IsNoNumberOf (rows_of (found_of values.now)) argument.now.id.now)) }
+{
     match values.get_str(argument.id) {
         None => Ok(None),
         Some(text) => Ok(Some(number_in(alloc, argument, text)?)),
@@ -149,7 +170,10 @@ pub fn required_number(
     alloc: Global,
     values: &ArgMatches<'_>,
     argument: &Argument,
-) -> Result<u64, Misuse> {
+) -> Result<u64, Misuse>
+    ensures number { IfOk result (IsNumberOf (rows_of (found_of values.now)) argument.now.id.now) }
+    ensures refused { IfErr result (Because (IsNoNumberOf (rows_of (found_of values.now)) argument.now.id.now)) }
+{
     match values.get_str(argument.id) {
         None => Ok(0),
         Some(text) => number_in(alloc, argument, text),
@@ -157,7 +181,10 @@ pub fn required_number(
 }
 
 /// The number that a part of an argument's value is.
-pub fn number_in(alloc: Global, argument: &Argument, text: &str) -> Result<u64, Misuse> {
+pub fn number_in(alloc: Global, argument: &Argument, text: &str) -> Result<u64, Misuse>
+    ensures number { IfOk result (λ n. IsNumber n text.now) }
+    ensures refused { IfErr result (Because (IsBelow (2 ^ 64) text.now → ⊥)) }
+{
     match whole(text) {
         Some(number) => Ok(number),
         None => Err(argument.refuse(alloc, text)?),
@@ -169,7 +196,10 @@ pub fn region(
     alloc: Global,
     values: &ArgMatches<'_>,
     argument: &Argument,
-) -> Result<Option<u32>, Misuse> {
+) -> Result<Option<u32>, Misuse>
+    ensures region { IfOk result (IfGiven IsRegion (first_of argument.now.id.now (rows_of (found_of values.now)))) }
+    ensures refused { IfErr result (Because (IsNoRegionOf (rows_of (found_of values.now)) argument.now.id.now)) }
+{
     match values.get_str(argument.id) {
         None => Ok(None),
         Some(text) => Ok(Some(region_in(alloc, argument, text)?)),
@@ -181,7 +211,10 @@ pub fn regions(
     alloc: Global,
     values: &ArgMatches<'_>,
     argument: &Argument,
-) -> Result<Vec<u32>, Misuse> {
+) -> Result<Vec<u32>, Misuse>
+    ensures regions { IfOk result (λ v. AreRegionsOf (rows_of (found_of values.now)) argument.now.id.now v.items) }
+    ensures refused { IfErr result (Because (AreNoRegionsOf (rows_of (found_of values.now)) argument.now.id.now)) }
+{
     let mut regions = Vec::new(alloc);
     for text in values.get_strs(argument.id).unwrap_or(&[]) {
         regions.push(region_in(alloc, argument, text)?)?;
@@ -190,7 +223,10 @@ pub fn regions(
 }
 
 /// The region that a part of an argument's value names.
-pub fn region_in(alloc: Global, argument: &Argument, text: &str) -> Result<u32, Misuse> {
+pub fn region_in(alloc: Global, argument: &Argument, text: &str) -> Result<u32, Misuse>
+    ensures region { IfOk result (λ r. IsRegion r text.now) }
+    ensures refused { IfErr result (Because (IsBelow (2 ^ 32) text.now → ⊥)) }
+{
     if let Some(number) = whole(text)
         && let Ok(region) = u32::try_from(number)
     {
