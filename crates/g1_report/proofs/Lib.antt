@@ -1,9 +1,11 @@
 pub mod Answering
 pub mod Counted
 pub mod Found
+pub mod InOrder
 pub mod Joined
 pub mod Behind
 pub mod Lookups
+pub mod Opening
 pub mod Passed
 pub mod Rising
 pub mod Starting

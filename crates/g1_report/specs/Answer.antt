@@ -1,5 +1,5 @@
 -- What is handed on of a verdict on two heaps, without a program's names.
-use Rattle.std.specs.Prelude.{◌≡◌, ◌⊎◌, ℕ, Bool, true, false, List, [], ◌∷◌, ◌++◌, Option, Some, None, IfSome, codes}
+use Rattle.std.specs.Prelude.{◌≡◌, ◌⊎◌, ℕ, Bool, true, false, List, [], ◌∷◌, ◌++◌, Option, Some, None, IfSome, codes, ◌+◌, ⊤}
 use Rattle.std.specs.List.Sorted.{IsNonDecreasingBy}
 use Rattle.g1_same.specs.declared.difference.Difference.{Difference}
 use Rattle.g1_same.specs.declared.difference.Difference.TheVariants.{Roots, At}
@@ -42,6 +42,11 @@ compared_of a = record {
   stale = stale_names a.after.now.stale;
 }
 
+-- the numbers of a list of names count up from this one
+abbrev pub CountsFrom : ℕ → Called → Type 0
+CountsFrom n [] = ⊤
+CountsFrom n (e ∷ es) = (e.0 ≡ n) × CountsFrom (n + 1) es
+
 -- the numbers of a list of names don't fall
 abbrev pub IsByNumber : Called → Type 0
 IsByNumber names = IsNonDecreasingBy (λ e. e.0) names
@@ -53,11 +58,19 @@ pub record AreByNumber (s : Compared) : Type 0 where
   pub roots : IsByNumber s.roots
   pub stale : IfSome s.stale IsByNumber
 
--- no names of a program are given, and those of lines are in order
+-- THE NAMES OF A SIDE ARE IN ORDER: those of its objects by address, those of its roots by number, and those that stale words
+-- stand for by word
+pub record IsInOrder (s : Side) : Type 0 where
+  pub objects : IfSome (labels_of s) IsByNumber
+  pub roots : IsByNumber s.holders.items
+  pub stale : IfSome (stale_names s.stale) IsByNumber
+
+-- no names of a program are given; the sides are in order, as each one is that was opened
 pub record IsPlain (a : Asked) : Type 0 where
   pub names : a.names ≡ None
   pub names_after : a.names_after ≡ None
-  pub in_order : AreByNumber (compared_of a)
+  pub before : IsInOrder a.before.now
+  pub after : IsInOrder a.after.now
 
 -- the line of a difference
 abbrev pub IsDifferenceLine : Compared → Difference → List ℕ → Type 0

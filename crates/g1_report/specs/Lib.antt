@@ -5,3 +5,4 @@ pub mod Wording
 pub mod Answer
 pub mod Listed
 pub mod Given
+pub mod Opened

@@ -1,4 +1,8 @@
 //! The heaps that are compared: those of images, or of lines of objects by name.
+ghost use Rattle.std.specs.Prelude.{◌≡◌, Option, Some, None, IfOk, IfSome, OnOk};
+ghost use Rattle.g1_report.specs.Answer.{CountsFrom, IsByNumber, IsInOrder, stale_names};
+ghost use Rattle.g1_report.specs.Opened.{IsStale, ShowsText};
+
 use crate::comparing::Labels;
 use g1_image::{Image, Stale, decode_within};
 use g1_text::{Graph, Wrong, read_graph};
@@ -61,7 +65,11 @@ pub struct Strays<'a> {
 }
 
 /// The side of an image.
-pub fn open_image<'a>(alloc: Global, image: Image) -> Side<'a> {
+pub fn open_image<'a>(alloc: Global, image: Image) -> Side<'a>
+    ensures image { result.image ≡ image }
+    ensures stale { result.stale ≡ None }
+    ensures in_order { IsInOrder result }
+{
     Side {
         image,
         labels: None,
@@ -72,7 +80,11 @@ pub fn open_image<'a>(alloc: Global, image: Image) -> Side<'a> {
 }
 
 /// The side of an image that has stale words, which are null in it, and this fault with them.
-pub fn open_stale<'a>(alloc: Global, image: Image, words: Stale, fault: Fault) -> Side<'a> {
+pub fn open_stale<'a>(alloc: Global, image: Image, words: Stale, fault: Fault) -> Side<'a>
+    ensures image { result.image ≡ image }
+    ensures stale { IsStale words fault result.stale }
+    ensures in_order { IsInOrder result }
+{
     Side {
         image,
         labels: None,
@@ -91,7 +103,10 @@ pub fn open_stale<'a>(alloc: Global, image: Image, words: Stale, fault: Fault) -
 /// # Errors
 ///
 /// The first line that is not what is expected there, or the fault of the image of the lines.
-pub fn open_lines<'a>(alloc: Global, lines: &'a [u8]) -> Result<Side<'a>, Wrong> {
+pub fn open_lines<'a>(alloc: Global, lines: &'a [u8]) -> Result<Side<'a>, Wrong>
+    ensures shows { IfOk result (ShowsText lines.now) }
+    ensures in_order { IfOk result IsInOrder }
+{
     let graph = read_graph(alloc, lines)?;
     let image = match decode_within(alloc, Limits::Wide, graph.text.as_slice()) {
         Ok(image) => image,
@@ -113,7 +128,10 @@ pub fn open_lines<'a>(alloc: Global, lines: &'a [u8]) -> Result<Side<'a>, Wrong>
     })
 }
 
-fn strays_in<'a>(alloc: Global, graph: &Graph<'a>) -> Result<Option<Strays<'a>>, AllocError> {
+fn strays_in<'a>(alloc: Global, graph: &Graph<'a>) -> Result<Option<Strays<'a>>, AllocError>
+    ensures in_order { IfOk result (λ stale. IfSome (stale_names stale) IsByNumber) }
+    ensures none { IfOk result (λ stale. stale ≡ None → graph.now.first_stale ≡ None) }
+{
     let Some((number, expected)) = graph.first_stale else {
         return Ok(None);
     };
@@ -136,7 +154,9 @@ fn add_strays<'a>(
     names: &mut Vec<(u64, &'a str)>,
     words: &mut Vec<(u64, u64)>,
     stale: &[(u64, &'a str)],
-) -> Result<(), AllocError> {
+) -> Result<(), AllocError>
+    ensures { CountsFrom 0 names.old.items → OnOk result (CountsFrom 0 names.new.items) }
+{
     for (place, name) in stale {
         let word = names.len() as u64;
         names.push((word, *name))?;

@@ -22,7 +22,8 @@ returns-clause-text g c = λ plain.
     let named : AreNamedInOrder sides.result = record {
       names = sides.ensures.names ∙ plain.names;
       names_after = sides.ensures.names_after ∙ plain.names_after;
-      in_order = subst AreByNumber (sym sides.ensures.compared) plain.in_order;
+      in_order = subst AreByNumber (sym sides.ensures.compared)
+          (record { objects_before = plain.before.objects; objects_after = plain.after.objects; roots = plain.before.roots; stale = plain.after.stale });
     } in
     record {
       finding = c.in_ok-finding.finding;
