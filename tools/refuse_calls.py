@@ -31,8 +31,8 @@ COUNT = re.compile(rb"^(\w+): (\d+) runs were refused memory, (\d+) returned Mem
 FREE = {"laid", "first", "slots_on", "leads_into", "pinned", "forward", "commit", "cost", "total", "each_region_mut"}
 CALLS = FREE | {
     "settings", "decode", "read", "read_stale", "copy", "with_dirty", "encode", "write", "objects_in", "verify",
-    "merged", "starts", "refine", "given", "cards_into", "claim_round", "discover", "place", "plan", "patches",
-    "gather", "new_rem", "prepare", "prepare_on", "live_bytes", "order", "choose", "deal", "claim", "each_chunk",
+    "merged", "starts", "refine", "given", "cards_into", "claim_round", "discover", "discover_seen", "place", "place_sized",
+    "plan", "patches", "gather", "new_rem", "prepare", "prepare_on", "prepare_by_leads", "live_bytes", "order", "choose", "deal", "claim", "each_chunk",
     "evacuate", "report", "pause_bytes", "pause_run", "compare", "parse_trace", "mutator_new", "step", "run_trace",
     "run_text",
 }
