@@ -9,7 +9,7 @@ use crate::scene::{Content, Devices, Scene, fits};
 use g1_image::ToWriter;
 use g1_testing::{Stream, Trouble};
 use g1_words::{Device, Fault};
-use g1heap_cli::Terminals;
+use g1heap_cli::{Heard, Terminals};
 use std::alloc::{AllocError, Global};
 use std::fs::File;
 use std::io::{ErrorKind, Read, Write, pipe};
@@ -220,12 +220,17 @@ fn run<R: Threads + Files + Sync>(
         output: is_at_terminal,
     };
     let call = g1heap_cli::Call { words, terminals };
-    let (writer, errors) = (&mut left.writer, &mut left.errors);
-    left.status = g1heap_cli::program(rt, alloc, call, reader, writer, errors);
+    let unused = Stream::of(Vec::new(alloc), 0);
+    let mut writer = Heard::new(mem::replace(&mut left.writer, unused));
+    let errors = &mut left.errors;
+    left.status = g1heap_cli::program(rt, alloc, call, reader, &mut writer, errors).status;
+    if let Some(stream) = writer.into_inner() {
+        left.writer = stream;
+    }
     Ok(())
 }
 
-/// g1pause is given a sink that owns its writer: so the stream is moved into it, and back.
+/// A program is given a sink that owns its writer: so the stream is moved into it, and back.
 fn run_g1pause<R: Threads + Files + Sync>(
     trial: &Trial<'_, R>,
     words: &[String],

@@ -1,14 +1,19 @@
 //! The answers to `show`, `check`, `live`, `choose` and `pause`, of an image in a file.
+ghost use Rattle.std.specs.Prelude.{◌≡◌, ℕ, List, IfOk};
+ghost use Rattle.g1heap_cli.specs.Leaving.{MakesImage, SendsBytes, HandsBytes};
+ghost use Rattle.g1heap_cli.specs.Replies.{IsAsked, IsRewritten};
+
 use crate::heard::Heard;
 use crate::output::write_file;
 use crate::refusal::of_device;
-use crate::sources::{find_collected, find_source};
+use crate::sources::{Source, find_collected, find_source};
 use g1_answers::{ToWriter, answer, write_image};
 use g1_command::Refusal;
+use g1_image::Sink;
 use g1_words::{Device, Fault};
 use g1heap_request::{Ask, Output, Rewrite};
 use std::alloc::Global;
-use std::io::{Read, Write};
+use std::io::{Error, Read, Write};
 use std::rt::Files;
 use std::thread::Threads;
 
@@ -18,11 +23,13 @@ pub fn answer_file<T: Threads + Sync + Files, R: Read>(
     alloc: Global,
     ask: &Ask,
     reader: &mut R,
-) -> Result<Vec<u8>, Refusal> {
+) -> Result<Vec<u8>, Refusal>
+    ensures { IfOk result (λ v. IsAsked ask.now (R.remaining reader.old) 0 v.items) }
+{
     let source = find_source(rt, alloc, &ask.image, reader)?;
     let mut opened = source.open(rt, alloc)?;
     let mut heard = Heard::new(&mut opened);
-    match answer(rt, alloc, source.limits(), ask.question, &mut heard) {
+    match answer(rt, alloc, ask.image.limits, ask.question, &mut heard) {
         Ok(lines) => Ok(lines),
         Err(Fault::Device(device)) => {
             let fault = Fault::Device(device);
@@ -32,52 +39,100 @@ pub fn answer_file<T: Threads + Sync + Files, R: Read>(
     }
 }
 
-/// Writes an image that is made of the one in a file, or of the reader's if the name means standard input. To standard
-/// output it goes in pieces; a file gets it as a whole.
-pub fn rewrite_file<T: Threads + Sync + Files, R: Read, W: Write>(
+/// Writes an image that is made of the one in a file, or of the reader's if the name means standard input, and returns the
+/// status. To standard output it goes in pieces; a file gets it as a whole.
+pub fn rewrite_file<T: Threads + Sync + Files, R: Read, W: Write + Drop>(
     rt: &T,
     alloc: Global,
     rewrite: &Rewrite,
     reader: &mut R,
-    writer: &mut W,
-) -> Result<(), Refusal> {
-    let Output::File(name) = &rewrite.output else {
-        return send_new(rt, alloc, rewrite, reader, writer);
-    };
-    let mut bytes = Vec::new(alloc);
-    match send_new(rt, alloc, rewrite, reader, &mut bytes) {
-        Ok(()) => write_file(rt, alloc, name.as_str(), bytes.as_slice()),
+    writer: &mut Heard<W>,
+) -> Result<u8, Refusal>
+    ensures { HandsBytes rewrite.now.output (IsRewritten rewrite.now (R.remaining reader.old)) (⟦<Heard<W> as Write>⟧.contents writer.old) (⟦<Heard<W> as Write>⟧.contents writer.new) result }
+{
+    match &rewrite.output {
+        Output::File(name) => write_new(rt, alloc, rewrite, name.as_str(), reader),
+        _ => send_new(rt, alloc, rewrite, reader, writer),
+    }
+}
+
+fn write_new<T: Threads + Sync + Files, R: Read>(
+    rt: &T,
+    alloc: Global,
+    rewrite: &Rewrite,
+    name: &str,
+    reader: &mut R,
+) -> Result<u8, Refusal>
+    ensures { IfOk result (λ s. (text : List ℕ) × IsRewritten rewrite.now (R.remaining reader.old) s text) }
+{
+    let mut sink = ToWriter::new(Vec::new(alloc));
+    match make_new(rt, alloc, rewrite, reader, &mut sink) {
+        Ok(()) => {
+            let bytes = sink.into_inner();
+            match write_file(rt, alloc, name, bytes.as_slice()) {
+                Ok(()) => Ok(0),
+                Err(refusal) => Err(refusal),
+            }
+        }
         // A list takes no more bytes only if memory runs out.
-        Err(Refusal::Fault(Fault::Device(Device::Output))) => Err(Fault::Memory.into()),
+        Err(Refusal::Fault(Fault::Device(Device::Output))) => Err(Refusal::Fault(Fault::Memory)),
         Err(refusal) => Err(refusal),
     }
 }
 
-fn send_new<T: Threads + Sync + Files, R: Read, W: Write>(
+// The writer is in the sink until the image is sent.
+fn send_new<T: Threads + Sync + Files, R: Read, W: Write + Drop>(
     rt: &T,
     alloc: Global,
     rewrite: &Rewrite,
     reader: &mut R,
-    writer: &mut W,
-) -> Result<(), Refusal> {
+    writer: &mut Heard<W>,
+) -> Result<u8, Refusal>
+    ensures { SendsBytes (IsRewritten rewrite.now (R.remaining reader.old)) (⟦<Heard<W> as Write>⟧.contents writer.old) (⟦<Heard<W> as Write>⟧.contents writer.new) result }
+{
+    let mut sink = ToWriter::new(writer.take());
+    let made = make_new(rt, alloc, rewrite, reader, &mut sink);
+    *writer = sink.into_inner();
+    match made {
+        Ok(()) => Ok(0),
+        Err(refusal) => Err(refusal),
+    }
+}
+
+fn make_new<T: Threads + Sync + Files, R: Read, W: Write>(
+    rt: &T,
+    alloc: Global,
+    rewrite: &Rewrite,
+    reader: &mut R,
+    writer: &mut ToWriter<W>,
+) -> Result<(), Refusal>
+    ensures { MakesImage (IsRewritten rewrite.now (R.remaining reader.old)) (⟦<ToWriter<W> as Sink>⟧.written writer.old) (⟦<ToWriter<W> as Sink>⟧.written writer.new) result }
+{
     let source = find_collected(rt, alloc, &rewrite.image, reader)?;
     let mut opened = source.open(rt, alloc)?;
     let mut heard = Heard::new(&mut opened);
-    match write_image(
-        rt,
-        alloc,
-        source.limits(),
-        &rewrite.wanted,
-        &mut heard,
-        &mut ToWriter::new(writer),
-    ) {
+    let limits = rewrite.image.limits;
+    match write_image(rt, alloc, limits, &rewrite.wanted, &mut heard, writer) {
         Ok(()) => Ok(()),
-        // It is no fault of the image's file.
-        Err(Fault::Device(Device::Output)) => Err(Fault::Device(Device::Output).into()),
-        Err(Fault::Device(device)) => {
-            let fault = Fault::Device(device);
-            Err(of_device(alloc, source.name(), fault, heard.reason()))
-        }
-        Err(fault) => Err(source.refuse(rt, alloc, fault)),
+        Err(fault) => Err(refuse_new(rt, alloc, &source, fault, heard.reason())),
+    }
+}
+
+// That standard output failed is no fault of the image's file.
+fn refuse_new<T: Files>(
+    rt: &T,
+    alloc: Global,
+    source: &Source<'_>,
+    fault: Fault,
+    reason: Option<Error>,
+) -> Refusal
+    ensures { fault ≡ Fault.Device Device.Output → result ≡ Refusal.Fault fault }
+{
+    if fault == Fault::Device(Device::Output) {
+        return Refusal::Fault(fault);
+    }
+    match fault {
+        Fault::Device(_) => of_device(alloc, source.name(), fault, reason),
+        _ => source.refuse(rt, alloc, fault),
     }
 }

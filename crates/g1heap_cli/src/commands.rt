@@ -1,4 +1,12 @@
 //! What the program does with a request.
+ghost use Rattle.std.specs.Prelude.{◌≡◌, ◌⊎◌, ℕ, List, Ok, Err, IfOk, ⊤};
+ghost use Rattle.std.specs.Io.KnownBytes.{Keeps};
+ghost use Rattle.g1_words.specs.declared.limits.Limits.TheVariants.{Wide};
+ghost use Rattle.g1_image.specs.Image.{IsImageTextWithin};
+ghost use Rattle.g1heap_cli.specs.Leaving.{Just, SendsText, HandsText, HandsBytes, HandsPrint};
+ghost use Rattle.g1heap_cli.specs.Replies.{IsReplyTo, IsSomeText, IsAsked};
+ghost use Rattle.g1heap_cli.specs.Endings.{Leaves, IsReported, EndsByRequest, Ends};
+
 use crate::answering::{answer_file, rewrite_file};
 use crate::converting::convert_file;
 use crate::explaining::{explain_object, explain_pause};
@@ -13,15 +21,15 @@ use crate::sources::{Source, find_source};
 use crate::terminals::{Terminals, allow, announce};
 use crate::tracing::answer_trace;
 use g1_broken_text::broken_lines;
-use g1_command::{Refusal, deliver, deliver_text, refuse};
+use g1_command::{Ending, Refusal, deliver, deliver_text, refuse};
 use g1_image::Image;
 use g1_report::locate;
 use g1_tables::summary;
 use g1_text::{image_lines, is_graph, make, make_graph, object_line, region_lines};
 use g1_words::{Device, Fault, object_at};
-use g1heap_request::{ImageFile, NAME, Output, Part, Request, parse};
+use g1heap_request::{ImageFile, NAME, Output, Part, Request, Same, parse};
 use std::alloc::{AllocError, Global};
-use std::io::{Read, Write};
+use std::io::{Error, Read, Write};
 use std::rt::Files;
 use std::thread::Threads;
 
@@ -32,32 +40,60 @@ pub struct Call<'a> {
     pub terminals: Terminals,
 }
 
-/// Runs the program, and gives its exit status: 0, 1 if two heaps differ, 141 if the reader of a text
+/// Runs the program, and returns how it ends: with status 0, 1 if two heaps differ, 141 if the reader of a text
 /// went away, or that of the refusal which is then reported on `errors`. Files and the reader are read
 /// when the words were found to be a request. The writer is written last, and not at all if there is a
-/// refusal, unless it was the writer that failed or the lines are written as they are made.
-pub fn program<T: Threads + Sync + Files, R: Read, W: Write, E: Write>(
+/// refusal, unless it was the writer that failed, the lines are written as they are made, or the refusal is behind the
+/// lines of an image that is broken.
+pub fn program<T: Threads + Sync + Files, R: Read, W: Write + Drop, E: Write>(
     rt: &T,
     alloc: Global,
     call: Call<'_>,
     reader: &mut R,
-    writer: &mut W,
+    writer: &mut Heard<W>,
     errors: &mut E,
-) -> u8 {
-    let mut heard = Heard::new(writer);
-    let outcome = match read_call(alloc, call) {
+) -> Ending
+    ensures { Ends (R.remaining reader.old) call.entry.terminals.input (⟦<Heard<W> as Write>⟧.contents writer.old) (⟦<Heard<W> as Write>⟧.contents writer.new) (E.contents errors.old) (E.contents errors.new) result }
+{
+    match read_call(alloc, call) {
         Ok(request) => {
             announce(call.terminals, &request, errors);
-            answer(rt, alloc, &request, reader, &mut heard)
+            perform(rt, alloc, &request, reader, writer, errors)
         }
-        Err(refusal) => Err(refusal),
-    };
-    match outcome {
-        Ok(status) => status,
-        Err(Refusal::Fault(Fault::Device(Device::Output))) => {
-            refuse(NAME, &of_output(alloc, heard.reason()), errors).status
+        Err(refusal) => refuse(NAME, &refusal, errors),
+    }
+}
+
+/// Does what a request asks for, and returns how the program ends.
+pub fn perform<T: Threads + Sync + Files, R: Read, W: Write + Drop, E: Write>(
+    rt: &T,
+    alloc: Global,
+    request: &Request,
+    reader: &mut R,
+    writer: &mut Heard<W>,
+    errors: &mut E,
+) -> Ending
+    ensures { EndsByRequest (R.remaining reader.old) (⟦<Heard<W> as Write>⟧.contents writer.old) (⟦<Heard<W> as Write>⟧.contents writer.new) (E.contents errors.old) (E.contents errors.new) request.now result }
+{
+    match answer(rt, alloc, request, reader, writer) {
+        Ok(status) => Ending {
+            status,
+            reported: Ok(()),
+        },
+        Err(refusal) => {
+            let refusal = with_reason(alloc, refusal, writer.reason());
+            refuse(NAME, &refusal, errors)
         }
-        Err(refusal) => refuse(NAME, &refusal, errors).status,
+    }
+}
+
+// The refusal with the system's reason, if standard output failed.
+fn with_reason(alloc: Global, refusal: Refusal, reason: Option<Error>) -> Refusal
+    ensures { IsReported refusal result }
+{
+    match refusal {
+        Refusal::Fault(Fault::Device(Device::Output)) => of_output(alloc, reason),
+        _ => refusal,
     }
 }
 
@@ -67,60 +103,64 @@ fn read_call(alloc: Global, call: Call<'_>) -> Result<Request, Refusal> {
 }
 
 // Does what is asked, and returns the status.
-fn answer<T: Threads + Sync + Files, R: Read, W: Write>(
+fn answer<T: Threads + Sync + Files, R: Read, W: Write + Drop>(
     rt: &T,
     alloc: Global,
     request: &Request,
     reader: &mut R,
-    writer: &mut W,
-) -> Result<u8, Refusal> {
+    writer: &mut Heard<W>,
+) -> Result<u8, Refusal>
+    ensures { Leaves request.now (IsReplyTo request.now (R.remaining reader.old)) (⟦<Heard<W> as Write>⟧.contents writer.old) (⟦<Heard<W> as Write>⟧.contents writer.new) result }
+{
     match request {
-        Request::Help(text) => Ok(deliver_text(0, text.as_bytes(), writer)?),
-        Request::Same(same) => {
-            let mut answer = LineWriter::new(alloc, writer);
-            let status = compare_files(rt, alloc, same, reader, &mut answer)?;
-            Ok(answer.finish(status)?)
-        }
+        Request::Help(text) => send_text(0, text.as_bytes(), writer),
+        Request::Same(same) => compare(rt, alloc, same, reader, writer),
         Request::Print {
             image,
             part,
             hex,
             output,
-        } => {
-            let printed = print_part(rt, alloc, image, *part, reader)?;
-            let printed = if *hex {
-                in_hexadecimal(alloc, printed)?
-            } else {
-                printed
-            };
-            hand_over_print(rt, alloc, printed, output, writer)
-        }
-        Request::Make { lines, output } => {
-            let bytes = make_from(rt, alloc, lines.as_str(), reader)?;
-            hand_over(rt, alloc, bytes.as_slice(), output, writer)
-        }
-        Request::Convert(asked) => {
-            let bytes = convert_file(rt, alloc, asked, reader)?;
-            hand_over(rt, alloc, bytes.as_slice(), &asked.output, writer)
-        }
-        Request::Explain(explain) => {
-            let (status, text) = explain_pause(rt, alloc, explain, reader)?;
-            hand_over_text(rt, alloc, status, text.as_bytes(), &explain.output, writer)
-        }
-        Request::Why(why) => {
-            let text = explain_object(rt, alloc, why, reader)?;
-            Ok(deliver_text(0, text.as_bytes(), writer)?)
-        }
+        } => match print_part(rt, alloc, image, *part, *hex, reader) {
+            Ok(printed) => hand_over_print(rt, alloc, printed, output, writer),
+            Err(refusal) => Err(refusal),
+        },
+        Request::Make { lines, output } => match make_from(rt, alloc, lines.as_str(), reader) {
+            Ok(bytes) => hand_over(rt, alloc, bytes.as_slice(), output, writer),
+            Err(refusal) => Err(refusal),
+        },
+        Request::Convert(asked) => match convert_file(rt, alloc, asked, reader) {
+            Ok(bytes) => hand_over(rt, alloc, bytes.as_slice(), &asked.output, writer),
+            Err(refusal) => Err(refusal),
+        },
+        Request::Explain(explain) => match explain_pause(rt, alloc, explain, reader) {
+            Ok((status, text)) => {
+                hand_over_text(rt, alloc, status, text.as_bytes(), &explain.output, writer)
+            }
+            Err(refusal) => Err(refusal),
+        },
+        Request::Why(why) => match explain_object(rt, alloc, why, reader) {
+            Ok(text) => send_text(0, text.as_bytes(), writer),
+            Err(refusal) => Err(refusal),
+        },
         Request::Trace(trace) => answer_trace(rt, alloc, trace, reader, writer),
-        Request::Ask(ask) => {
-            let lines = answer_file(rt, alloc, ask, reader)?;
-            hand_over_text(rt, alloc, 0, lines.as_slice(), &ask.output, writer)
-        }
-        Request::Rewrite(rewrite) => {
-            rewrite_file(rt, alloc, rewrite, reader, writer)?;
-            Ok(0)
-        }
+        Request::Ask(ask) => match answer_file(rt, alloc, ask, reader) {
+            Ok(lines) => hand_over_text(rt, alloc, 0, lines.as_slice(), &ask.output, writer),
+            Err(refusal) => Err(refusal),
+        },
+        Request::Rewrite(rewrite) => rewrite_file(rt, alloc, rewrite, reader, writer),
     }
+}
+
+fn compare<T: Threads + Sync + Files, R: Read, W: Write>(
+    rt: &T,
+    alloc: Global,
+    same: &Same,
+    reader: &mut R,
+    writer: &mut W,
+) -> Result<u8, Refusal> {
+    let mut answer = LineWriter::new(alloc, writer);
+    let status = compare_files(rt, alloc, same, reader, &mut answer)?;
+    Ok(answer.finish(status)?)
 }
 
 // The lines of a file, if it has any, and why it is refused behind them, if it is.
@@ -135,15 +175,21 @@ fn print_part<T: Threads + Sync + Files, R: Read>(
     alloc: Global,
     image: &ImageFile,
     part: Part,
+    hex: bool,
     reader: &mut R,
 ) -> Result<Printed, Refusal> {
     let source = find_source(rt, alloc, image, reader)?;
-    match source.found(rt, alloc)? {
-        Ok(image) => Ok(Printed {
+    let printed = match source.found(rt, alloc)? {
+        Ok(image) => Printed {
             text: Some(lines(rt, alloc, &image, source.name(), part)?),
             refusal: None,
-        }),
-        Err(fault) => print_broken(rt, alloc, &source, part, fault),
+        },
+        Err(fault) => print_broken(rt, alloc, &source, part, fault)?,
+    };
+    if hex {
+        Ok(in_hexadecimal(alloc, printed)?)
+    } else {
+        Ok(printed)
     }
 }
 
@@ -191,12 +237,22 @@ fn hand_over_print<T: Files, W: Write>(
     printed: Printed,
     output: &Output,
     writer: &mut W,
-) -> Result<u8, Refusal> {
+) -> Result<u8, Refusal>
+    ensures { HandsPrint output.now IsSomeText (W.contents writer.old) (W.contents writer.new) result }
+{
     let Printed { text, refusal } = printed;
-    let status = match text {
-        Some(text) => hand_over_text(rt, alloc, 0, text.as_bytes(), output, writer)?,
-        None => 0,
+    let Some(text) = text else {
+        return status_or(refusal, 0);
     };
+    match hand_over_text(rt, alloc, 0, text.as_bytes(), output, writer) {
+        Ok(status) => status_or(refusal, status),
+        Err(refusal) => Err(refusal),
+    }
+}
+
+fn status_or(refusal: Option<Refusal>, status: u8) -> Result<u8, Refusal>
+    ensures { IfOk result (λ s. s ≡ status) }
+{
     match refusal {
         Some(refusal) => Err(refusal),
         None => Ok(status),
@@ -211,13 +267,24 @@ fn hand_over_text<T: Files, W: Write>(
     text: &[u8],
     output: &Output,
     writer: &mut W,
-) -> Result<u8, Refusal> {
+) -> Result<u8, Refusal>
+    ensures { HandsText output.now (Just status text.now) (W.contents writer.old) (W.contents writer.new) result }
+{
     match output {
-        Output::File(_) => {
-            hand_over(rt, alloc, text, output, writer)?;
-            Ok(status)
-        }
-        _ => Ok(deliver_text(status, text, writer)?),
+        Output::File(name) => match write_file(rt, alloc, name.as_str(), text) {
+            Ok(()) => Ok(status),
+            Err(refusal) => Err(refusal),
+        },
+        _ => send_text(status, text, writer),
+    }
+}
+
+fn send_text<W: Write>(status: u8, text: &[u8], writer: &mut W) -> Result<u8, Refusal>
+    ensures { SendsText (Just status text.now) (W.contents writer.old) (W.contents writer.new) result }
+{
+    match deliver_text(status, text, writer) {
+        Ok(status) => Ok(status),
+        Err(fault) => Err(Refusal::Fault(fault)),
     }
 }
 
@@ -228,12 +295,19 @@ fn hand_over<T: Files, W: Write>(
     bytes: &[u8],
     output: &Output,
     writer: &mut W,
-) -> Result<u8, Refusal> {
+) -> Result<u8, Refusal>
+    ensures { HandsBytes output.now (Just 0 bytes.now) (W.contents writer.old) (W.contents writer.new) result }
+{
     match output {
-        Output::File(name) => write_file(rt, alloc, name.as_str(), bytes)?,
-        _ => deliver(bytes, writer)?,
+        Output::File(name) => match write_file(rt, alloc, name.as_str(), bytes) {
+            Ok(()) => Ok(0),
+            Err(refusal) => Err(refusal),
+        },
+        _ => match deliver(bytes, writer) {
+            Ok(()) => Ok(0),
+            Err(fault) => Err(Refusal::Fault(fault)),
+        },
     }
-    Ok(0)
 }
 
 fn lines<T: Threads + Sync>(
@@ -269,13 +343,19 @@ fn make_from<T: Files, R: Read>(
     alloc: Global,
     name: &str,
     reader: &mut R,
-) -> Result<Vec<u8>, Refusal> {
-    let lines = read_bytes(rt, alloc, name, reader)?;
-    make_image(alloc, name, lines.as_slice())
+) -> Result<Vec<u8>, Refusal>
+    ensures { IfOk result (λ v. IsImageTextWithin Wide v.items) }
+{
+    match read_bytes(rt, alloc, name, reader) {
+        Ok(lines) => make_image(alloc, name, lines.as_slice()),
+        Err(refusal) => Err(refusal),
+    }
 }
 
 // Lines of objects by name begin with another word.
-fn make_image(alloc: Global, name: &str, lines: &[u8]) -> Result<Vec<u8>, Refusal> {
+fn make_image(alloc: Global, name: &str, lines: &[u8]) -> Result<Vec<u8>, Refusal>
+    ensures { IfOk result (λ v. IsImageTextWithin Wide v.items) }
+{
     let made = if is_graph(lines) {
         make_graph(alloc, lines)
     } else {

@@ -1,4 +1,8 @@
 //! The image of a heap dump.
+ghost use Rattle.std.specs.Prelude.{IfOk};
+ghost use Rattle.g1_words.specs.declared.limits.Limits.TheVariants.{Wide};
+ghost use Rattle.g1_image.specs.Image.{IsImageTextWithin};
+
 use crate::files::read_bytes;
 use crate::output::write_file;
 use crate::refusal::refuse_dump;
@@ -15,7 +19,9 @@ pub fn convert_file<T: Files, R: Read>(
     alloc: Global,
     asked: &Convert,
     reader: &mut R,
-) -> Result<Vec<u8>, Refusal> {
+) -> Result<Vec<u8>, Refusal>
+    ensures { IfOk result (λ v. IsImageTextWithin Wide v.items) }
+{
     let name = asked.dump.as_str();
     let dump = read_bytes(rt, alloc, name, reader)?;
     let made = match convert(alloc, dump, &wanted_of(asked)) {

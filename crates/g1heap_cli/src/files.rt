@@ -1,4 +1,7 @@
 //! Files on the command line.
+ghost use Rattle.std.specs.Prelude.{◌≡◌, IfOk, IfSome};
+ghost use Rattle.g1heap_cli.specs.Streams.{AreNamed};
+
 use crate::heard::Heard;
 use crate::refusal::{of_bytes, of_device, unopenable};
 use g1_command::{Refusal, read_all};
@@ -17,7 +20,9 @@ pub fn read_bytes<T: Files, R: Read>(
     alloc: Global,
     name: &str,
     reader: &mut R,
-) -> Result<Vec<u8>, Refusal> {
+) -> Result<Vec<u8>, Refusal>
+    ensures { IfOk result (λ v. AreNamed name.now (R.remaining reader.old) v.items) }
+{
     if name == STANDARD_STREAM {
         return read_whole(alloc, name, reader);
     }
@@ -26,7 +31,9 @@ pub fn read_bytes<T: Files, R: Read>(
 }
 
 // All bytes of what has this name.
-fn read_whole<R: Read>(alloc: Global, name: &str, reader: &mut R) -> Result<Vec<u8>, Refusal> {
+fn read_whole<R: Read>(alloc: Global, name: &str, reader: &mut R) -> Result<Vec<u8>, Refusal>
+    ensures { IfOk result (λ v. IfSome (R.remaining reader.old) (λ xs. xs ≡ v.items)) }
+{
     let mut heard = Heard::new(reader);
     match read_all(alloc, &mut heard) {
         Ok(bytes) => Ok(bytes),

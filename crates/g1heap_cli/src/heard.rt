@@ -1,22 +1,47 @@
 //! The system's reason for a read or a write that failed.
-use std::io;
+ghost use Rattle.std.specs.Prelude.{◌≡◌, Some};
+ghost use Rattle.g1heap_cli.specs.Streams.{known_of};
+
 use std::io::{Error, ErrorKind, Read, Write};
+use std::{io, mem};
 
 /// A stream, and the reason for which the last call on it failed, if one did. A call that a signal interrupted is made
 /// again.
 #[derive(Drop)]
-pub struct Heard<'s, S> {
-    stream: &'s mut S,
+pub struct Heard<S> {
+    /// None while it is elsewhere.
+    stream: Option<S>,
     reason: Option<Error>,
 }
 
-impl<'s, S> Heard<'s, S> {
+impl<S> Heard<S> {
     /// A stream that has not failed.
-    pub fn new(stream: &'s mut S) -> Heard<'s, S> {
+    pub fn new(stream: S) -> Heard<S>
+        ensures { result.stream ≡ Some stream }
+    {
         Heard {
-            stream,
+            stream: Some(stream),
             reason: None,
         }
+    }
+
+    /// Takes it away, until it is put back. What is left here gives nothing and takes nothing.
+    pub fn take(&mut self) -> Heard<S>
+        ensures { result ≡ self.old }
+    {
+        let away = Heard {
+            stream: None,
+            reason: None,
+        };
+        mem::replace(self, away)
+    }
+
+    /// The stream itself, if it is here.
+    pub fn into_inner(self) -> Option<S>
+        ensures { result ≡ self.stream }
+    {
+        let Heard { stream, reason: _ } = self;
+        stream
     }
 
     /// Why the last call failed, if one did.
@@ -25,16 +50,23 @@ impl<'s, S> Heard<'s, S> {
     }
 
     // Keeps in mind why a call failed.
-    fn keep(&mut self, error: Error) {
+    fn keep(&mut self, error: Error)
+        ensures { self.new.stream ≡ self.old.stream }
+    {
         if error.kind() != ErrorKind::Interrupted {
             self.reason = Some(error);
         }
     }
 }
 
-impl<'s, S: Read> Read for Heard<'s, S> {
+impl<S: Read> Read for Heard<S> {
+    ghost remaining = { λ h. known_of S.remaining h.stream };
+
     fn read(&mut self, buf: &mut [u8]) -> io::Result<usize> {
-        let read = self.stream.read(buf);
+        let Some(stream) = &mut self.stream else {
+            return Ok(0);
+        };
+        let read = stream.read(buf);
         if let Err(error) = &read {
             self.keep(*error);
         }
@@ -42,9 +74,14 @@ impl<'s, S: Read> Read for Heard<'s, S> {
     }
 }
 
-impl<'s, S: Write> Write for Heard<'s, S> {
+impl<S: Write> Write for Heard<S> {
+    ghost contents = { λ h. known_of S.contents h.stream };
+
     fn write(&mut self, buf: &[u8]) -> io::Result<usize> {
-        let written = self.stream.write(buf);
+        let Some(stream) = &mut self.stream else {
+            return Ok(0);
+        };
+        let written = stream.write(buf);
         if let Err(error) = &written {
             self.keep(*error);
         }
@@ -52,7 +89,10 @@ impl<'s, S: Write> Write for Heard<'s, S> {
     }
 
     fn flush(&mut self) -> io::Result<()> {
-        let flushed = self.stream.flush();
+        let Some(stream) = &mut self.stream else {
+            return Ok(());
+        };
+        let flushed = stream.flush();
         if let Err(error) = &flushed {
             self.keep(*error);
         }

@@ -34,6 +34,7 @@ mod terminals;
 mod tracing;
 mod young;
 
-pub use commands::{Call, program};
+pub use commands::{Call, perform, program};
 pub use g1heap_request::NAME;
+pub use heard::Heard;
 pub use terminals::Terminals;

@@ -1,4 +1,7 @@
 //! An image on the command line, which can be read a second time: for the rule that it breaks.
+ghost use Rattle.std.specs.Prelude.{IfOk};
+ghost use Rattle.g1heap_cli.specs.Streams.{KeepsNamed};
+
 use crate::files::{is_file, open_file, read_bytes};
 use crate::heard::Heard;
 use crate::refusal::{of_bytes, of_device, of_file, of_heap, with_set_tip};
@@ -27,6 +30,10 @@ pub enum Opened<'s, F> {
 }
 
 impl<'s, F: Read> Read for Opened<'s, F> {
+    ghost use Rattle.g1heap_cli.specs.Opened.{left_of};
+
+    ghost remaining = { left_of F.remaining };
+
     fn read(&mut self, buf: &mut [u8]) -> io::Result<usize> {
         match self {
             Opened::File(file) => file.read(buf),
@@ -41,14 +48,20 @@ pub fn find_source<'a, T: Files, R: Read>(
     alloc: Global,
     image: &'a ImageFile,
     reader: &mut R,
-) -> Result<Source<'a>, Refusal> {
+) -> Result<Source<'a>, Refusal>
+    ensures { IfOk result (λ s. KeepsNamed (λ v. v.items) image.now.name.bytes.items (R.remaining reader.old) s.kept) }
+{
     let name = image.name.as_str();
-    let kept = if name != STANDARD_STREAM && is_file(rt, name) {
-        None
-    } else {
-        Some(read_bytes(rt, alloc, name, reader)?)
-    };
-    Ok(Source { image, kept })
+    if name != STANDARD_STREAM && is_file(rt, name) {
+        return Ok(Source { image, kept: None });
+    }
+    match read_bytes(rt, alloc, name, reader) {
+        Ok(bytes) => Ok(Source {
+            image,
+            kept: Some(bytes),
+        }),
+        Err(refusal) => Err(refusal),
+    }
 }
 
 /// The source of an image of which regions may be collected.
@@ -57,7 +70,9 @@ pub fn find_collected<'a, T: Files, R: Read>(
     alloc: Global,
     image: &'a ImageFile,
     reader: &mut R,
-) -> Result<Source<'a>, Refusal> {
+) -> Result<Source<'a>, Refusal>
+    ensures { IfOk result (λ s. KeepsNamed (λ v. v.items) image.now.name.bytes.items (R.remaining reader.old) s.kept) }
+{
     match find_source(rt, alloc, image, reader) {
         Ok(source) => Ok(source),
         Err(refusal) => Err(with_set_tip(alloc, image.name.as_str(), refusal)),
@@ -65,6 +80,9 @@ pub fn find_collected<'a, T: Files, R: Read>(
 }
 
 impl<'a> Source<'a> {
+    ghost use Rattle.std.specs.Prelude.{IfOk};
+    ghost use Rattle.g1heap_cli.specs.Opened.{GivesKept};
+
     /// The name on the command line.
     pub fn name(&self) -> &'a str {
         self.image.name.as_str()
@@ -76,9 +94,14 @@ impl<'a> Source<'a> {
     }
 
     /// The source, to be read from its start on.
-    pub fn open<T: Files>(&self, rt: &T, alloc: Global) -> Result<Opened<'_, T::File>, Refusal> {
+    pub fn open<T: Files>(&self, rt: &T, alloc: Global) -> Result<Opened<'_, T::File>, Refusal>
+        ensures { IfOk result (GivesKept (λ v. v.items) self.now.kept) }
+    {
         match &self.kept {
-            None => Ok(Opened::File(open_file(rt, alloc, self.name())?)),
+            None => match open_file(rt, alloc, self.name()) {
+                Ok(file) => Ok(Opened::File(file)),
+                Err(refusal) => Err(refusal),
+            },
             Some(bytes) => Ok(Opened::Kept(bytes.as_slice())),
         }
     }

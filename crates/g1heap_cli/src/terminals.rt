@@ -1,5 +1,7 @@
 //! What is said to a person at a terminal.
-use g1_command::Refusal;
+ghost use Rattle.g1heap_cli.specs.Leaving.{Announces};
+
+use g1_command::{Refusal, deliver};
 use g1heap_request::{Output, Request, STANDARD_STREAM};
 use std::alloc::{AllocError, Global};
 use std::io::Write;
@@ -12,13 +14,15 @@ pub struct Terminals {
 }
 
 /// Says what is waited for, if it has to come from a terminal.
-pub fn announce<E: Write>(terminals: Terminals, request: &Request, errors: &mut E) {
+pub fn announce<E: Write>(terminals: Terminals, request: &Request, errors: &mut E)
+    ensures { Announces terminals.input (E.contents errors.old) (E.contents errors.new) }
+{
     if !terminals.input {
         return;
     }
     if let Some(text) = waiting_text(request) {
         // The answer is the same whether this is seen or not.
-        let _ = errors.write_all(text.as_bytes());
+        let _ = deliver(text.as_bytes(), errors);
     }
 }
 

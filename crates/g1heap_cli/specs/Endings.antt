@@ -1,0 +1,61 @@
+-- How g1heap ends.
+use Rattle.std.specs.Prelude.{◌≡◌, ◌⊎◌, ℕ, Bool, List, Option, codes, IsOk, Result, Ok, Err, ⊤}
+use Rattle.std.specs.Io.KnownBytes.{Keeps}
+use Rattle.g1_words.specs.declared.fault.Fault.TheVariants.{Device}
+use Rattle.g1_words.specs.declared.fault.Device.TheVariants.{Output as OutputFailed}
+use Rattle.g1_command.specs.declared.refusal.Ending.{Ending}
+use Rattle.g1_command.specs.declared.refusal.Refusal.{Refusal}
+use Rattle.g1_command.specs.declared.refusal.Refusal.TheVariants as refusal
+use Rattle.g1_command.specs.Refusals.{EndsBy}
+use Rattle.g1heap_request.specs.declared.options.Request.{Request}
+use Rattle.g1heap_request.specs.declared.options.Request.TheVariants as request
+use Rattle.g1heap_cli.specs.Refusals.{RefusesOutput}
+use Rattle.g1heap_cli.specs.Leaving.{Reply, Announces, SendsText, HandsText, HandsBytes, HandsPrint}
+use Rattle.g1heap_cli.specs.Replies.{IsReplyTo}
+
+-- the program's name
+abbrev pub name : List ℕ
+name = codes "g1heap"
+
+-- what a request leaves on standard output, by that before and after; of `same` and `trace` nothing is said
+abbrev pub Leaves : Request → Reply → Option (List ℕ) → Option (List ℕ) → Result ℕ Refusal → Type 0
+Leaves (request.Help text) = SendsText
+Leaves (request.Same same) = λ Is old new r. ⊤
+Leaves (request.Print image part hex output) = HandsPrint output
+Leaves (request.Make lines output) = HandsBytes output
+Leaves (request.Convert asked) = HandsBytes asked.output
+Leaves (request.Explain explain) = HandsText explain.output
+Leaves (request.Why why) = SendsText
+Leaves (request.Trace trace) = λ Is old new r. ⊤
+Leaves (request.Ask a) = HandsText a.output
+Leaves (request.Rewrite r) = HandsBytes r.output
+
+-- a refusal, as it is reported: if standard output failed, by that
+abbrev pub IsReported : Refusal → Refusal → Type 0
+IsReported (refusal.Fault (Device OutputFailed)) told = RefusesOutput told
+IsReported why told = told ≡ why
+
+-- the end behind an answer, by what was reported before and after: its status, and no report; or behind a refusal
+abbrev pub EndsWith : Result ℕ Refusal → Option (List ℕ) → Option (List ℕ) → Ending → Type 0
+EndsWith (Ok status) old new ending = (ending.status ≡ status) × IsOk ending.reported × Keeps old new
+EndsWith (Err why) old new ending = (told : Refusal) × IsReported why told × EndsBy name told old new ending
+
+-- left is what standard input has left; before and after are the bytes on standard output and those on standard error
+module _ (left out_old out_new error_old error_new : Option (List ℕ)) where
+  -- HOW THE PROGRAM ENDS by a request: what it leaves of the reply, and with what it ends
+  pub record EndsByRequest (request : Request) (ending : Ending) : Type 0 where
+    pub result : Result ℕ Refusal
+    pub leaves : Leaves request (IsReplyTo request left) out_old out_new result
+    pub ended : EndsWith result error_old error_new ending
+
+  -- the words are no request: nothing is on standard output
+  pub record EndsByWords (ending : Ending) : Type 0 where
+    pub why : Refusal
+    pub silent : Keeps out_old out_new
+    pub ended : EndsBy name why error_old error_new ending
+
+-- how it ends by whatever words, behind what is announced at a terminal
+abbrev pub Ends : Option (List ℕ) → Bool → (out_old out_new error_old error_new : Option (List ℕ)) → Ending → Type 0
+Ends left terminal out_old out_new error_old error_new ending =
+    EndsByWords left out_old out_new error_old error_new ending
+    ⊎ ((request : Request) × (error : Option (List ℕ)) × Announces terminal error_old error × EndsByRequest left out_old out_new error error_new request ending)

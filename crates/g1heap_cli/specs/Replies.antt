@@ -1,0 +1,61 @@
+-- What g1heap replies to a request: a status and a text. `left` is what standard input has left.
+use Rattle.std.specs.Prelude.{◌≡◌, ℕ, List, Option, Ok, ⊤}
+use Rattle.g1_words.specs.declared.limits.Limits.TheVariants.{Wide}
+use Rattle.g1_image.specs.Image.{IsImageTextWithin}
+use Rattle.g1_answers.specs.Questions.{IsReply}
+use Rattle.g1_answers.specs.Images.{IsNewImage}
+use Rattle.g1heap_request.specs.declared.asking.Ask.{Ask}
+use Rattle.g1heap_request.specs.declared.asking.Rewrite.{Rewrite}
+use Rattle.g1heap_request.specs.declared.options.Request.{Request}
+use Rattle.g1heap_request.specs.declared.options.Request.TheVariants as request
+use Rattle.g1heap_request.specs.declared.options.Same.{Same}
+use Rattle.g1heap_request.specs.declared.options.Explain.{Explain}
+use Rattle.g1heap_request.specs.declared.options.Why.{Why}
+use Rattle.g1heap_request.specs.declared.options.Trace.{Trace}
+use Rattle.g1heap_cli.specs.Streams.{HoldsOfNamed}
+use Rattle.g1heap_cli.specs.Leaving.{Reply, Just}
+
+-- with status 0 a text, by the bytes of what has this name
+abbrev pub ByNamed : List ℕ → Option (List ℕ) → (List ℕ → List ℕ → Type 0) → Reply
+ByNamed file left Is status text = (status ≡ 0) × HoldsOfNamed file left (λ bytes. Is bytes text)
+
+-- the reply to a question of an image, and an image that is made of one
+abbrev pub IsAsked : Ask → Option (List ℕ) → Reply
+IsAsked a left = ByNamed a.image.name.bytes.items left (λ bytes text. IsReply a.image.limits a.question bytes (Ok text))
+
+abbrev pub IsRewritten : Rewrite → Option (List ℕ) → Reply
+IsRewritten r left = ByNamed r.image.name.bytes.items left (λ bytes text. IsNewImage r.image.limits r.wanted bytes (Ok text))
+
+-- the bytes of an image
+abbrev pub IsSomeImage : Reply
+IsSomeImage status text = (status ≡ 0) × IsImageTextWithin Wide text
+
+-- lines of which no clause says more
+abbrev pub IsSomeText : Reply
+IsSomeText status text = status ≡ 0
+
+-- of these replies no clause says more yet
+abbrev pub IsSameReply : Same → Option (List ℕ) → Reply
+IsSameReply same left status text = ⊤
+
+abbrev pub IsExplainReply : Explain → Option (List ℕ) → Reply
+IsExplainReply explain left status text = ⊤
+
+abbrev pub IsWhyReply : Why → Option (List ℕ) → Reply
+IsWhyReply why left status text = status ≡ 0
+
+abbrev pub IsTraceReply : Trace → Option (List ℕ) → Reply
+IsTraceReply trace left status text = status ≡ 0
+
+-- THE REPLY TO A REQUEST
+abbrev pub IsReplyTo : Request → Option (List ℕ) → Reply
+IsReplyTo (request.Help text) left = Just 0 text.bytes.items
+IsReplyTo (request.Same same) left = IsSameReply same left
+IsReplyTo (request.Print image part hex output) left = IsSomeText
+IsReplyTo (request.Make lines output) left = IsSomeImage
+IsReplyTo (request.Convert asked) left = IsSomeImage
+IsReplyTo (request.Explain explain) left = IsExplainReply explain left
+IsReplyTo (request.Why why) left = IsWhyReply why left
+IsReplyTo (request.Trace trace) left = IsTraceReply trace left
+IsReplyTo (request.Ask a) left = IsAsked a left
+IsReplyTo (request.Rewrite r) left = IsRewritten r left

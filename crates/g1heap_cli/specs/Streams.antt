@@ -1,0 +1,20 @@
+-- Streams that may be away, and the bytes of what has a name.
+use Rattle.std.specs.Prelude.{◌≡◌, ℕ, List, codes, Option, Some, None, IfSome}
+use Rattle.std.specs.Option.{option_map}
+
+-- what is known of a stream that may be away
+abbrev pub known_of : {S : Type 0} → (S → Option (List ℕ)) → Option S → Option (List ℕ)
+known_of known None = None
+known_of known (Some s) = known s
+
+-- the bytes are those that are left on standard input, if the name is its name; those of a file are not known
+abbrev pub AreNamed : List ℕ → Option (List ℕ) → List ℕ → Type 0
+AreNamed file left bytes = file ≡ codes "-" → IfSome left (λ xs. xs ≡ bytes)
+
+-- P holds of the bytes of what has this name
+abbrev pub HoldsOfNamed : List ℕ → Option (List ℕ) → (List ℕ → Type 0) → Type 0
+HoldsOfNamed file left P = (bytes : List ℕ) × P bytes × AreNamed file left bytes
+
+-- what is kept are those bytes, if the name is that of standard input
+abbrev pub KeepsNamed : {V : Type 0} → (V → List ℕ) → List ℕ → Option (List ℕ) → Option V → Type 0
+KeepsNamed items file left kept = file ≡ codes "-" → IfSome left (λ xs. option_map items kept ≡ Some xs)
