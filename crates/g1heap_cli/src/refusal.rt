@@ -88,7 +88,10 @@ pub fn of_heap(alloc: Global, name: &str, heap: &Heap, fault: Fault) -> Refusal
 pub fn of_cover(alloc: Global, name: &str, heap: &Heap, fault: Fault) -> Refusal {
     match of_heap(alloc, name, heap, fault) {
         Refusal::Told { status, text } => {
-            refusal(status, format!(in alloc; "{text}g1heap: the graph is the same\n"))
+            refusal(
+                status,
+                format!(in alloc; "{text}g1heap: the graph is the same\n"),
+            )
         }
         refused => refused,
     }
