@@ -1,5 +1,10 @@
 pub mod Searched
 pub mod Texts
+pub mod Parts
+pub mod Candidates
+pub mod Marks
+pub mod Purchased
+pub mod TotalsLine
 pub mod Meets
 pub mod FirstLeads
 pub mod Targets

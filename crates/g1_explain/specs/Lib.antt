@@ -3,3 +3,8 @@ pub mod Searched
 pub mod Keeping
 pub mod Lines
 pub mod Survivors
+pub mod Cards
+pub mod Choosing
+pub mod Places
+pub mod Changes
+pub mod Totals

@@ -139,7 +139,7 @@ fn map_steps(
             })
         }
         Outcome::Ready { plan, .. } => {
-            push_map(text, before.image().heap(), plan)?;
+            push_map(text, before.image().heap(), plan.survivors(), plan.places())?;
             Ok(None)
         }
     }

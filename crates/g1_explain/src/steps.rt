@@ -11,7 +11,6 @@ use crate::humongous::{keepers, push_humongous};
 use crate::places::push_places;
 use crate::totals::{Written, push_refusal, push_room, push_totals};
 use crate::walkable::Walkable;
-use g1_choose::total;
 use g1_copy::Prepared;
 use g1_layout::Plan;
 use g1_pause::{Before, Outcome, Settings, Steps};
@@ -30,10 +29,7 @@ pub(crate) fn push_steps(
     settings: &Settings,
     steps: &Steps,
 ) -> Result<Option<Fault>, Failure> {
-    if let Some(bought) = &steps.collection.bought {
-        let base = total(&settings.cost(), before.image().log().len() as u64, &[]);
-        push_bought(text, before, base, bought)?;
-    }
+    push_bought(text, before, settings, &steps.collection.bought)?;
     let walkable = Walkable::of(before);
     let set = steps.collection.regions.as_slice();
     push_cards(alloc, text, &walkable, set, &steps.cards)?;
@@ -67,7 +63,7 @@ fn push_ready(
     let heap = before.image().heap();
     let patches = kept_patches(alloc, heap, prepared)?;
     push_room(text, plan.need(), free_count(heap.regions()))?;
-    push_places(text, heap, plan)?;
+    push_places(text, heap, plan.survivors(), plan.places())?;
     push_roots(text, heap.roots(), prepared.roots())?;
     push_patches(text, heap, &patches)?;
     push_humongous_objects(alloc, text, before, plan, prepared)?;

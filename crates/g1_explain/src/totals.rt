@@ -1,4 +1,10 @@
 //! What a pause writes, its totals, and its refusal.
+ghost use Rattle.std.specs.Prelude.{◌*◌, ◌≡◌, ◌≢◌, ◌++◌, Some, length, filter, string_bytes, OnOk, IfOk};
+ghost use Rattle.g1_words.specs.Heap.{is_free};
+ghost use Rattle.g1_text.specs.Lines.{line_text, further, text_of};
+ghost use Rattle.g1_explain.specs.Places.{within_64};
+ghost use Rattle.g1_explain.specs.Totals.{room_line, refusal_lines, totals_line, counts_words};
+
 use crate::changes::free_count;
 use crate::failure::Failure;
 use g1_copy::Prepared;
@@ -18,12 +24,18 @@ pub(crate) struct Written<'a> {
 }
 
 /// Adds the line of the regions that the survivors need.
-pub(crate) fn push_room(text: &mut String, need: u64, free: u64) -> Result<(), AllocError> {
+pub(crate) fn push_room(text: &mut String, need: u64, free: u64) -> Result<(), AllocError>
+    ensures { OnOk result (string_bytes text.new ≡ string_bytes text.old ++ line_text (room_line need free)) }
+{
     writeln!(text, "room need {need} free {free}")
 }
 
 /// Adds the refusal of a pause, and returns its fault. Running out of memory is none.
-pub(crate) fn push_refusal(text: &mut String, fault: Fault) -> Result<Option<Fault>, Failure> {
+pub(crate) fn push_refusal(text: &mut String, fault: Fault) -> Result<Option<Fault>, Failure>
+    ensures lines { OnOk result (string_bytes text.new ≡ string_bytes text.old ++ text_of (refusal_lines fault)) }
+    ensures fault { IfOk result (λ o. o ≡ Some fault) }
+    ensures no_memory { IfOk result (λ _. fault ≢ Fault.Memory) }
+{
     if fault == Fault::Memory {
         return Err(Failure::Fault(fault));
     }
@@ -40,7 +52,9 @@ pub(crate) fn push_totals(
     text: &mut String,
     heap: &Heap,
     written: &Written<'_>,
-) -> Result<(), AllocError> {
+) -> Result<(), AllocError>
+    ensures { OnOk result (string_bytes text.new ≡ string_bytes text.old ++ line_text (totals_line (length written.now.plan.now.set) (length written.now.prepared.now.humongous) (length written.now.plan.now.survivors) (within_64 (written.now.plan.now.words * 8)) (counts_words written.now.cards written.now.slots (length (filter (λ q. is_free q.kind) heap.now.regions)) (length (filter (λ q. is_free q.kind) written.now.prepared.now.regions))))) }
+{
     let regions = written.plan.set().len();
     let humongous = written.prepared.humongous().len();
     let objects = written.plan.survivors().len();
@@ -51,7 +65,9 @@ pub(crate) fn push_totals(
 }
 
 // Ends the line of the totals with what is counted: cards, slots, and free regions before and after.
-fn push_counts(text: &mut String, heap: &Heap, written: &Written<'_>) -> Result<(), AllocError> {
+fn push_counts(text: &mut String, heap: &Heap, written: &Written<'_>) -> Result<(), AllocError>
+    ensures { OnOk result (string_bytes text.new ≡ string_bytes text.old ++ further (counts_words written.now.cards written.now.slots (length (filter (λ q. is_free q.kind) heap.now.regions)) (length (filter (λ q. is_free q.kind) written.now.prepared.now.regions)))) }
+{
     let (cards, slots) = (written.cards, written.slots);
     let before = free_count(heap.regions());
     let after = free_count(written.prepared.regions());
