@@ -160,9 +160,11 @@ module _ (g : NamedGraph) (ats order : List ℕ) (h : Heap) (wordss : List (List
       omega (arith, length-range_with_len o.1 (size_of o.0), values, all, slots, length-append (map (word_for g ats) o.0.slots) are.values))
       (located g ats order) wordss are
 
+  pub long : length (flat_map (λ ws. ws) wordss) ≡ length (used_addresses h.geometry.w 0 h.regions)
+  long = lengths_zip own (located g ats order) wordss sizes ∙ ap length whole
+
   read : map (word h) (flat_map own (located g ats order)) ≡ flat_map (λ ws. ws) wordss
   read =
-      let long : length (flat_map (λ ws. ws) wordss) ≡ length (used_addresses h.geometry.w 0 h.regions) = lengths_zip own (located g ats order) wordss sizes ∙ ap length whole in
       ap (map (word h)) whole ∙ ap (λ ws. map (λ a. slice_index ws a) (used_addresses h.geometry.w 0 h.regions)) words ∙ laid_words h.geometry.w [] h.regions (flat_map (λ ws. ws) wordss) tops long
 
   their_words : (o : NamedObject × ℕ) → In (located g ats order) o → AreWordsOf g ats o.0 (words_at h o.1 (size_of o.0))
@@ -180,7 +182,7 @@ module _ (g : NamedGraph) (ats order : List ℕ) (h : Heap) (wordss : List (List
   pub pair_in : (k : ℕ) → k < length g.objects → In (located g ats order) (pair k)
   pair_in k lt = In-map pair order k (In-from_contains order k (all k lt))
 
-  located_fits : (o : NamedObject × ℕ) → In (located g ats order) o → size_of o.0 < 2 ^ 32
+  pub located_fits : (o : NamedObject × ℕ) → In (located g ats order) o → size_of o.0 < 2 ^ 32
   located_fits o i = let m = map_cases pair order o i in subst (λ p. size_of p.0 < 2 ^ 32) m.2 (fits m.0 (record { name = []; slots = []; written = [] }) (place_below m.0 m.1))
 
   each : (o : Object) → In (map heap_object (located g ats order)) o → IsObject h.words o

@@ -3,10 +3,15 @@ use Rattle.std.proofs.Common.{◌≡◌, ◌≤◌, ◌<◌, ℕ, ◌^◌, Bool,
 use Rattle.std.specs.Prelude.{Option, Some, None, IfSome, All, Contains, ◌==◌}
 use Rattle.std.specs.List.{AllZip}
 use Rattle.std.proofs.lemmas.Slice.Zip.{AllZip-long}
+use Rattle.std.proofs.lemmas.List.{length-map}
+use Rattle.std.proofs.lemmas.List.Elements.{All-nil}
 use Rattle.g1_words.specs.Geometry.{Geometry}
 use Rattle.g1_words.specs.Heap.{Heap}
 use Rattle.g1_words.specs.declared.region.Region.{Region}
-use Rattle.g1_image.specs.Image.{entry_of, region_of_entry, heap_of, all_words, flags_of}
+use Rattle.g1_words.specs.declared.limits.Limits.TheVariants.{Wide}
+use Rattle.g1_image.specs.Text.{file_text}
+use Rattle.g1_image.specs.Image.{Image, IsTextWithin, entry_of, region_of_entry, heap_of, all_words, flags_of}
+use Rattle.g1_image.specs.Reading.{IsU32}
 use Rattle.g1_image.proofs.FileOf.{kind_there}
 use Rattle.g1_text.specs.declared.named.Lines.{Lines}
 use Rattle.g1_text.specs.declared.reading.HeapSizes.{HeapSizes}
@@ -16,7 +21,8 @@ use Rattle.g1_text.specs.ByName.{HasRead, AreSizes, IsEntryOf}
 use Rattle.g1_text.specs.Carried.{Carries, AreListed, AllNamed, root_value, root_targets, stale_from, stale_slots, named_at}
 use Rattle.g1_text.specs.Filled.{AreLocated, AreWordsOf, located}
 use Rattle.g1_text.specs.Laid.{AreLaid, ArePlaced, laid_content, placed, own_addresses, used_addresses, StartInEach}
-use Rattle.g1_text.proofs.Carrying.{heap_object, all_placed, entry_fits, carried, listed, all_named}
+use Rattle.g1_text.proofs.Carrying.{heap_object, all_placed, entry_fits, located_fits, long, carried, listed, all_named}
+use Rattle.g1_text.proofs.OneHeap.{HeapFits, image_heap, entries_small, announced, roots_fit, words_fit}
 
 pin_there : (b : Bool) → flags_of b == 1 ≡ b
 pin_there false = refl
@@ -88,3 +94,29 @@ module _ (l : Lines) (g : NamedGraph) (read : HasRead l g) (geometry : Geometry)
     pub are_listed : (names roots slots : List (ℕ × List ℕ)) → names ≡ map named_at (located g ats order) → roots ≡ stale_from g 0 (root_targets g) → slots ≡ flat_map (stale_slots g) (located g ats order)
         → AreListed g ats names roots slots
     are_listed = listed g ats order heap wordss count below all (entry_fits l.entries.items g.objects read.entries) places.laid.2 laid.tops laid.starts addresses refl are
+
+    fits : HeapFits (file_with full)
+    fits =
+        let tops : All (λ q. q.top < 2 ^ 32) regions = λ k d lt. let top = laid.tops k d lt in omega (arith, top, places.bounds.w_most) in
+        let root_count = length-map g.roots (root_value g ats) in
+        record {
+          heading = record {
+            w = omega (arith, places.bounds.w_most);
+            k = omega (arith, places.bounds.k_most);
+            n = omega (arith, places.bounds.n_most);
+            roots = omega (arith, root_count, read.few);
+            dirty = omega arith;
+            current = omega (arith, places.bounds.n_most);
+          };
+          table = record { how_many = length-map regions entry_of ∙ places.laid.2; each = entries_small regions tops };
+          roots = roots_fit g ats places.small;
+          log = All-nil IsU32;
+          words = record {
+            how_many = long g ats order heap wordss count below all (entry_fits l.entries.items g.objects read.entries) places.laid.2 laid.tops laid.starts addresses refl are ∙ announced geometry.w 0 regions;
+            each = words_fit g ats places.small (located g ats order) wordss
+                (located_fits g ats order heap wordss count below all (entry_fits l.entries.items g.objects read.entries) places.laid.2 laid.tops laid.starts addresses refl are) are;
+          };
+        }
+
+    pub same_heap : (bytes : List ℕ) → bytes ≡ file_text (file_with full) → (i : Image) → IsTextWithin Wide bytes i → i.heap ≡ heap_of (file_with full)
+    same_heap bytes text i is = image_heap (file_with full) bytes i fits text is

@@ -40,6 +40,7 @@ pub mod Carrying
 pub mod NamedWords
 pub mod Lookups
 pub mod Pushing
+pub mod OneHeap
 pub mod Holding
 pub mod Rooms
 pub mod Refusing

@@ -11,8 +11,9 @@ use Rattle.g1_text.specs.Forms.{StandsFor}
 use Rattle.g1_text.specs.Graphs.{NamedObject, NamedRoot, NamedGraph, size_of}
 use Rattle.g1_text.specs.ByName.{place_of, read_holder}
 use Rattle.g1_text.specs.declared.named.Graph.{Graph}
+use Rattle.g1_words.specs.declared.limits.Limits.TheVariants.{Wide}
 use Rattle.g1_image.specs.Text.{File, file_text}
-use Rattle.g1_image.specs.Image.{heap_of}
+use Rattle.g1_image.specs.Image.{Image, IsTextWithin, heap_of}
 
 -- In each definition, `ats` has the address of each object of the graph, in the order of the lines.
 
@@ -93,20 +94,21 @@ pub record AllNamed (g : NamedGraph) : Type 0 where
   pub roots : All (IsNamed g) (root_targets g)
   pub slots : All (λ o. All (IsNamed g) o.slots) g.objects
 
--- WHAT IS RETURNED HOLDS THE GRAPH: its text is that of a file whose heap carries the graph, and the lists are those of the
--- graph; if no line with a name that no object has is noted, there is no such name
+-- WHAT IS RETURNED HOLDS THE GRAPH: its text is that of a file whose heap carries the graph, an image with this text has this heap,
+-- and the lists are those of the graph; if no line with a name that no object has is noted, there is no such name
 pub record HoldsGraph (g : NamedGraph) (r : Graph) : Type 0 where
   pub ats : List ℕ
   pub file : File
   pub text : r.text.items ≡ file_text file
   pub carries : Carries g ats (heap_of file)
+  pub image : (i : Image) → IsTextWithin Wide r.text.items i → i.heap ≡ heap_of file
   pub listed : AreListed g ats (map read_holder r.names.items) (map read_holder r.stale_roots.items) (map read_holder r.stale_slots.items)
   pub noted : r.first_stale ≡ None → AllNamed g
 
--- THE BYTES HOLD THE GRAPH, in which each name is an object's
+-- THE BYTES HOLD THE GRAPH, in which each name is an object's: they are the text of an image whose heap carries the graph
 pub record CarryGraph (g : NamedGraph) (bytes : List ℕ) : Type 0 where
   pub ats : List ℕ
-  pub file : File
-  pub text : bytes ≡ file_text file
-  pub carries : Carries g ats (heap_of file)
+  pub image : Image
+  pub text : IsTextWithin Wide bytes image
+  pub carries : Carries g ats image.heap
   pub named : AllNamed g

@@ -9,7 +9,7 @@ use Rattle.g1_text.specs.Drafts.{content}
 use Rattle.g1_text.specs.ByName.{read_holder}
 use Rattle.g1_text.specs.Filled.{AreLocated, located}
 use Rattle.g1_text.specs.Carried.{root_value, root_targets, stale_from, stale_slots, named_at}
-use Rattle.g1_text.proofs.Holding.{filled_is, filled_content, carries, are_listed, are_located, below, none_stale}
+use Rattle.g1_text.proofs.Holding.{filled_is, filled_content, carries, are_listed, are_located, below, none_stale, same_heap}
 use Rattle.g1_text.proofs.named.fill.Goals as goal
 
 pub returns-clause-carried : goal.returns-clause-carried
@@ -38,11 +38,13 @@ returns-clause-carried c = λ g geometry read places sizes.
     let names : map read_holder c.fill_objects.new.found.names.items ≡ map named_at they = c.in_ok-fill_objects.ensures.names g lie under ∙ ap (λ l. map read_holder l ++ map named_at they) c.new.ensures.items in
     let stale_roots : map read_holder c.fill_roots.new.stale.names.items ≡ stale_from g 0 (root_targets g) = c.in_ok-fill_roots.ensures.stale g lent ∙ ap (λ l. map read_holder l ++ stale_from g 0 (root_targets g)) c.new-roots.ensures in
     let slots : map read_holder c.fill_objects.new.found.stale.names.items ≡ flat_map (stale_slots g) they = c.in_ok-fill_objects.ensures.stale g lie under ∙ ap (λ l. map read_holder l ++ flat_map (stale_slots g) they) c.new-2.ensures in
+    let text = c.in_ok-text.ensures few ∙ ap (λ x. file_text (file_with x)) full in
     record {
       ats = ats;
       file = file_with (filled_content geometry places.laid.0 (map (root_value g ats) g.roots) (flat_map (λ ws. ws) objects.0) third.remembered);
-      text = c.in_ok-text.ensures few ∙ ap (λ x. file_text (file_with x)) full;
+      text = text;
       carries = carries lines g read geometry ats order first places sizes objects.0 objects.1 third.remembered;
+      image = same_heap lines g read geometry ats order first places sizes objects.0 objects.1 third.remembered c.in_ok-text.text.items text;
       listed = are_listed lines g read geometry ats order first places sizes objects.0 objects.1 third.remembered (map read_holder c.fill_objects.new.found.names.items) (map read_holder c.fill_roots.new.stale.names.items)
           (map read_holder c.fill_objects.new.found.stale.names.items) names stale_roots slots;
       noted = λ none.

@@ -1,9 +1,10 @@
-use Rattle.std.proofs.Common.{false, subst}
+use Rattle.std.proofs.Common.{false, sym, subst}
 use Rattle.g1_words.specs.declared.limits.Limits.TheVariants.{Wide}
 use Rattle.g1_image.specs.Image.{IsImageTextWithin}
 use Rattle.g1_text.specs.Reading.{lines_in}
 use Rattle.g1_text.specs.Forms.{GraphHeading, GraphLine}
 use Rattle.g1_text.specs.Drafts.{AreTaken}
+use Rattle.g1_text.specs.Carried.{Carries}
 use Rattle.g1_text.proofs.Formed.{meant_text}
 use Rattle.g1_text.proofs.NamedLines.{graph_said, begun_is}
 use Rattle.g1_text.proofs.named.make_graph.Goals as goal
@@ -29,4 +30,14 @@ returns-in-Ok-clause-carries c =
     let lines = c.in_ok-lines.lines in
     let said = graph_said c.args.text.now lines read.known.0 (begun_is lines.heading c.in_ok-bytes.ensures.begun) read.says in
     let h = c.in_ok-bytes.ensures.carried said.0 said.2 in
-    (said.0, said.1, record { ats = h.ats; file = h.file; text = h.text; carries = h.carries; named = h.noted c.in_ok-check_named.ensures.named })
+    let image = subst (IsImageTextWithin Wide) c.as_slice.ensures.value c.in-Ok.ensures.ok in (
+      said.0,
+      said.1,
+      record {
+        ats = h.ats;
+        image = image.0;
+        text = image.1;
+        carries = subst (Carries said.0 h.ats) (sym (h.image image.0 image.1)) h.carries;
+        named = h.noted c.in_ok-check_named.ensures.named;
+      },
+    )

@@ -24,4 +24,4 @@ returns-clause-holds c =
     let lines = c.in_ok-lines.lines in
     let said = graph_said c.args.text.now lines read.known.0 (begun_is lines.heading c.in_ok-graph.ensures.begun) read.says in
     let h = c.in_ok-graph.ensures.carried said.0 said.2 in
-    (said.0, said.1, record { ats = h.ats; file = h.file; text = h.text; carries = h.carries; listed = h.listed; noted = h.noted })
+    (said.0, said.1, record { ats = h.ats; file = h.file; text = h.text; carries = h.carries; image = h.image; listed = h.listed; noted = h.noted })
