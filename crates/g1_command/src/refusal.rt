@@ -28,18 +28,35 @@ impl Refusal {
 }
 
 impl From<Fault> for Refusal {
+    ghost use Rattle.std.specs.Prelude.{◌≡◌};
+    ghost use Rattle.g1_command.specs.declared.refusal.Refusal.TheVariants.{Fault as OfFault};
+
+    ghost from_gives = { λ f e. e ≡ OfFault f };
+
     fn from(fault: Fault) -> Refusal {
         Refusal::Fault(fault)
     }
 }
 
 impl From<AllocError> for Refusal {
+    ghost use Rattle.std.specs.Prelude.{◌≡◌};
+    ghost use Rattle.g1_words.specs.declared.fault.Fault.TheVariants.{Memory};
+    ghost use Rattle.g1_command.specs.declared.refusal.Refusal.TheVariants.{Fault as OfFault};
+
+    ghost from_gives = { λ _ e. e ≡ OfFault Memory };
+
     fn from(_error: AllocError) -> Refusal {
         Refusal::Fault(Fault::Memory)
     }
 }
 
 impl<T: Drop> From<AllocFailed<T>> for Refusal {
+    ghost use Rattle.std.specs.Prelude.{◌≡◌};
+    ghost use Rattle.g1_words.specs.declared.fault.Fault.TheVariants.{Memory};
+    ghost use Rattle.g1_command.specs.declared.refusal.Refusal.TheVariants.{Fault as OfFault};
+
+    ghost from_gives = { λ _ e. e ≡ OfFault Memory };
+
     fn from(_error: AllocFailed<T>) -> Refusal {
         Refusal::Fault(Fault::Memory)
     }
