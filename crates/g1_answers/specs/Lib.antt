@@ -2,3 +2,4 @@ pub mod Numbers
 pub mod Replies
 pub mod Questions
 pub mod Images
+pub mod Asked

@@ -1,4 +1,9 @@
 //! The options of the commands that both programs have, beside those of a pause's cost.
+ghost use Rattle.std.specs.Prelude.{IfOk, IfErr};
+ghost use Rattle.clap.specs.Words.{found_of, rows_of};
+ghost use Rattle.g1_command.specs.Values.{Because};
+ghost use Rattle.g1_answers.specs.Asked.{IsSharingOf, HasNoNumberOf, sharing_options};
+
 use crate::question::Sharing;
 use clap::ArgMatches;
 use g1_command::{Argument, BUDGET, FLAG, Form, Misuse, VALUE, required_number};
@@ -51,7 +56,10 @@ pub const NEEDED_BUDGET: Argument = Argument {
 static TEAM: [Argument; 2] = [WORKERS, CHUNK];
 
 /// How the work is shared, as `WORKERS` and `CHUNK` give it.
-pub fn sharing_of(alloc: Global, values: &ArgMatches<'_>) -> Result<Sharing, Misuse> {
+pub fn sharing_of(alloc: Global, values: &ArgMatches<'_>) -> Result<Sharing, Misuse>
+    ensures sharing { IfOk result (IsSharingOf (rows_of (found_of values.now))) }
+    ensures refused { IfErr result (Because (HasNoNumberOf sharing_options (rows_of (found_of values.now)))) }
+{
     let [workers, chunk] = &TEAM;
     Ok(Sharing {
         workers: required_number(alloc, values, workers)?,

@@ -1,8 +1,12 @@
 //! What is asked of an image.
-ghost use Rattle.std.specs.Prelude.{◌≡◌, ◌⊎◌, ℕ, IfOk, IfErr};
+ghost use Rattle.std.specs.Prelude.{◌≡◌, ◌⊎◌, ℕ, codes, IfOk, IfErr};
+ghost use Rattle.clap.specs.Words.{found_of, rows_of};
 ghost use Rattle.g1_choose.specs.Cost.{IsCost};
 ghost use Rattle.g1_work.specs.Team.{AreWorkers, IsChunk};
 ghost use Rattle.g1_answers.specs.Numbers.{RefusesNumbers, RefusesQuestion, RefusesPause, RefusesImage, AreSettingsOf, IsChoiceOf, cost_asked};
+
+ghost use Rattle.g1_command.specs.Values.{Because};
+ghost use Rattle.g1_answers.specs.Asked.{IsQuestionOf, IsPauseOf, HasNoNumberOf, number_options};
 
 use crate::arguments::sharing_of;
 use clap::ArgMatches;
@@ -59,7 +63,10 @@ pub struct Sharing {
 static BUDGET: Argument = BUDGET_OPTION;
 
 /// What the values of `pause` ask for, except the regions.
-pub fn pause_of(alloc: Global, values: &ArgMatches<'_>) -> Result<Pause, Misuse> {
+pub fn pause_of(alloc: Global, values: &ArgMatches<'_>) -> Result<Pause, Misuse>
+    ensures pause { IfOk result (IsPauseOf (rows_of (found_of values.now))) }
+    ensures refused { IfErr result (Because (HasNoNumberOf number_options (rows_of (found_of values.now)))) }
+{
     Ok(Pause {
         sharing: sharing_of(alloc, values)?,
         cost: cost_of(alloc, values)?,
@@ -73,18 +80,44 @@ pub fn question_of(
     alloc: Global,
     name: &str,
     values: &ArgMatches<'_>,
-) -> Result<Option<Question>, Misuse> {
+) -> Result<Option<Question>, Misuse>
+    ensures question { IfOk result (IsQuestionOf name.now (rows_of (found_of values.now))) }
+    ensures refused { IfErr result (Because (HasNoNumberOf number_options (rows_of (found_of values.now)))) }
+{
     match name {
-        "show" => Ok(Some(Question::Regions(sharing_of(alloc, values)?))),
+        "show" => show_question(alloc, values),
         "check" => Ok(Some(Question::Cover)),
-        "live" => Ok(Some(Question::Live(sharing_of(alloc, values)?))),
-        "choose" => Ok(Some(Question::Candidates {
-            sharing: sharing_of(alloc, values)?,
-            cost: cost_of(alloc, values)?,
-            budget: required_number(alloc, values, &BUDGET)?,
-        })),
+        "live" => live_question(alloc, values),
+        "choose" => choose_question(alloc, values),
         _ => Ok(None),
     }
+}
+
+fn show_question(alloc: Global, values: &ArgMatches<'_>) -> Result<Option<Question>, Misuse>
+    ensures question { IfOk result (IsQuestionOf (codes "show") (rows_of (found_of values.now))) }
+    ensures refused { IfErr result (Because (HasNoNumberOf number_options (rows_of (found_of values.now)))) }
+{
+    let sharing = sharing_of(alloc, values)?;
+    Ok(Some(Question::Regions(sharing)))
+}
+
+fn live_question(alloc: Global, values: &ArgMatches<'_>) -> Result<Option<Question>, Misuse>
+    ensures question { IfOk result (IsQuestionOf (codes "live") (rows_of (found_of values.now))) }
+    ensures refused { IfErr result (Because (HasNoNumberOf number_options (rows_of (found_of values.now)))) }
+{
+    let sharing = sharing_of(alloc, values)?;
+    Ok(Some(Question::Live(sharing)))
+}
+
+fn choose_question(alloc: Global, values: &ArgMatches<'_>) -> Result<Option<Question>, Misuse>
+    ensures question { IfOk result (IsQuestionOf (codes "choose") (rows_of (found_of values.now))) }
+    ensures refused { IfErr result (Because (HasNoNumberOf number_options (rows_of (found_of values.now)))) }
+{
+    Ok(Some(Question::Candidates {
+        sharing: sharing_of(alloc, values)?,
+        cost: cost_of(alloc, values)?,
+        budget: required_number(alloc, values, &BUDGET)?,
+    }))
 }
 
 // The costs of a command that takes none.
