@@ -2,3 +2,4 @@ pub mod Delivered
 pub mod Numerals
 pub mod Got
 pub mod Tabled
+pub mod Listed

@@ -2,3 +2,4 @@ pub mod Deliveries
 pub mod Refusals
 pub mod Values
 pub mod Table
+pub mod Lists

@@ -1,4 +1,10 @@
 //! The regions of `--set` and `--young`: numbers, and lists of numbers and of ranges, as 1,2,5-9.
+ghost use Rattle.std.specs.Prelude.{◌≡◌, ◌≤◌, ◌<◌, ℕ, List, [], ◌∷◌, ◌++◌, map, true, IsErr, IfOk, IfErr, OnOk};
+ghost use Rattle.std.specs.Bool.{MatchBool};
+ghost use Rattle.g1_words.specs.Lists.{has};
+ghost use Rattle.g1_command.specs.Values.{IsBelow, Because};
+ghost use Rattle.g1_command.specs.Lists.{IsRegionOfImage, AreRegionsIn, AddsParts, AddNone, AddsRegions, HasTwice, IsNamed, parts_of, rising};
+
 use crate::table::Argument;
 use crate::values::{Misuse, region_in};
 use g1_words::Marks;
@@ -66,7 +72,10 @@ fn is_list(word: &str) -> bool {
 
 /// The regions that these lists name, in their order. Each is one that an image may have, and none is there twice; but they
 /// need not be those of an image.
-pub fn regions_in(alloc: Global, argument: &Argument, lists: &[&str]) -> Result<Vec<u32>, Misuse> {
+pub fn regions_in(alloc: Global, argument: &Argument, lists: &[&str]) -> Result<Vec<u32>, Misuse>
+    ensures regions { IfOk result (λ v. AreRegionsIn (map (λ s. s.now) lists.now) v.items) }
+    ensures refused { IfErr result (Because ((regions : List ℕ) → AreRegionsIn (map (λ s. s.now) lists.now) regions → ⊥)) }
+{
     let mut named = Named {
         regions: Vec::new(alloc),
         seen: Marks::none(alloc, MOST as usize)?,
@@ -93,7 +102,12 @@ fn push_list(
     argument: &Argument,
     list: &str,
     named: &mut Named,
-) -> Result<(), Misuse> {
+) -> Result<(), Misuse>
+    requires { IsNamed named.old }
+    ensures added { OnOk result (AddsParts (parts_of list.now) named.old.regions.items named.new.regions.items) }
+    ensures marked { OnOk result (IsNamed named.new) }
+    ensures refused { IfErr result (Because (AddNone (parts_of list.now) named.old.regions.items)) }
+{
     for part in list.split(',') {
         push_part(alloc, argument, part, named)?;
     }
@@ -105,7 +119,12 @@ fn push_part(
     argument: &Argument,
     part: &str,
     named: &mut Named,
-) -> Result<(), Misuse> {
+) -> Result<(), Misuse>
+    requires { IsNamed named.old }
+    ensures added { OnOk result (AddsParts (part.now ∷ []) named.old.regions.items named.new.regions.items) }
+    ensures marked { OnOk result (IsNamed named.new) }
+    ensures refused { IfErr result (Because (AddNone (part.now ∷ []) named.old.regions.items)) }
+{
     // A region alone is a range of one.
     let (first, last) = part.split_once('-').unwrap_or((part, part));
     let first = region_of_image(alloc, argument, first)?;
@@ -113,16 +132,32 @@ fn push_part(
     if first > last {
         return refuse(alloc, argument, part, "a range rises");
     }
-    for region in first..=last {
-        if !push_region(named, region)? {
-            return refuse(alloc, argument, part, "a region is given twice");
-        }
+    if !push_range(named, first, last)? {
+        return refuse(alloc, argument, part, "a region is given twice");
     }
     Ok(())
 }
 
+// Adds the regions of a range, and returns whether none of them was there.
+fn push_range(named: &mut Named, first: u32, last: u32) -> Result<bool, AllocError>
+    requires named { IsNamed named.old }
+    requires rises { first ≤ last }
+    requires low { last < 4096 }
+    ensures { IfOk result (λ is_new. MatchBool is_new (AddsRegions (rising first last) named.old named.new) (HasTwice (named.old.regions.items ++ rising first last))) }
+{
+    for region in first..=last {
+        if !push_region(named, region)? {
+            return Ok(false);
+        }
+    }
+    Ok(true)
+}
+
 // A region that an image may have.
-fn region_of_image(alloc: Global, argument: &Argument, text: &str) -> Result<u32, Misuse> {
+fn region_of_image(alloc: Global, argument: &Argument, text: &str) -> Result<u32, Misuse>
+    ensures region { IfOk result (λ r. IsRegionOfImage r text.now) }
+    ensures refused { IfErr result (Because (IsBelow 4096 text.now → ⊥)) }
+{
     let region = region_in(alloc, argument, text)?;
     if region < MOST {
         Ok(region)
@@ -132,7 +167,11 @@ fn region_of_image(alloc: Global, argument: &Argument, text: &str) -> Result<u32
 }
 
 // Adds a region, and returns whether it was not there.
-fn push_region(named: &mut Named, region: u32) -> Result<bool, AllocError> {
+fn push_region(named: &mut Named, region: u32) -> Result<bool, AllocError>
+    requires named { IsNamed named.old }
+    requires low { region < 4096 }
+    ensures { IfOk result (λ is_new. MatchBool is_new (AddsRegions (region ∷ []) named.old named.new) (has named.old.regions.items region ≡ true)) }
+{
     let at = region as usize;
     if at >= named.seen.len() || named.seen.is_set(at) {
         return Ok(false);
@@ -142,7 +181,9 @@ fn push_region(named: &mut Named, region: u32) -> Result<bool, AllocError> {
     Ok(true)
 }
 
-fn refuse(alloc: Global, argument: &Argument, part: &str, why: &str) -> Result<(), Misuse> {
+fn refuse(alloc: Global, argument: &Argument, part: &str, why: &str) -> Result<(), Misuse>
+    ensures { IsErr result }
+{
     let shown = argument.shown(alloc)?;
     Err(Misuse::Value(format!(in alloc; "invalid value '{part}' for '{shown}': {why}")?))
 }
