@@ -3,7 +3,7 @@ use Rattle.std.proofs.Common.{◌≡◌, ◌<◌, ◌≤◌, ℕ, suc, ◌+◌, 
 use Rattle.std.proofs.Common.{refl, sym, ap, ◌∙◌, subst, arith, true≢false}
 use Rattle.std.proofs.lemmas.List.{length-replicate, flat_map_more}
 use Rattle.std.specs.List.{range_with_len}
-use Rattle.std.specs.Prelude.{slice_index_or}
+use Rattle.std.specs.Prelude.{slice_index_or, IfSome}
 use Rattle.g1_words.specs.declared.object.Object.{Object}
 use Rattle.g1_words.specs.Heap.{Heap, objects, objects_in, object_at, start, regions}
 use Rattle.g1_words.specs.Lists.{has}
@@ -128,7 +128,7 @@ module _ (h : Heap) (window : List ℕ) (valid : IsValid h) (rising : AreRegions
 -- the parts of a scope, except its numbering
 pub record HasParts (s : Scope) : Type 0 where
   pub valid : IsValid s.heap.now
-  pub starts : IsStartsOf s.heap.now s.starts.now
+  pub starts : IfSome s.starts (λ t. IsStartsOf s.heap.now t.now)
   pub regions : AreRegions s.heap.now s.window.now
   pub positions : AreWindowPositions s.window.now s.positions.now
   pub count : length s.positions.now ≡ s.heap.now.geometry.n

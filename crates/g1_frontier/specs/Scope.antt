@@ -1,5 +1,5 @@
 -- What a search goes over.
-use Rattle.std.specs.Prelude.{◌≡◌, ◌≤◌, ℕ, ◌*◌, List, Bool, filter, length}
+use Rattle.std.specs.Prelude.{◌≡◌, ◌≤◌, ℕ, ◌*◌, List, Bool, filter, length, IfSome}
 use Rattle.g1_words.specs.Geometry.{most_words}
 use Rattle.g1_words.specs.References.{named}
 use Rattle.g1_words.specs.Valid.{IsValid}
@@ -39,7 +39,7 @@ place_count s = count_by_numbering s.numbering.now (length s.window.now * s.heap
 -- the parts belong together
 pub record IsScope (s : Scope) : Type 0 where
   pub valid : IsValid s.heap.now
-  pub starts : IsStartsOf s.heap.now s.starts.now
+  pub starts : IfSome s.starts (λ t. IsStartsOf s.heap.now t.now)
   pub regions : AreRegions s.heap.now s.window.now
   pub positions : AreWindowPositions s.window.now s.positions.now
   pub count : length s.positions.now ≡ s.heap.now.geometry.n

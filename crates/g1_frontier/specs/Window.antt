@@ -30,6 +30,10 @@ AreOutside h window cards = (c : ℕ) → Contains cards c → card_in h window 
 abbrev pub LeadIn : Heap → List ℕ → List ℕ → Type 0
 LeadIn h window cards = (e : Ref) → Contains (refs h) e → in_set h window e.target ≡ true → in_set h window e.slot ≡ false → Contains cards (card_of h e.slot)
 
+-- no slot outside the window references an object in it
+abbrev pub IsClosed : Heap → List ℕ → Type 0
+IsClosed h window = LeadIn h window []
+
 -- where a region stands in the window
 abbrev pub position : List ℕ → ℕ → ℕ
 position [] r = 0

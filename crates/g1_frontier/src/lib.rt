@@ -35,6 +35,7 @@
 //! queue: it reads the headers of the next objects in the queue at once, then their slots, and ends when
 //! nothing is left in the queue. `discover_seen` hands on what it saw on its way: the sizes of the
 //! survivors, and the slots on the cards that lead into the window, each with its word.
+//! `discover_from_roots` searches a window that no slot outside references into, so without cards.
 //!
 //! So the answer is the same for all workers and chunk sizes. A round takes memory in proportion to
 //! what it looks at and finds. A region's place in the window is in a table of four bytes
@@ -60,4 +61,4 @@ mod survivors;
 pub use found::{Found, Seen};
 pub use item::Item;
 pub use round::claim_round;
-pub use survivors::{discover, discover_seen};
+pub use survivors::{discover, discover_from_roots, discover_seen};

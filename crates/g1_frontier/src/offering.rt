@@ -16,7 +16,6 @@ use crate::queue::read_headers;
 use crate::scope::Scope;
 use crate::sought::Sought;
 use g1_claim::{ClaimSeat, Claims};
-use g1_rem::slots_on;
 use g1_words::{Fault, Heap, Object};
 use g1_work::Task;
 use std::alloc::{AllocError, Global};
@@ -140,7 +139,7 @@ impl<'a> Offers<'a> {
         ensures { OnOk result (HasTried (place_in self.now.scope.now) (flat_map (λ p. aims_in self.now.scope.now (base + p) (word self.now.scope.now.heap.now p)) (slots_on self.now.scope.now.heap.now card)) holder.old holder.new) }
     {
         let words = self.scope.heap.words();
-        let slots = slots_on(alloc, self.scope.heap, self.scope.starts, card);
+        let slots = self.scope.slots_on(alloc, card)?;
         for slot in slots.as_slice() {
             self.offer_named(holder, words.at(*slot), base, *slot)?;
         }

@@ -8,7 +8,6 @@ ghost use Rattle.g1_frontier.specs.Found.{IsFound};
 use crate::found::{Found, Seen};
 use crate::offering::HEADERS_AHEAD;
 use crate::scope::Scope;
-use g1_rem::slots_on;
 use g1_words::{Heap, Marks, Object};
 use std::alloc::{AllocError, Global};
 
@@ -132,7 +131,7 @@ impl Queue {
         ensures listed { OnOk result (leads.new.items ≡ leads.old.items ++ card_leads scope.now card) }
     {
         let words = scope.heap.words();
-        let slots = slots_on(alloc, scope.heap, scope.starts, card);
+        let slots = scope.slots_on(alloc, card)?;
         for slot in slots.as_slice() {
             self.note_slot(scope, *slot, words.at(*slot), leads)?;
         }

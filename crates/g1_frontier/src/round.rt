@@ -340,7 +340,7 @@ pub fn claim_round<R: Threads + Sync, G: Gate + Sync>(
     let positions = positions(alloc, regions, window)?;
     let scope = Scope {
         heap,
-        starts,
+        starts: Some(starts),
         window,
         positions: positions.as_slice(),
         numbering: &Numbering::Words,

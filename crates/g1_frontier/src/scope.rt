@@ -3,15 +3,17 @@ ghost use Rattle.g1_words.specs.Geometry.{most_regions};
 ghost use Rattle.g1_frontier.specs.Window.{AreRising, AreWindowPositions};
 
 use crate::numbers::Numbers;
-use g1_rem::Starts;
+use g1_rem::{Starts, slots_on};
 use g1_words::{Heap, region_of};
+use smallvec::SmallVec;
 use std::alloc::{AllocError, Global};
 
 /// A heap, and the regions that are searched.
 #[derive(Drop)]
 pub struct Scope<'a> {
     pub heap: &'a Heap,
-    pub starts: &'a Starts,
+    /// None if the search has no cards.
+    pub starts: Option<&'a Starts>,
     pub window: &'a [u32],
     /// By region number, one more than where the region stands in the window, or 0.
     pub positions: &'a [u32],
@@ -52,7 +54,9 @@ pub(crate) fn positions(alloc: Global, regions: u64, window: &[u32]) -> Result<V
 }
 
 impl<'a> Scope<'a> {
-    ghost use Rattle.std.specs.Prelude.{◌≡◌, ◌<◌, ◌+◌, ◌*◌, true, false, [], length, IfSome, IfNone};
+    ghost use Rattle.std.specs.Prelude.{◌≡◌, ◌<◌, ◌+◌, ◌*◌, true, false, [], length, IfOk, IfSome, IfNone};
+    ghost use Rattle.g1_rem.specs.Starts.{card_count};
+    ghost use Rattle.g1_rem.specs.Slots.{slots_on};
     ghost use Rattle.g1_frontier.specs.Window.{place};
     ghost use Rattle.g1_frontier.specs.Scope.{IsScope, inside, names_in, place_in, place_count};
 
@@ -113,5 +117,21 @@ impl<'a> Scope<'a> {
         let address = word - 1;
         let place = self.place(address)?;
         Some(Target { place, address })
+    }
+
+    /// The addresses of the slots on a card, rising. Without starts it makes them for this card alone. No
+    /// search comes to that: it is lent them if it has cards.
+    pub fn slots_on(&self, alloc: Global, card: u32) -> Result<SmallVec<u64, 64>, AllocError>
+        requires scope { IsScope self.now }
+        requires card { card < card_count self.now.heap.now }
+        ensures { IfOk result (λ v. v.items ≡ slots_on self.now.heap.now card) }
+    {
+        match self.starts {
+            Some(starts) => Ok(slots_on(alloc, self.heap, starts, card)),
+            None => match Starts::build(alloc, self.heap) {
+                Ok(starts) => Ok(slots_on(alloc, self.heap, &starts, card)),
+                Err(_) => Err(AllocError),
+            },
+        }
     }
 }

@@ -1,10 +1,10 @@
-ghost use Rattle.std.specs.Prelude.{◌≡◌, ◌<◌, ◌≤◌, ◌^◌, ◌+◌, ◌*◌, ◌++◌, ℕ, List, map, length, vec_len, sum_by, IfOk, IfErr, OnOk};
+ghost use Rattle.std.specs.Prelude.{◌≡◌, ◌<◌, ◌≤◌, ◌^◌, ◌+◌, ◌*◌, ◌++◌, ℕ, List, map, length, vec_len, sum_by, IfOk, IfErr, IfSome, OnOk};
 ghost use Rattle.std.specs.List.{All};
 ghost use Rattle.g1_words.specs.declared.fault.Fault.TheVariants.{Memory};
 ghost use Rattle.g1_words.specs.Survivors.{Survivors};
 ghost use Rattle.g1_work.specs.Team.{IsTeam};
 ghost use Rattle.g1_rem.specs.Starts.{IsStartsOf};
-ghost use Rattle.g1_frontier.specs.Window.{AreRegions, AreCards, AreOutside, LeadIn};
+ghost use Rattle.g1_frontier.specs.Window.{AreRegions, AreCards, AreOutside, LeadIn, IsClosed};
 ghost use Rattle.g1_frontier.specs.Items.{first_items, numbered_on};
 ghost use Rattle.g1_frontier.specs.Scope.{IsScope};
 ghost use Rattle.g1_frontier.specs.Search.{IsSearching};
@@ -237,6 +237,56 @@ pub fn discover_seen<R: Threads + Sync, G: Gate + Sync>(
     gate: &G,
 ) -> Result<Found, Fault>
     requires starts { IsStartsOf heap.now starts.now }
+    requires window { AreRegions heap.now window.now }
+    requires cards { AreCards heap.now cards.now }
+    requires outside { AreOutside heap.now window.now cards.now }
+    requires lead_in { LeadIn heap.now window.now cards.now }
+    requires team { IsTeam workers chunk }
+    ensures ok { IfOk result (IsFound heap.now window.now) }
+    ensures memory { IfErr result (λ e. e ≡ Memory) }
+{
+    let starts = Some(starts);
+    discover_in(rt, alloc, heap, starts, window, cards, workers, chunk, gate)
+}
+
+/// As `discover_seen`, for a window that no slot outside references into, as that of all regions in
+/// use. So it takes no cards, and no starts to look at them with.
+///
+/// # Errors
+/// `Memory`.
+pub fn discover_from_roots<R: Threads + Sync, G: Gate + Sync>(
+    rt: &R,
+    alloc: Global,
+    heap: &Heap,
+    window: &[u32],
+    workers: u64,
+    chunk: u64,
+    gate: &G,
+) -> Result<Found, Fault>
+    requires window { AreRegions heap.now window.now }
+    requires closed { IsClosed heap.now window.now }
+    requires team { IsTeam workers chunk }
+    ensures ok { IfOk result (IsFound heap.now window.now) }
+    ensures memory { IfErr result (λ e. e ≡ Memory) }
+{
+    let cards: [u32; 0] = [];
+    discover_in(rt, alloc, heap, None, window, &cards, workers, chunk, gate)
+}
+
+// As `discover_seen`. Without starts each card takes a pass over the heap, so a search that has cards is lent
+// them.
+fn discover_in<R: Threads + Sync, G: Gate + Sync>(
+    rt: &R,
+    alloc: Global,
+    heap: &Heap,
+    starts: Option<&Starts>,
+    window: &[u32],
+    cards: &[u32],
+    workers: u64,
+    chunk: u64,
+    gate: &G,
+) -> Result<Found, Fault>
+    requires starts { IfSome starts (λ t. IsStartsOf heap.now t.now) }
     requires window { AreRegions heap.now window.now }
     requires cards { AreCards heap.now cards.now }
     requires outside { AreOutside heap.now window.now cards.now }

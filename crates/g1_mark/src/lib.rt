@@ -6,10 +6,11 @@
 //!    those of a part of the objects each, one worker for each 16,384 of them, and one thread adds
 //!    their lists. If one worker searched alone, it has seen the objects' sizes, and adds them up.
 //!
-//! `live_bytes` does both, `live_objects` the first alone.
+//! `live_bytes` does both, `live_objects` the first alone. They are lent the starts of the heap, but look
+//! at no card: `count_live_bytes` is `live_bytes` without them.
 #![tactic(auto)]
 
 mod bytes;
 mod live;
 
-pub use live::{live_bytes, live_objects};
+pub use live::{count_live_bytes, live_bytes, live_objects};

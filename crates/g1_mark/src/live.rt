@@ -9,7 +9,7 @@ ghost use Rattle.g1_frontier.specs.Found.{IsFound};
 ghost use Rattle.g1_mark.specs.Marked.{used};
 
 use crate::bytes::{bytes_at_by, bytes_of, used_regions};
-use g1_frontier::{Found, discover_seen};
+use g1_frontier::{Found, discover_from_roots};
 use g1_rem::Starts;
 use g1_words::{Fault, Heap};
 use g1_work::{Gate, Team};
@@ -33,7 +33,7 @@ pub fn live_objects<R: Threads + Sync, G: Gate + Sync>(
     ensures ok { IfOk result (λ v. Survivors heap.now (used heap.now) v.items) }
     ensures memory { IfErr result (λ e. e ≡ Memory) }
 {
-    let found = found_live(rt, alloc, heap, starts, team, gate)?;
+    let found = found_live(rt, alloc, heap, team, gate)?;
     Ok(found.survivors)
 }
 
@@ -42,24 +42,19 @@ fn found_live<R: Threads + Sync, G: Gate + Sync>(
     rt: &R,
     alloc: Global,
     heap: &Heap,
-    starts: &Starts,
     team: Team,
     gate: &G,
 ) -> Result<Found, Fault>
-    requires starts { IsStartsOf heap.now starts.now }
     ensures valid { IsValid heap.now }
     ensures ok { IfOk result (IsFound heap.now (used heap.now)) }
     ensures memory { IfErr result (λ e. e ≡ Memory) }
 {
     let window = used_regions(alloc, heap)?;
-    let cards: [u32; 0] = [];
-    discover_seen(
+    discover_from_roots(
         rt,
         alloc,
         heap,
-        starts,
         window.as_slice(),
-        &cards,
         team.workers(),
         team.chunk(),
         gate,
@@ -88,8 +83,28 @@ pub fn live_bytes<R: Threads + Sync, G: Gate + Sync>(
     ensures only { IfOk result (λ v. (l : List ℕ) → IsLiveBytes heap.now l → l ≡ v.items) }
     ensures memory { IfErr result (λ e. e ≡ Memory) }
 {
+    count_live_bytes(rt, alloc, heap, workers, chunk, gate)
+}
+
+/// As `live_bytes`, without starts: the search looks at no card.
+///
+/// # Errors
+/// `Memory`.
+pub fn count_live_bytes<R: Threads + Sync, G: Gate + Sync>(
+    rt: &R,
+    alloc: Global,
+    heap: &Heap,
+    workers: u64,
+    chunk: u64,
+    gate: &G,
+) -> Result<Vec<u64>, Fault>
+    requires team { IsTeam workers chunk }
+    ensures ok { IfOk result (λ v. IsLiveBytes heap.now v.items) }
+    ensures only { IfOk result (λ v. (l : List ℕ) → IsLiveBytes heap.now l → l ≡ v.items) }
+    ensures memory { IfErr result (λ e. e ≡ Memory) }
+{
     let team = Team::new(workers, chunk);
-    let live = found_live(rt, alloc, heap, starts, team, gate)?;
+    let live = found_live(rt, alloc, heap, team, gate)?;
     let objects = live.survivors.as_slice();
     match &live.seen {
         Some(seen) => Ok(bytes_of(alloc, heap, objects, seen.sizes.as_slice())?),

@@ -8,9 +8,9 @@ ghost use Rattle.g1_text.specs.Lines.{text_of};
 ghost use Rattle.g1_tables.specs.Tables.{live_lines, line_of, choice_lines, ListsChoice, IsLiveText, IsChoiceText};
 
 use g1_choose::{Candidate, Cost, buy, order};
-use g1_mark::live_bytes;
+use g1_mark::count_live_bytes;
 use g1_pause::{Before, Settings, count_live};
-use g1_rem::{Starts, Tracked};
+use g1_rem::Tracked;
 use g1_words::{Fault, Heap};
 use g1_work::Open;
 use std::alloc::{AllocError, Global};
@@ -31,8 +31,7 @@ pub fn live_lines<T: Threads + Sync>(
     ensures memory { IfErr result (λ e. e ≡ Fault.Memory) }
 {
     let (workers, chunk) = (settings.workers(), settings.chunk());
-    let starts = Starts::build_by(rt, alloc, heap, workers)?;
-    let live = live_bytes(rt, alloc, heap, &starts, workers, chunk, &Open)?;
+    let live = count_live_bytes(rt, alloc, heap, workers, chunk, &Open)?;
     Ok(live_text(alloc, &live)?)
 }
 

@@ -1,7 +1,6 @@
 //! A heap in a few lines.
 use g1_image::Image;
-use g1_mark::live_bytes;
-use g1_rem::Starts;
+use g1_mark::count_live_bytes;
 use g1_words::{Fault, Heap, Kind};
 use g1_work::{Open, USUAL_CHUNK, used_words};
 use std::alloc::{AllocError, Global};
@@ -11,8 +10,7 @@ use std::thread::Threads;
 /// each.
 pub fn summary<T: Threads + Sync>(rt: &T, alloc: Global, image: &Image) -> Result<String, Fault> {
     let heap = image.heap();
-    let starts = Starts::build(alloc, heap)?;
-    let live = live_bytes(rt, alloc, heap, &starts, 1, USUAL_CHUNK, &Open)?;
+    let live = count_live_bytes(rt, alloc, heap, 1, USUAL_CHUNK, &Open)?;
     let mut text = String::new(alloc);
     push_lines(&mut text, image, live.as_slice())?;
     Ok(text)

@@ -20,7 +20,7 @@ offer_named-requires-clause-reference c =
     let s = c.args.self.now.scope.now in
     let xs = c.as_slice-slot-items.result.now in
     let p : ℕ = get_or xs c.loop-slot.slot-index 0 in
-    let listed = c.as_slice-slot-items.ensures ∙ c.slots_on-slots.ensures.items in
+    let listed = c.as_slice-slot-items.ensures ∙ c.in_ok-slots.ensures in
     subst (λ x. IsReference s.heap.now x) (sym (c.at.ensures ∙ ap (λ l. get_or l p 0) c.words-words.ensures.same))
     (card_reference s.heap.now c.requires.places.scope.valid c.args.card p (subst (λ l. In l p) listed (In-get xs c.loop-slot.slot-index 0 c.loop-slot-test.true)))
 
@@ -29,7 +29,7 @@ offer_named-requires-clause-ranks c =
     let s = c.args.self.now.scope.now in
     let xs = c.as_slice-slot-items.result.now in
     let p : ℕ = get_or xs c.loop-slot.slot-index 0 in
-    let listed = c.as_slice-slot-items.ensures ∙ c.slots_on-slots.ensures.items in
+    let listed = c.as_slice-slot-items.ensures ∙ c.in_ok-slots.ensures in
     subst (λ x. AreRanks (aims_in s (c.args.base + p) x)) (sym (c.at.ensures ∙ ap (λ l. get_or l p 0) c.words-words.ensures.same))
     (all_part (λ q. q.0 < 2 ^ 32) (λ p. aims_in s (c.args.base + p) (word s.heap.now p)) (slots_on s.heap.now c.args.card) p c.requires.ranks
     (subst (λ l. In l p) listed (In-get xs c.loop-slot.slot-index 0 c.loop-slot-test.true)))
@@ -48,7 +48,7 @@ returns c =
     let s = c.args.self.now.scope.now in
     let xs = c.as_slice-slot-items.result.now in
     subst (λ l. HasTried (place_in s) (flat_map (λ p. aims_in s (c.args.base + p) (word s.heap.now p)) l) c.args.holder.now c.loop-slot.holder)
-    (take_all xs c.loop-slot.slot-index c.loop-slot-test.false ∙ c.as_slice-slot-items.ensures ∙ c.slots_on-slots.ensures.items) c.loop-slot.invariant
+    (take_all xs c.loop-slot.slot-index c.loop-slot-test.false ∙ c.as_slice-slot-items.ensures ∙ c.in_ok-slots.ensures) c.loop-slot.invariant
 
 pub loop-slot-smaller : goal.loop-slot-smaller
 loop-slot-smaller c = omega (arith, c.loop-slot-test.true)

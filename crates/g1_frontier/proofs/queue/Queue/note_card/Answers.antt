@@ -27,7 +27,7 @@ note_slot-requires-clause-reference c =
     let s = c.args.scope.now in
     let xs = c.as_slice-slot-items.result.now in
     let p : ℕ = get_or xs c.loop-slot.slot-index 0 in
-    let listed = c.as_slice-slot-items.ensures ∙ c.slots_on-slots.ensures.items in
+    let listed = c.as_slice-slot-items.ensures ∙ c.in_ok-slots.ensures in
     subst (λ x. IsReference s.heap.now x) (sym (c.at.ensures ∙ ap (λ l. get_or l p 0) c.words-words.ensures.same))
     (card_reference s.heap.now c.requires.scope.valid c.args.card p (subst (λ l. In l p) listed (In-get xs c.loop-slot.slot-index 0 c.loop-slot-test.true)))
 
@@ -52,11 +52,11 @@ returns-clause-noted c =
     let s = c.args.scope.now in
     let xs = c.as_slice-slot-items.result.now in
     subst (λ l. HasNoted s (flat_map (λ p. names_in s (word s.heap.now p)) l) c.args.self.now c.loop-slot.self)
-    (take_all c.loop-slot.slot-index xs c.loop-slot-test.false ∙ c.as_slice-slot-items.ensures ∙ c.slots_on-slots.ensures.items) c.loop-slot.invariant.noted
+    (take_all c.loop-slot.slot-index xs c.loop-slot-test.false ∙ c.as_slice-slot-items.ensures ∙ c.in_ok-slots.ensures) c.loop-slot.invariant.noted
 
 pub returns-clause-listed : goal.returns-clause-listed
 returns-clause-listed c =
     let s = c.args.scope.now in
     let xs = c.as_slice-slot-items.result.now in
     c.loop-slot.invariant.listed ∙ ap (λ l. c.args.leads.now.items ++ flat_map (λ p. leads_of s p (word s.heap.now p)) l)
-    (take_all c.loop-slot.slot-index xs c.loop-slot-test.false ∙ c.as_slice-slot-items.ensures ∙ c.slots_on-slots.ensures.items)
+    (take_all c.loop-slot.slot-index xs c.loop-slot-test.false ∙ c.as_slice-slot-items.ensures ∙ c.in_ok-slots.ensures)

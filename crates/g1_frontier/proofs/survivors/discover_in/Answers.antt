@@ -1,8 +1,8 @@
 use Rattle.std.proofs.Common.{inl, inr, arith, ap, sym, subst, length, ◌∙◌}
 use Rattle.g1_frontier.specs.Window.{AreRising, AreWindowPositions}
 use Rattle.g1_frontier.proofs.Numberings.{scope_by_either}
-use Rattle.g1_frontier.proofs.survivors.discover_seen.Goals as goal
-use Rattle.g1_frontier.proofs.survivors.discover_seen.Goals.{then-takes_rounds+in_ok-new_by, else-takes_rounds}
+use Rattle.g1_frontier.proofs.survivors.discover_in.Goals as goal
+use Rattle.g1_frontier.proofs.survivors.discover_in.Goals.{then-takes_rounds+in_ok-new_by, else-takes_rounds}
 
 pub survivors_in-requires-clause-scope : goal.survivors_in-requires-clause-scope
 survivors_in-requires-clause-scope g c κs within =

@@ -9,7 +9,7 @@ use Rattle.g1_frontier.specs.Found.{IsSeen}
 use Rattle.g1_frontier.proofs.Scopes.{all_from_in}
 use Rattle.g1_mark.specs.Marked.{used}
 use Rattle.g1_mark.proofs.Counting.{found_objects, found_once, live_counted}
-use Rattle.g1_mark.proofs.live.live_bytes.Goals as goal
+use Rattle.g1_mark.proofs.live.count_live_bytes.Goals as goal
 
 pub bytes_of-requires-clause-objects : goal.bytes_of-requires-clause-objects
 bytes_of-requires-clause-objects g c =
