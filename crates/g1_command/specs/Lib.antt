@@ -3,3 +3,4 @@ pub mod Refusals
 pub mod Values
 pub mod Table
 pub mod Lists
+pub mod Requests

@@ -1,11 +1,13 @@
 -- What clap reads of a table: of its arguments, its commands and the program.
-use Rattle.std.specs.Prelude.{ℕ, Bool, true, false, Option, Some, None, List, length, map, max, if◌then◌else◌}
+use Rattle.std.specs.Prelude.{◌≡◌, ℕ, Bool, true, false, Option, Some, None, is_some, List, length, map, find, max, if◌then◌else◌}
 use Rattle.std.specs.List.{fold}
+use Rattle.std.specs.Str.{bytes_eq}
 use Rattle.clap.specs.Lexer.{usize_max}
 use Rattle.clap.specs.Walk.{is_empty}
-use Rattle.clap.specs.Words.{App, Rule, Text, new_app, new_rule, with_rule, with_subcommand}
+use Rattle.clap.specs.Words.{App, Row, Rule, Text, new_app, new_rule, subcommand_rows_of, with_rule, with_subcommand}
 use Rattle.clap.specs.declared.builder.action.ArgAction.{ArgAction}
 use Rattle.clap.specs.declared.builder.action.ArgAction.TheVariants.{Set, SetTrue, Append}
+use Rattle.clap.specs.declared.parser.matches.ArgMatches.{ArgMatches}
 use Rattle.g1_command.specs.declared.table.Argument.{Argument}
 use Rattle.g1_command.specs.declared.table.Usage.{Usage}
 use Rattle.g1_command.specs.declared.table.Program.{Program}
@@ -74,3 +76,12 @@ no_command name = record (new_app name) { top = record (new_app name).top { no_b
 -- THE PROGRAM, as clap reads it: its commands in turn, one of which has to be given
 abbrev pub program_by : Program → App
 program_by program = fold with_command (no_command program.name.now) program.commands.now
+
+-- the first of the program's commands that has this name
+abbrev pub command_called : Text → Program → Option Usage
+command_called name program = find (λ u. bytes_eq u.name.now name) program.commands.now
+
+-- THE COMMAND among the words, by what clap found: its name, which is one of the program's, and the rows of its values
+pub record IsCommandOf (program : Program) (matches : ArgMatches) (name : Text) (rows : List Row) : Type 0 where
+  pub found : subcommand_rows_of matches ≡ Some (name, rows)
+  pub listed : is_some (command_called name program) ≡ true

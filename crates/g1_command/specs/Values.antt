@@ -1,9 +1,9 @@
 -- What the values of a command's options say, by the rows that clap found: each has an option's name and the texts of its
 -- values, those of its default if the words give none.
-use Rattle.std.specs.Prelude.{◌≡◌, ◌<◌, ◌^◌, ℕ, List, [], ◌∷◌, Option, Some, None, codes, unwrap_or, ⊤}
+use Rattle.std.specs.Prelude.{◌≡◌, ◌≢◌, ◌<◌, ◌^◌, ℕ, List, [], ◌∷◌, Option, Some, None, codes, unwrap_or, ⊤}
 use Rattle.std.specs.List.{AllZip, Any}
 use Rattle.std.specs.Str.Parse.{IsNumeral, digits_value}
-use Rattle.clap.specs.Words.{Row, Text, all_of, first_of}
+use Rattle.clap.specs.Words.{Row, Text, all_of, first_of, one_of}
 use Rattle.g1_choose.specs.declared.parameters.Cost.{Cost}
 use Rattle.g1_command.specs.declared.values.Misuse.{Misuse}
 use Rattle.g1_command.specs.declared.values.Misuse.TheVariants as misuse
@@ -45,6 +45,13 @@ texts_of rows option = unwrap_or (all_of option rows) []
 -- the regions of an argument, in their order
 abbrev pub AreRegionsOf : List Row → Text → List ℕ → Type 0
 AreRegionsOf rows option regions = AllZip IsRegion regions (texts_of rows option)
+
+-- a flag is on; off. What clap finds of a flag is the text of a truth value
+abbrev pub IsOn : List Row → Text → Type 0
+IsOn rows flag = (one_of flag rows ≢ None) × (one_of flag rows ≢ Some (codes "false"))
+
+abbrev pub IsOff : List Row → Text → Type 0
+IsOff rows flag = one_of flag rows ≢ Some (codes "true")
 
 -- THE COSTS that the options give
 pub record IsCostOf (rows : List Row) (cost : Cost) : Type 0 where

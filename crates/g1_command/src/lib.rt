@@ -27,6 +27,6 @@ pub use refusal::{Ending, Refusal, refuse, report};
 pub use streams::{BROKEN_PIPE, LineReader, deliver, deliver_text, read_all};
 pub use table::{Argument, FILE, FLAG, Form, Program, Usage, VALUE, match_words};
 pub use values::{
-    Misuse, help_or_refusal, number, number_in, read_request, region, region_in, regions,
+    Misuse, flag, help_or_refusal, number, number_in, read_request, region, region_in, regions,
     required_number, whole,
 };

@@ -1,10 +1,10 @@
 //! A program's commands as a table, and what clap makes of it.
-ghost use Rattle.std.specs.Prelude.{◌≡◌, true, false, Some, length, map, IfOk};
+ghost use Rattle.std.specs.Prelude.{◌≡◌, true, false, Some, length, map, option_map, IfOk};
 ghost use Rattle.std.specs.Option.{option_map_or};
 ghost use Rattle.clap.specs.Walk.{is_empty};
 ghost use Rattle.clap.specs.declared.builder.command.Command.TheViews.{out-Command};
 ghost use Rattle.clap.specs.Words.{app_of, rule_of, is_simple_and_free, fault_of, HasMatchesOf, FailsBy};
-ghost use Rattle.g1_command.specs.Table.{least_values, most_values, action_by, is_needed, is_place, rule_by, command_by, program_by};
+ghost use Rattle.g1_command.specs.Table.{least_values, most_values, action_by, is_needed, is_place, rule_by, command_by, program_by, command_called};
 
 use clap::{Arg, ArgAction, ArgMatches, Command, Error};
 use std::alloc::{AllocError, Global};
@@ -205,11 +205,8 @@ pub fn match_words<'a>(
 }
 
 /// The program's command of this name.
-pub fn command_named<'p>(program: &Program<'p>, name: &str) -> Option<&'p Usage> {
-    for usage in program.commands {
-        if usage.name == name {
-            return Some(usage);
-        }
-    }
-    None
+pub fn command_named<'p>(program: &Program<'p>, name: &str) -> Option<&'p Usage>
+    ensures { option_map (λ u. u.now) result ≡ command_called name.now program.now }
+{
+    program.commands.iter().find(|usage| usage.name == name)
 }

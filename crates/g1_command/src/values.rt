@@ -1,7 +1,8 @@
 //! Whole numbers among the values that clap found.
-ghost use Rattle.std.specs.Prelude.{◌≡◌, ◌^◌, OnOk, IfOk, IfErr, MatchOption};
-ghost use Rattle.clap.specs.Words.{first_of, found_of, rows_of};
-ghost use Rattle.g1_command.specs.Values.{IsBelow, IsNumber, IsNumberOf, IsRegion, AreRegionsOf, IfGiven, IsNoNumberOf, IsNoRegionOf, AreNoRegionsOf, IsValue, Because};
+ghost use Rattle.std.specs.Prelude.{◌≡◌, ◌^◌, true, false, OnOk, IfOk, IfErr, MatchOption};
+ghost use Rattle.clap.specs.Words.{first_of, found_of, kind_of, rows_of};
+ghost use Rattle.g1_command.specs.Requests.{IsRead, IsToldOf, IsUsageIf};
+ghost use Rattle.g1_command.specs.Values.{IsBelow, IsOn, IsOff, IsNumber, IsNumberOf, IsRegion, AreRegionsOf, IfGiven, IsNoNumberOf, IsNoRegionOf, AreNoRegionsOf, IsValue, Because};
 
 use crate::refusal::Refusal;
 use crate::table::{Argument, Program, Usage, build_command, command_named};
@@ -75,11 +76,13 @@ impl<T: Drop> From<AllocFailed<T>> for Misuse {
 
 impl Misuse {
     /// The refusal, with the usage of the command whose values these are.
-    pub fn refusal(self, alloc: Global, program: &Program<'_>, usage: &Usage) -> Refusal {
+    pub fn refusal(self, alloc: Global, program: &Program<'_>, usage: &Usage) -> Refusal
+        ensures { IsUsageIf (IsValue self) result }
+    {
         match self {
             Misuse::Value(message) => match with_usage(alloc, program, usage, message.as_str()) {
-                Ok(text) => Refusal::usage(text),
-                Err(error) => error.into(),
+                Ok(text) => Refusal::Told { status: 2, text },
+                Err(_) => Refusal::Fault(Fault::Memory),
             },
             Misuse::Memory => Refusal::Fault(Fault::Memory),
         }
@@ -114,6 +117,7 @@ pub fn read_request<Q: Drop, F: Fn(Global, &str, &ArgMatches<'_>) -> Result<Q, M
     request_of: F,
 ) -> Result<Q, Refusal>
     requires { F.IsAlwaysCallable request_of }
+    ensures { IsRead (F.post request_of alloc) program.now matches.now result }
 {
     if let Some((name, values)) = matches.subcommand()
         && let Some(usage) = command_named(program, name)
@@ -123,18 +127,24 @@ pub fn read_request<Q: Drop, F: Fn(Global, &str, &ArgMatches<'_>) -> Result<Q, M
             Err(misuse) => Err(misuse.refusal(alloc, program, usage)),
         };
     }
-    let text = String::from_str(alloc, "error: a command is required\n")?;
-    Err(Refusal::usage(text))
+    match String::from_str(alloc, "error: a command is required\n") {
+        Ok(text) => Err(Refusal::Told { status: 2, text }),
+        Err(_) => Err(Refusal::Fault(Fault::Memory)),
+    }
 }
 
 /// What clap says instead of matches: a text that was asked for, or why the words are no request.
-pub fn help_or_refusal(alloc: Global, error: &Error) -> Result<String, Refusal> {
+pub fn help_or_refusal(alloc: Global, error: &Error) -> Result<String, Refusal>
+    ensures { IsToldOf (kind_of error.now) result }
+{
     if error.kind() == ErrorKind::OutOfMemory {
         return Err(Refusal::Fault(Fault::Memory));
     }
-    let text = format!(in alloc; "{error}")?;
+    let Ok(text) = format!(in alloc; "{error}") else {
+        return Err(Refusal::Fault(Fault::Memory));
+    };
     if error.use_stderr() {
-        Err(Refusal::usage(text))
+        Err(Refusal::Told { status: 2, text })
     } else {
         Ok(text)
     }
@@ -148,6 +158,14 @@ pub fn whole(text: &str) -> Option<u64>
         return None;
     }
     text.parse::<u64>().ok()
+}
+
+/// Whether a flag is given.
+pub fn flag(values: &ArgMatches<'_>, argument: &Argument) -> bool
+    ensures on { result ≡ true → IsOn (rows_of (found_of values.now)) argument.now.id.now }
+    ensures off { result ≡ false → IsOff (rows_of (found_of values.now)) argument.now.id.now }
+{
+    values.get_flag(argument.id)
 }
 
 /// The number of an argument, if it has one.

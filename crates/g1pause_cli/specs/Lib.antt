@@ -1,2 +1,4 @@
 pub mod Requests
 pub mod Endings
+pub mod Options
+pub mod Asks

@@ -1,4 +1,9 @@
 //! The commands and their arguments, and what help says of them.
+ghost use Rattle.std.specs.Prelude.{◌≡◌, codes};
+ghost use Rattle.std.specs.List.{fold};
+ghost use Rattle.g1_command.specs.Table.{with_command, no_command};
+ghost use Rattle.g1pause_cli.specs.Options.{g1pause};
+
 use g1_answers::{CHUNK, CHUNK_OF_OBJECTS, CHUNK_OF_REGIONS, NEEDED_BUDGET, REPACK, WORKERS};
 use g1_command::{Argument, BUDGET, BYTE, CARD, DIRTY, FIXED, Form, Program, Usage, VALUE};
 
@@ -17,7 +22,10 @@ Statuses:
 Example: g1pause show < IMAGE";
 
 /// The program, whose commands these are.
-pub fn program(commands: &[Usage]) -> Program<'_> {
+pub fn program(commands: &[Usage]) -> Program<'_>
+    ensures name { result.name.now ≡ codes "g1pause" }
+    ensures commands { result.commands ≡ commands.entry }
+{
     Program {
         name: NAME,
         version: "1.0.0",
@@ -28,7 +36,9 @@ pub fn program(commands: &[Usage]) -> Program<'_> {
 }
 
 /// The commands. Each is a static, since the check of all as one takes too many steps.
-pub fn commands() -> [Usage; 6] {
+pub fn commands() -> [Usage; 6]
+    ensures { fold with_command (no_command (codes "g1pause")) result ≡ g1pause }
+{
     [SHOW, CHECK, LIVE, CHOOSE, PAUSE, RUN]
 }
 

@@ -1,0 +1,18 @@
+use Rattle.std.proofs.Common.{inl}
+use Rattle.std.proofs.lemmas.Result.{err_from_is_err_and}
+use Rattle.clap.specs.Words.{found_of, rows_of}
+use Rattle.g1_command.proofs.Got.{because_so}
+use Rattle.g1_answers.proofs.Gathered.{wrong_sharing, wrong_cost}
+use Rattle.g1pause_cli.proofs.options.run_request.Goals as goal
+
+pub returns-in_err-sharing-clause-refused : goal.returns-in_err-sharing-clause-refused
+returns-in_err-sharing-clause-refused c =
+    let back = c.from_residual in
+    let p = err_from_is_err_and back.result back.ensures.1 in
+    rw (p.1, p.2) (because_so (λ bad. inl (wrong_sharing (rows_of (found_of c.args.values.now)) bad)) c.in_err-sharing.field-0.0 c.in_err-sharing.ensures.refused)
+
+pub returns-in_err-cost-clause-refused : goal.returns-in_err-cost-clause-refused
+returns-in_err-cost-clause-refused c =
+    let back = c.from_residual-in_err-cost in
+    let p = err_from_is_err_and back.result back.ensures.1 in
+    rw (p.1, p.2) (because_so (λ bad. inl (wrong_cost (rows_of (found_of c.args.values.now)) bad)) c.in_err-cost.field-0.0 c.in_err-cost.ensures.refused)
