@@ -8,5 +8,6 @@ pub mod Lookups
 pub mod Opening
 pub mod Passed
 pub mod Rising
+pub mod SameTexts
 pub mod Starting
 pub mod Taken

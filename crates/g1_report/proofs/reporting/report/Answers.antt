@@ -1,9 +1,10 @@
 use Rattle.std.proofs.Common.{sym, ◌∙◌, subst, string_bytes}
-use Rattle.g1_report.specs.Finding.{IsRefusal, IsFinding}
+use Rattle.g1_report.specs.Finding.{IsRefusal, IsFinding, IsVerdict}
 use Rattle.g1_report.specs.Answer.{AreByNumber, IsAnswer}
 use Rattle.g1_report.specs.Listed.{HandedOn, lists}
 use Rattle.g1_report.specs.Given.{AreNamedInOrder}
 use Rattle.g1_report.proofs.Passed.{passed_on, of_heaps}
+use Rattle.g1_report.proofs.SameTexts.{status_by_name}
 use Rattle.g1_report.proofs.reporting.report.Goals as goal
 
 pub returns-in_err-finding-clause-refused : goal.returns-in_err-finding-clause-refused
@@ -33,3 +34,12 @@ returns-clause-text g c = λ plain.
       answer = subst (λ s. IsAnswer s a c.in_ok-finding.finding c.in_ok-verdict.verdict.status text) sides.ensures.compared (c.in_ok-verdict.ensures.text named);
       taken = subst (λ s. HandedOn s (lists c.in_ok-finding.finding a.all) (g.L.Lines.taken c.args.out.now) (g.L.Lines.taken c.hand_on.new.out) text) sides.ensures.compared (c.in_ok-hand_on.ensures.all named);
     }
+
+pub returns-clause-by_name : goal.returns-clause-by_name
+returns-clause-by_name g c = λ x y asks.
+    let a = c.args.asked.now in
+    let sides = c.sides_of-sides in
+    let status = c.in_ok-verdict.verdict.status in
+    status_by_name a x y status asks
+    (of_heaps (λ h k. IsVerdict h k a.after.now.stale a.set.now a.fill status) sides.result.before.now a.before.now.image.heap sides.result.after.now a.after.now.image.heap
+    sides.ensures.before sides.ensures.after c.in_ok-verdict.ensures.verdict)
