@@ -13,6 +13,7 @@ use Rattle.g1_report.specs.declared.verdict.Finding.{Finding}
 use Rattle.g1_report.specs.declared.verdict.Finding.TheVariants.{Same, Differ, Stale}
 use Rattle.g1_report.specs.Wording.{Called, Compared, place_line, roots_line, stale_line, lost_line, same_line, have_moved, moved_line}
 use Rattle.g1_report.specs.Listed.{lists, HandedOn}
+use Rattle.g1_report.specs.Taken.{TakesFirst}
 use Rattle.g1_report.specs.Agreement.{KeepsSet}
 use Rattle.g1_report.specs.Finding.{IsFinding, Loses}
 
@@ -102,6 +103,20 @@ abbrev pub IsAnswer : Compared → Asked → Finding → ℕ → List ℕ → Ty
 IsAnswer s a (Same r) status text = IsSameAnswer s a r status text
 IsAnswer s a (Differ d) status text = (status ≡ 1) × IsDifferenceLine s d text
 IsAnswer s a (Stale e) status text = (status ≡ 1) × (text ≡ stale_line s e.root e.slots.items e.before e.word)
+
+-- the text has no names: nothing is said of what moved, or the numbers of roots differ
+abbrev pub NamesNothing : Asked → Finding → Type 0
+NamesNothing a (Same r) = a.moved ≡ false
+NamesNothing a (Differ (Roots m n)) = ⊤
+NamesNothing a _ = ⊥
+
+-- WHAT IS HANDED ON FIRST: the text of what is found first. Where it has no names, those of a program change nothing
+pub record HandsOnFirst (a : Asked) (status : ℕ) (old new : Option (List ℕ)) : Type 0 where
+  pub finding : Finding
+  pub found : IsFinding a.before.now.image.heap a.after.now.image.heap a.after.now.stale finding
+  pub text : List ℕ
+  pub answer : NamesNothing a finding → IsAnswer (compared_of a) a finding status text
+  pub taken : TakesFirst old new text
 
 -- WHAT IS HANDED ON: the text of what is found first of the two heaps; if all differences are asked for, further lines behind it
 pub record HandsOn (a : Asked) (status : ℕ) (old new : Option (List ℕ)) : Type 0 where

@@ -4,7 +4,7 @@ ghost use Rattle.g1_text.specs.Graphs.{NamedGraph};
 ghost use Rattle.g1_report.specs.Finding.{IsFault, IsRefusal, IsVerdict, IsUntouched};
 ghost use Rattle.g1_report.specs.Taken.{TakesFirst};
 ghost use Rattle.g1_report.specs.Wording.{Called, Compared};
-ghost use Rattle.g1_report.specs.Answer.{compared_of, names_or_none, stale_names, IsPlain, HandsOn};
+ghost use Rattle.g1_report.specs.Answer.{compared_of, names_or_none, stale_names, IsPlain, HandsOnFirst, HandsOn};
 ghost use Rattle.g1_report.specs.Listed.{lists, HandedOn};
 ghost use Rattle.g1_report.specs.Opened.{AsksOfGraphs, IsVerdictByName};
 ghost use Rattle.g1_report.specs.Given.{listed, compared, AreNamedInOrder};
@@ -96,6 +96,7 @@ impl<T: Drop> From<AllocFailed<T>> for Refused {
 /// behind some of the lines.
 pub fn report<L: Lines>(alloc: Global, asked: &Asked<'_>, out: &mut L) -> Result<u8, Refused>
     ensures text { IsPlain asked.now → IfOk result (λ s. HandsOn asked.now s (L.taken out.old) (L.taken out.new)) }
+    ensures first { IfOk result (λ s. HandsOnFirst asked.now s (L.taken out.old) (L.taken out.new)) }
     ensures status { IfOk result (λ s. IsVerdict asked.now.before.now.image.heap asked.now.after.now.image.heap asked.now.after.now.stale asked.now.set.now asked.now.fill s) }
     ensures by_name { (g h : NamedGraph) → AsksOfGraphs asked.now g h → IfOk result (λ s. IsVerdictByName g h s) }
     ensures refused { IfErr result (λ e. IsRefusal asked.now.before.now.image.heap asked.now.after.now.image.heap asked.now.after.now.stale asked.now.set.now e) }

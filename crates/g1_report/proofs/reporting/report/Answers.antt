@@ -43,3 +43,17 @@ returns-clause-by_name g c = λ x y asks.
     status_by_name a x y status asks
     (of_heaps (λ h k. IsVerdict h k a.after.now.stale a.set.now a.fill status) sides.result.before.now a.before.now.image.heap sides.result.after.now a.after.now.image.heap
     sides.ensures.before sides.ensures.after c.in_ok-verdict.ensures.verdict)
+
+pub returns-clause-first : goal.returns-clause-first
+returns-clause-first g c =
+    let a = c.args.asked.now in
+    let sides = c.sides_of-sides in
+    let text = string_bytes c.in_ok-verdict.verdict.text in
+    record {
+      finding = c.in_ok-finding.finding;
+      found = of_heaps (λ x y. IsFinding x y a.after.now.stale c.in_ok-finding.finding) sides.result.before.now a.before.now.image.heap sides.result.after.now a.after.now.image.heap
+          sides.ensures.before sides.ensures.after c.in_ok-finding.ensures.found;
+      text = text;
+      answer = λ none. subst (λ s. IsAnswer s a c.in_ok-finding.finding c.in_ok-verdict.verdict.status text) sides.ensures.compared (c.in_ok-verdict.ensures.unnamed none);
+      taken = c.in_ok-hand_on.ensures.first;
+    }
