@@ -104,18 +104,22 @@ IsAnswer s a (Same r) status text = IsSameAnswer s a r status text
 IsAnswer s a (Differ d) status text = (status ≡ 1) × IsDifferenceLine s d text
 IsAnswer s a (Stale e) status text = (status ≡ 1) × (text ≡ stale_line s e.root e.slots.items e.before e.word)
 
--- the text has no names: nothing is said of what moved, or the numbers of roots differ
-abbrev pub NamesNothing : Asked → Finding → Type 0
-NamesNothing a (Same r) = a.moved ≡ false
-NamesNothing a (Differ (Roots m n)) = ⊤
-NamesNothing a _ = ⊥
+-- nothing is said of what moved, or a program has no names for the second heap: then it goes by addresses or by the names of lines
+abbrev pub TellsPlainly : Asked → Type 0
+TellsPlainly a = (a.moved ≡ false) ⊎ ((a.names_after ≡ None) × IsInOrder a.before.now × IsInOrder a.after.now)
 
--- WHAT IS HANDED ON FIRST: the text of what is found first. Where it has no names, those of a program change nothing
+-- the text has no names of a program: what is said of one graph, if it is told plainly, or that the numbers of roots differ
+abbrev pub NamesNothing : Type 0 → Finding → Type 0
+NamesNothing plain (Same r) = plain
+NamesNothing plain (Differ (Roots m n)) = ⊤
+NamesNothing plain _ = ⊥
+
+-- WHAT IS HANDED ON FIRST: the text of what is found first. Where it has no names of a program, these change nothing
 pub record HandsOnFirst (a : Asked) (status : ℕ) (old new : Option (List ℕ)) : Type 0 where
   pub finding : Finding
   pub found : IsFinding a.before.now.image.heap a.after.now.image.heap a.after.now.stale finding
   pub text : List ℕ
-  pub answer : NamesNothing a finding → IsAnswer (compared_of a) a finding status text
+  pub answer : NamesNothing (TellsPlainly a) finding → IsAnswer (compared_of a) a finding status text
   pub taken : TakesFirst old new text
 
 -- WHAT IS HANDED ON: the text of what is found first of the two heaps; if all differences are asked for, further lines behind it

@@ -7,7 +7,7 @@ ghost use Rattle.g1_report.specs.Finding.{IsFinding, IsRefusal, IsVerdict, Loses
 ghost use Rattle.g1_report.specs.declared.sides.Strays.{Strays};
 ghost use Rattle.g1_report.specs.Wording.{Compared, lost_line};
 ghost use Rattle.g1_report.specs.Answer.{NamesNothing, IsAnswer, IsSameAnswer, same_text, moved_text, kept_text};
-ghost use Rattle.g1_report.specs.Given.{compared, AreNamedInOrder};
+ghost use Rattle.g1_report.specs.Given.{compared, AreNamedInOrder, AreMovedInOrder, MovesPlainly};
 
 use crate::comparing::{Sides, push_difference_line, push_same_line};
 use crate::listing::words_of;
@@ -104,7 +104,7 @@ pub fn verdict_on(
     finding: &Finding,
 ) -> Result<Verdict, Refused>
     requires { IsFinding sides.before.now sides.after.now asked.now.after.now.stale finding.now }
-    ensures unnamed { NamesNothing asked.now finding.now → IfOk result (λ v. IsAnswer (compared sides.entry) asked.now finding.now v.status (string_bytes v.text)) }
+    ensures unnamed { NamesNothing (MovesPlainly asked.now.moved sides.entry) finding.now → IfOk result (λ v. IsAnswer (compared sides.entry) asked.now finding.now v.status (string_bytes v.text)) }
     ensures text { AreNamedInOrder sides.entry → IfOk result (λ v. IsAnswer (compared sides.entry) asked.now finding.now v.status (string_bytes v.text)) }
     ensures verdict { IfOk result (λ v. IsVerdict sides.entry.before.now sides.entry.after.now asked.now.after.now.stale asked.now.set.now asked.now.fill v.status) }
     ensures refused { IfErr result (λ e. IsRefusal sides.entry.before.now sides.entry.after.now asked.now.after.now.stale asked.now.set.now e) }
@@ -135,7 +135,7 @@ fn verdict_on_same(
     requires graph { IsRenaming sides.before.now sides.after.now renaming.now.before.items renaming.now.after.items }
     requires none { asked.now.after.now.stale ≡ None }
     ensures unnamed { asked.now.moved ≡ false → IfOk result (λ v. IsSameAnswer (compared sides.entry) asked.now renaming.now v.status (string_bytes v.text)) }
-    ensures text { AreNamedInOrder sides.entry → IfOk result (λ v. IsSameAnswer (compared sides.entry) asked.now renaming.now v.status (string_bytes v.text)) }
+    ensures text { AreMovedInOrder sides.entry → IfOk result (λ v. IsSameAnswer (compared sides.entry) asked.now renaming.now v.status (string_bytes v.text)) }
     ensures verdict { IfOk result (λ v. IsVerdict sides.entry.before.now sides.entry.after.now asked.now.after.now.stale asked.now.set.now asked.now.fill v.status) }
     ensures refused { IfErr result (λ e. IsRefusal sides.entry.before.now sides.entry.after.now asked.now.after.now.stale asked.now.set.now e) }
 {
@@ -157,7 +157,7 @@ fn push_same_text(
 ) -> Result<(), AllocError>
     requires { IsRenaming sides.before.now sides.after.now renaming.now.before.items renaming.now.after.items }
     ensures unnamed { asked.now.moved ≡ false → OnOk result (string_bytes text.new ≡ string_bytes text.old ++ same_text (compared sides.entry) asked.now renaming.now) }
-    ensures text { AreNamedInOrder sides.entry → OnOk result (string_bytes text.new ≡ string_bytes text.old ++ same_text (compared sides.entry) asked.now renaming.now) }
+    ensures text { AreMovedInOrder sides.entry → OnOk result (string_bytes text.new ≡ string_bytes text.old ++ same_text (compared sides.entry) asked.now renaming.now) }
 {
     push_same_line(text, sides.before, renaming)?;
     push_moved(text, asked.moved, sides, renaming)?;
@@ -173,7 +173,7 @@ fn push_moved(
 ) -> Result<(), AllocError>
     requires { length renaming.now.before.items ≡ length renaming.now.after.items }
     ensures unnamed { moved ≡ false → OnOk result (string_bytes text.new ≡ string_bytes text.old ++ moved_text moved (compared sides.entry) renaming.now.before.items renaming.now.after.items) }
-    ensures text { AreNamedInOrder sides.entry → OnOk result (string_bytes text.new ≡ string_bytes text.old ++ moved_text moved (compared sides.entry) renaming.now.before.items renaming.now.after.items) }
+    ensures text { AreMovedInOrder sides.entry → OnOk result (string_bytes text.new ≡ string_bytes text.old ++ moved_text moved (compared sides.entry) renaming.now.before.items renaming.now.after.items) }
 {
     if moved {
         push_moved_line(text, sides, renaming)

@@ -1,8 +1,9 @@
-use Rattle.std.proofs.Common.{sym, ◌∙◌, subst, string_bytes}
+use Rattle.std.proofs.Common.{inl, inr, sym, ◌∙◌, subst, string_bytes}
 use Rattle.g1_report.specs.Finding.{IsRefusal, IsFinding, IsVerdict}
-use Rattle.g1_report.specs.Answer.{AreByNumber, IsAnswer}
+use Rattle.g1_report.specs.Answer.{AreByNumber, IsAnswer, TellsPlainly}
 use Rattle.g1_report.specs.Listed.{HandedOn, lists}
-use Rattle.g1_report.specs.Given.{AreNamedInOrder}
+use Rattle.g1_report.specs.Given.{AreNamedInOrder, MovesPlainly}
+use Rattle.g1_report.proofs.Answering.{names_nothing}
 use Rattle.g1_report.proofs.Passed.{passed_on, of_heaps}
 use Rattle.g1_report.proofs.SameTexts.{status_by_name}
 use Rattle.g1_report.proofs.reporting.report.Goals as goal
@@ -49,11 +50,21 @@ returns-clause-first g c =
     let a = c.args.asked.now in
     let sides = c.sides_of-sides in
     let text = string_bytes c.in_ok-verdict.verdict.text in
+    let plainly : TellsPlainly a → MovesPlainly a.moved sides.result =
+    λ told. elim told [
+      | inl none ↦ inl none
+      | inr (names, before, after) ↦ inr (record {
+        names_after = sides.ensures.names_after ∙ names;
+        in_order = subst AreByNumber (sym sides.ensures.compared) (record { objects_before = before.objects; objects_after = after.objects; roots = before.roots; stale = after.stale });
+      })
+    ] in
     record {
       finding = c.in_ok-finding.finding;
       found = of_heaps (λ x y. IsFinding x y a.after.now.stale c.in_ok-finding.finding) sides.result.before.now a.before.now.image.heap sides.result.after.now a.after.now.image.heap
           sides.ensures.before sides.ensures.after c.in_ok-finding.ensures.found;
       text = text;
-      answer = λ none. subst (λ s. IsAnswer s a c.in_ok-finding.finding c.in_ok-verdict.verdict.status text) sides.ensures.compared (c.in_ok-verdict.ensures.unnamed none);
+      answer = λ none.
+          subst (λ s. IsAnswer s a c.in_ok-finding.finding c.in_ok-verdict.verdict.status text) sides.ensures.compared
+          (c.in_ok-verdict.ensures.unnamed (names_nothing (TellsPlainly a) (MovesPlainly a.moved sides.result) c.in_ok-finding.finding plainly none));
       taken = c.in_ok-hand_on.ensures.first;
     }
