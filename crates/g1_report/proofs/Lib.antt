@@ -1,5 +1,6 @@
 pub mod Answering
 pub mod Counted
+pub mod Counting
 pub mod Found
 pub mod InOrder
 pub mod Joined
