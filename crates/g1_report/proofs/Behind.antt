@@ -6,7 +6,7 @@ use Rattle.std.proofs.lemmas.List.{append-nil}
 use Rattle.std.proofs.lemmas.List.Concat.{flat_map-append}
 use Rattle.std.proofs.lemmas.List.Elements.{All-append, All-nil, All-cons}
 use Rattle.g1_report.specs.Wording.{Compared}
-use Rattle.g1_report.specs.Listed.{AreLines, IsFoundLine, counts_line, TakesLines, TakesAll}
+use Rattle.g1_report.specs.Listed.{AreLines, IsFoundLine, AreCounts, counts_line, TakesLines, TakesAll}
 
 lines_none : (P : List ℕ → Type 0) → AreLines P []
 lines_none P = ([], All-nil P, refl)
@@ -49,9 +49,9 @@ module _ (s : Compared) where
       (f.0, f.1, [], inl refl, f.2 ∙ ap (λ zs. xs ++ (text ++ zs)) (sym (append-nil f.0)))
 
   -- the line of numbers is the last one
-  pub takes_end : (old now new : Option (List ℕ)) (text end : List ℕ) (counts : List ℕ) → TakesLines s old now text → end ≡ counts_line counts → Appends now new end → TakesAll s old new text
-  takes_end None now new text end counts f e a = tt
-  takes_end (Some xs) None new text end counts f e a = absurd f
-  takes_end (Some xs) (Some ys) None text end counts f e a = absurd a
-  takes_end (Some xs) (Some ys) (Some zs) text end counts f e a =
-      (f.0, f.1, end, inr (counts, e), a ∙ ap (λ w. w ++ end) f.2 ∙ simp append_assoc)
+  pub takes_end : (old now new : Option (List ℕ)) (text end : List ℕ) (counts : List ℕ) → TakesLines s old now text → AreCounts s counts → end ≡ counts_line counts → Appends now new end → TakesAll s old new text
+  takes_end None now new text end counts f are e a = tt
+  takes_end (Some xs) None new text end counts f are e a = absurd f
+  takes_end (Some xs) (Some ys) None text end counts f are e a = absurd a
+  takes_end (Some xs) (Some ys) (Some zs) text end counts f are e a =
+      (f.0, f.1, end, inr (counts, are, e), a ∙ ap (λ w. w ++ end) f.2 ∙ simp append_assoc)

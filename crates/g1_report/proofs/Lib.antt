@@ -1,5 +1,6 @@
 pub mod Answering
 pub mod Counted
+pub mod Counting
 pub mod Found
 pub mod InOrder
 pub mod Joined
@@ -8,5 +9,6 @@ pub mod Lookups
 pub mod Opening
 pub mod Passed
 pub mod Rising
+pub mod SameTexts
 pub mod Starting
 pub mod Taken

@@ -5,7 +5,7 @@ use Rattle.g1_words.specs.declared.limits.Limits.TheVariants.{Wide}
 use Rattle.g1_image.specs.Image.{IsTextWithin}
 use Rattle.g1_text.specs.Graphs.{NamedGraph, NamedRoot, SaysGraph}
 use Rattle.g1_text.specs.ByName.{read_holder, holder_of, holders_from}
-use Rattle.g1_text.specs.Carried.{AreListed, HoldsGraph, named_at}
+use Rattle.g1_text.specs.Carried.{Carries, AreListed, HoldsGraph, named_at}
 use Rattle.g1_text.specs.declared.named.Graph.{Graph}
 use Rattle.g1_report.specs.declared.sides.Side.{Side}
 use Rattle.g1_report.specs.Wording.{Called}
@@ -43,14 +43,16 @@ holders_in_order names roots e = in_order names (holders_from 0 roots) e (holder
 
 pub shown : (text bytes : List ℕ) (r : Graph) (s : Side) (g k : NamedGraph) → g ≡ k → SaysGraph text g → HoldsGraph g r → map read_holder r.root_names.items ≡ holders_from 0 k.roots
     → bytes ≡ r.text.items → IsTextWithin Wide bytes s.image → labels_of s ≡ Some r.names.items → s.holders.items ≡ r.root_names.items → (s.stale ≡ None → r.first_stale ≡ None) → ShowsText text s
-shown text bytes r s g k one says h holders are image labels held none = record {
-  graph = g;
-  says = says;
-  ats = h.ats;
-  file = h.file;
-  carries = h.carries;
-  image = subst (λ xs. IsTextWithin Wide xs s.image) (are ∙ h.text) image;
-  labels = subst (AreNamesOf g h.ats) (sym labels) (_, _, h.listed);
-  holders = ap (map read_holder) held ∙ holders ∙ ap (λ (g : NamedGraph). holders_from 0 g.roots) (sym one);
-  named = λ e. h.noted (none e);
-}
+shown text bytes r s g k one says h holders are image labels held none =
+    let given : IsTextWithin Wide r.text.items s.image = subst (λ xs. IsTextWithin Wide xs s.image) are image in
+    record {
+      graph = g;
+      says = says;
+      ats = h.ats;
+      bytes = r.text.items;
+      image = given;
+      carries = subst (Carries g h.ats) (sym (h.image s.image given)) h.carries;
+      labels = subst (AreNamesOf g h.ats) (sym labels) (_, _, h.listed);
+      holders = ap (map read_holder) held ∙ holders ∙ ap (λ (g : NamedGraph). holders_from 0 g.roots) (sym one);
+      named = λ e. h.noted (none e);
+    }

@@ -13,6 +13,7 @@ use Rattle.g1_report.specs.declared.verdict.Finding.{Finding}
 use Rattle.g1_report.specs.declared.verdict.Finding.TheVariants.{Same, Differ, Stale}
 use Rattle.g1_report.specs.Wording.{Called, Compared, place_line, roots_line, stale_line, lost_line, same_line, have_moved, moved_line}
 use Rattle.g1_report.specs.Listed.{lists, HandedOn}
+use Rattle.g1_report.specs.Taken.{TakesFirst}
 use Rattle.g1_report.specs.Agreement.{KeepsSet}
 use Rattle.g1_report.specs.Finding.{IsFinding, Loses}
 
@@ -102,6 +103,24 @@ abbrev pub IsAnswer : Compared → Asked → Finding → ℕ → List ℕ → Ty
 IsAnswer s a (Same r) status text = IsSameAnswer s a r status text
 IsAnswer s a (Differ d) status text = (status ≡ 1) × IsDifferenceLine s d text
 IsAnswer s a (Stale e) status text = (status ≡ 1) × (text ≡ stale_line s e.root e.slots.items e.before e.word)
+
+-- nothing is said of what moved, or a program has no names for the second heap: then it goes by addresses or by the names of lines
+abbrev pub TellsPlainly : Asked → Type 0
+TellsPlainly a = (a.moved ≡ false) ⊎ ((a.names_after ≡ None) × IsInOrder a.before.now × IsInOrder a.after.now)
+
+-- the text has no names of a program: what is said of one graph, if it is told plainly, or that the numbers of roots differ
+abbrev pub NamesNothing : Type 0 → Finding → Type 0
+NamesNothing plain (Same r) = plain
+NamesNothing plain (Differ (Roots m n)) = ⊤
+NamesNothing plain _ = ⊥
+
+-- WHAT IS HANDED ON FIRST: the text of what is found first. Where it has no names of a program, these change nothing
+pub record HandsOnFirst (a : Asked) (status : ℕ) (old new : Option (List ℕ)) : Type 0 where
+  pub finding : Finding
+  pub found : IsFinding a.before.now.image.heap a.after.now.image.heap a.after.now.stale finding
+  pub text : List ℕ
+  pub answer : NamesNothing (TellsPlainly a) finding → IsAnswer (compared_of a) a finding status text
+  pub taken : TakesFirst old new text
 
 -- WHAT IS HANDED ON: the text of what is found first of the two heaps; if all differences are asked for, further lines behind it
 pub record HandsOn (a : Asked) (status : ℕ) (old new : Option (List ℕ)) : Type 0 where

@@ -1,5 +1,5 @@
 -- What functions inside are given of two sides.
-use Rattle.std.specs.Prelude.{◌≡◌, Option, Some, None}
+use Rattle.std.specs.Prelude.{◌≡◌, ◌⊎◌, Bool, false, Option, Some, None}
 use Rattle.std.specs.Borrow.{Bor}
 use Rattle.g1_report.specs.declared.comparing.Sides.{Sides}
 use Rattle.g1_report.specs.Wording.{Called, Compared}
@@ -26,3 +26,12 @@ pub record AreNamedInOrder (s : Sides) : Type 0 where
   pub names : s.names ≡ None
   pub names_after : s.names_after ≡ None
   pub in_order : AreByNumber (compared s)
+
+-- no names of a program for the second heap, and those of lines in order
+pub record AreMovedInOrder (s : Sides) : Type 0 where
+  pub names_after : s.names_after ≡ None
+  pub in_order : AreByNumber (compared s)
+
+-- nothing is said of what moved, or it goes by addresses or by the names of lines
+abbrev pub MovesPlainly : Bool → Sides → Type 0
+MovesPlainly moved s = (moved ≡ false) ⊎ AreMovedInOrder s

@@ -1,9 +1,11 @@
 -- What is handed on if all differences are asked for.
-use Rattle.std.specs.Prelude.{◌≡◌, ◌⊎◌, ℕ, zero, suc, List, [], ◌∷◌, ◌++◌, Option, Some, None, ⊤, codes, decimal, sum, flat_map, slice_index, All}
+use Rattle.std.specs.Prelude.{◌≡◌, ◌⊎◌, ◌-◌, ◌^◌, ◌==◌, ℕ, zero, suc, List, [], ◌∷◌, ◌++◌, Option, Some, None, ⊤, codes, decimal, sum, length, map, min, flat_map, slice_index, count_by, if◌then◌else◌, All, AllPairs}
 use Rattle.std.specs.Io.KnownBytes.{Appends}
 use Rattle.g1_same.specs.declared.walk.What.{What}
 use Rattle.g1_same.specs.declared.walk.What.TheVariants as what
 use Rattle.g1_same.specs.declared.walk.Found.{Found}
+use Rattle.g1_same.specs.declared.difference.How.TheVariants.{NullBefore, NullAfter, Split, Joined, Size, Slots, Data}
+use Rattle.g1_same.specs.Walk.{IsEarlier}
 use Rattle.g1_same.specs.Behind.{ShowsAt}
 use Rattle.g1_report.specs.declared.verdict.Finding.{Finding}
 use Rattle.g1_report.specs.declared.verdict.Finding.TheVariants.{Same, Differ, Stale}
@@ -42,16 +44,53 @@ TakesLines s None new text = ⊤
 TakesLines s (Some xs) None text = ⊥
 TakesLines s (Some xs) (Some ys) text = (lines : List ℕ) × AreLines (IsFoundLine s) lines × (ys ≡ xs ++ (text ++ lines))
 
--- the line of some numbers, or nothing if the reader went away
-abbrev pub IsEnd : List ℕ → Type 0
-IsEnd end = (end ≡ []) ⊎ ((counts : List ℕ) × (end ≡ counts_line counts))
+-- the place of a kind among the numbers of all kinds: first those of roots, of which a walk finds none
+abbrev pub kind_of : What → ℕ
+kind_of (what.Stale z) = 1
+kind_of (what.How NullBefore) = 2
+kind_of (what.How NullAfter) = 2
+kind_of (what.How (Split a m n)) = 3
+kind_of (what.How (Joined m n b)) = 4
+kind_of (what.How (Size m n)) = 5
+kind_of (what.How (Slots m n)) = 6
+kind_of (what.How (Data k)) = 7
+
+-- how many of these differences are of a kind, as far as 64 bits count
+abbrev pub count_of : List Found → ℕ → ℕ
+count_of found k = min (count_by (λ f. kind_of f.what == k) found) (2 ^ 64 - 1)
+
+-- 1 if there are more roots in one heap than in the other
+abbrev pub roots_count : List ℕ → List ℕ → ℕ
+roots_count olds news = if length olds == length news then 0 else 1
+
+abbrev pub all_counts : Compared → List Found → List ℕ
+all_counts s found = roots_count s.before.roots s.after.roots ∷ map (count_of found) (1 ∷ 2 ∷ 3 ∷ 4 ∷ 5 ∷ 6 ∷ 7 ∷ [])
+
+-- a path leads to the difference
+abbrev pub IsShown : Compared → Found → Type 0
+IsShown s f = (p : List ℕ) × ShowsAt s.before s.after p f
+
+-- of the places of two differences, the first one is looked at first
+abbrev pub ComesFirst : Found → Found → Type 0
+ComesFirst f e = IsEarlier f.place.way.from f.place.way.number e.place.way.from e.place.way.number
+
+-- THE NUMBERS ARE THOSE of differences that are there, each at a place of its own
+pub record AreCounts (s : Compared) (counts : List ℕ) : Type 0 where
+  pub found : List Found
+  pub there : All (IsShown s) found
+  pub apart : AllPairs ComesFirst found
+  pub numbers : counts ≡ all_counts s found
+
+-- the line of such numbers, or nothing if the reader went away
+abbrev pub IsEnd : Compared → List ℕ → Type 0
+IsEnd s end = (end ≡ []) ⊎ ((counts : List ℕ) × AreCounts s counts × (end ≡ counts_line counts))
 
 -- the same, and then the line of numbers
 abbrev pub TakesAll : Compared → Option (List ℕ) → Option (List ℕ) → List ℕ → Type 0
 TakesAll s None new text = ⊤
 TakesAll s (Some xs) None text = ⊥
 TakesAll s (Some xs) (Some ys) text =
-    (lines : List ℕ) × AreLines (IsFoundLine s) lines × (end : List ℕ) × IsEnd end × (ys ≡ xs ++ (text ++ (lines ++ end)))
+    (lines : List ℕ) × AreLines (IsFoundLine s) lines × (end : List ℕ) × IsEnd s end × (ys ≡ xs ++ (text ++ (lines ++ end)))
 
 -- how many differences are listed, if they are: one graph has none
 abbrev pub lists : Finding → Option ℕ → Option ℕ

@@ -1,14 +1,15 @@
 -- What the side of lines shows.
-use Rattle.std.specs.Prelude.{◌≡◌, ℕ, List, Option, Some, None, [], map}
+use Rattle.std.specs.Prelude.{◌≡◌, ℕ, zero, suc, List, Option, Some, None, [], map}
 use Rattle.g1_words.specs.declared.limits.Limits.TheVariants.{Wide}
 use Rattle.g1_words.specs.declared.fault.Fault.{Fault}
 use Rattle.g1_image.specs.declared.stale.Stale.{Stale}
-use Rattle.g1_image.specs.Text.{File, file_text}
-use Rattle.g1_image.specs.Image.{heap_of, IsTextWithin}
+use Rattle.g1_image.specs.Image.{IsTextWithin}
 use Rattle.g1_text.specs.Graphs.{NamedGraph, SaysGraph}
 use Rattle.g1_text.specs.ByName.{read_holder, holders_from}
 use Rattle.g1_text.specs.Carried.{Carries, AreListed, AllNamed}
+use Rattle.g1_text.specs.Renamed.{SameByName}
 use Rattle.g1_text.specs.declared.expected.Wrong.TheVariants.{Fault as OfFault}
+use Rattle.g1_report.specs.declared.reporting.Asked.{Asked}
 use Rattle.g1_report.specs.declared.sides.Side.{Side}
 use Rattle.g1_report.specs.declared.sides.Strays.{Strays}
 use Rattle.g1_report.specs.Wording.{Called}
@@ -24,16 +25,33 @@ abbrev pub IsStale : Stale → Fault → Option Strays → Type 0
 IsStale words fault None = ⊥
 IsStale words fault (Some s) = (s.words ≡ words) × (s.names.items ≡ []) × (s.wrong ≡ OfFault fault)
 
--- THE SIDE SHOWS THE GRAPH of the text. The heap of a file carries it, each object at an address of its own, and the image is
--- what the bytes of this file say. The names are those of the graph. If there are no stale words, each name in a slot or a root is
--- an object's
+-- THE SIDE SHOWS THE GRAPH of the text: its image, which is what some bytes say, has a heap that carries the graph, each object
+-- at an address of its own. The names are those of the graph. If there are no stale words, each name in a slot or a root is an
+-- object's
 pub record ShowsText (text : List ℕ) (s : Side) : Type 0 where
   pub graph : NamedGraph
   pub says : SaysGraph text graph
   pub ats : List ℕ
-  pub file : File
-  pub carries : Carries graph ats (heap_of file)
-  pub image : IsTextWithin Wide (file_text file) s.image
+  pub bytes : List ℕ
+  pub image : IsTextWithin Wide bytes s.image
+  pub carries : Carries graph ats s.image.heap
   pub labels : AreNamesOf graph ats (labels_of s)
   pub holders : map read_holder s.holders.items ≡ holders_from 0 graph.roots
   pub named : s.stale ≡ None → AllNamed graph
+
+-- the side shows a text that says this graph
+abbrev pub ShowsGraph : NamedGraph → Side → Type 0
+ShowsGraph g s = (text : List ℕ) × SaysGraph text g × ShowsText text s
+
+-- two texts that say these graphs are compared, and nothing is asked of a set. No name in the second text is one that no object has
+pub record AsksOfGraphs (a : Asked) (g h : NamedGraph) : Type 0 where
+  pub before : ShowsGraph g a.before.now
+  pub after : ShowsGraph h a.after.now
+  pub no_stale : a.after.now.stale ≡ None
+  pub no_set : a.set.now ≡ []
+
+-- THE STATUS OF TWO GRAPHS: 0 if they are the same by name, and 1 if they are not
+abbrev pub IsVerdictByName : NamedGraph → NamedGraph → ℕ → Type 0
+IsVerdictByName g h zero = SameByName g h
+IsVerdictByName g h (suc zero) = SameByName g h → ⊥
+IsVerdictByName g h (suc (suc n)) = ⊥

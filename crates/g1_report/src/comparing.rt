@@ -81,7 +81,8 @@ pub fn push_difference_line(
     difference: &Difference,
 ) -> Result<(), AllocError>
     requires { IsDifference sides.before.now sides.after.now difference.now }
-    ensures { AreNamedInOrder sides.entry → OnOk result (Adds (IsDifferenceLine (compared sides.entry) difference.now) (string_bytes text.old) (string_bytes text.new)) }
+    ensures line { AreNamedInOrder sides.entry → OnOk result (Adds (IsDifferenceLine (compared sides.entry) difference.now) (string_bytes text.old) (string_bytes text.new)) }
+    ensures roots { (m n : ℕ) → difference.now ≡ Difference.Roots m n → OnOk result (string_bytes text.new ≡ string_bytes text.old ++ roots_line m n) }
 {
     match difference {
         Difference::Roots { before, after } => { push_roots_line(text, *before, *after) }

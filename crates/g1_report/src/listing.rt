@@ -1,10 +1,10 @@
 //! The lines of all differences: the first ones, and how many there are of each kind.
-ghost use Rattle.std.specs.Prelude.{◌≡◌, ◌++◌, [], codes, decimal, sum, string_bytes, OnOk, IfErr};
+ghost use Rattle.std.specs.Prelude.{◌≡◌, ◌<◌, ◌++◌, ◌+◌, ◌-◌, ◌^◌, [], ◌∷◌, codes, decimal, min, set, sum, slice_index, string_bytes, OnOk, IfErr};
 ghost use Rattle.g1_same.specs.Behind.{IsThere};
 ghost use Rattle.g1_same.specs.Underway.{IsUnderway};
 ghost use Rattle.g1_report.specs.Finding.{IsFault};
 ghost use Rattle.g1_report.specs.Taken.{TakesFirst};
-ghost use Rattle.g1_report.specs.Listed.{TakesLines, TakesAll, count_text, counts_line};
+ghost use Rattle.g1_report.specs.Listed.{TakesLines, TakesAll, kind_of, roots_count, count_text, counts_line};
 ghost use Rattle.g1_report.specs.Given.{compared, AreNamedInOrder};
 
 use crate::comparing::{Sides, push_found_line};
@@ -12,6 +12,7 @@ use crate::lines::Lines;
 use crate::reporting::{Asked, Refused};
 use crate::sides::Strays;
 use g1_same::{Differences, Found, How, StaleWords, What};
+use g1_words::Heap;
 use std::alloc::{AllocError, Global};
 
 /// The line of the first difference, and behind it those of the walk's next ones up to the number asked, and the line of
@@ -28,10 +29,7 @@ pub fn list_all<L: Lines>(
     ensures all { AreNamedInOrder sides.entry → OnOk result (TakesAll (compared sides.entry) (L.taken out.old) (L.taken out.new) first.now) }
     ensures fault { IfErr result IsFault }
 {
-    let mut counts = [0u64; 8];
-    if sides.before.roots().len() != sides.after.roots().len() {
-        counts[0] = 1;
-    }
+    let mut counts = first_counts(sides.before, sides.after);
     if !out.take(first)? {
         return Ok(());
     }
@@ -52,6 +50,17 @@ pub fn list_all<L: Lines>(
     push_counts(&mut text, &counts)?;
     out.take(text.as_str())?;
     Ok(())
+}
+
+// The numbers before the walk: that of roots, of which it finds none.
+fn first_counts(before: &Heap, after: &Heap) -> [u64; 8]
+    ensures { result ≡ roots_count before.now.roots after.now.roots ∷ 0 ∷ 0 ∷ 0 ∷ 0 ∷ 0 ∷ 0 ∷ 0 ∷ [] }
+{
+    if before.roots().len() == after.roots().len() {
+        [0; 8]
+    } else {
+        [1, 0, 0, 0, 0, 0, 0, 0]
+    }
 }
 
 // Hands on the line of a difference, if it is listed. Returns whether further ones have a reader.
@@ -103,14 +112,19 @@ pub fn words_of<'a>(strays: &'a Strays<'_>) -> StaleWords<'a>
     }
 }
 
-fn add_one(counts: &mut [u64; 8], kind: usize) {
-    if let Some(count) = counts.get_mut(kind) {
-        *count = count.saturating_add(1);
+// A difference more of the kind at a place.
+fn add_one(counts: &mut [u64; 8], kind: usize)
+    ensures { kind < 8 → counts.new ≡ set counts.old kind (min (slice_index counts.old kind + 1) (2 ^ 64 - 1)) }
+{
+    if kind < counts.len() {
+        counts[kind] = counts[kind].saturating_add(1);
     }
 }
 
 // The place of a kind among the numbers of all kinds.
-fn kind_of(what: &What) -> usize {
+fn kind_of(what: &What) -> usize
+    ensures { result ≡ kind_of what.now }
+{
     match what {
         What::Stale(_) => 1,
         What::How(How::NullBefore) => 2,

@@ -1,7 +1,7 @@
 //! How many objects moved.
 ghost use Rattle.std.specs.Prelude.{◌≡◌, ◌≤◌, ◌++◌, cond, is_some, length, count_by, string_bytes, OnOk};
 ghost use Rattle.g1_report.specs.Wording.{has_moved, have_moved, is_yes, moved_by, moved_line, names_differ, told};
-ghost use Rattle.g1_report.specs.Given.{compared, AreNamedInOrder};
+ghost use Rattle.g1_report.specs.Given.{compared, AreMovedInOrder};
 
 use crate::comparing::{Sides, label};
 use crate::names::Names;
@@ -18,7 +18,7 @@ pub fn push_moved_line(
     renaming: &Renaming,
 ) -> Result<(), AllocError>
     requires { length renaming.now.before.items ≡ length renaming.now.after.items }
-    ensures { AreNamedInOrder sides.entry → OnOk result (string_bytes text.new ≡ string_bytes text.old
+    ensures { AreMovedInOrder sides.entry → OnOk result (string_bytes text.new ≡ string_bytes text.old
         ++ moved_line (compared sides.entry) (have_moved (compared sides.entry) renaming.now.before.items renaming.now.after.items)) }
 {
     let (moved, all) = count_moved(sides, renaming.before.as_slice(), renaming.after.as_slice());
@@ -28,7 +28,7 @@ pub fn push_moved_line(
 
 // By identifiers if both heaps have a program's names, and else by what the files have.
 fn way_word(sides: Sides<'_>) -> &'static str
-    ensures { AreNamedInOrder sides.entry → result.now ≡ moved_by (compared sides.entry).objects_before }
+    ensures { AreMovedInOrder sides.entry → result.now ≡ moved_by (compared sides.entry).objects_before }
 {
     if sides.names_after.is_some() {
         return "identifier";
@@ -42,8 +42,8 @@ fn way_word(sides: Sides<'_>) -> &'static str
 // How many objects moved, and of how many that is known.
 fn count_moved(sides: Sides<'_>, before: &[u64], after: &[u64]) -> (u64, u64)
     requires { length before.now ≡ length after.now }
-    ensures moved { AreNamedInOrder sides.entry → result.0 ≡ count_by is_yes (have_moved (compared sides.entry) before.now after.now) }
-    ensures all { AreNamedInOrder sides.entry → result.1 ≡ count_by is_some (have_moved (compared sides.entry) before.now after.now) }
+    ensures moved { AreMovedInOrder sides.entry → result.0 ≡ count_by is_yes (have_moved (compared sides.entry) before.now after.now) }
+    ensures all { AreMovedInOrder sides.entry → result.1 ≡ count_by is_some (have_moved (compared sides.entry) before.now after.now) }
 {
     let (mut moved, mut all) = (0u64, 0u64);
     for place in 0..before.len() {
@@ -69,7 +69,7 @@ fn counts_of(moved: Option<bool>) -> (u64, u64)
 
 // Whether an object moved, if that is known.
 fn has_moved(sides: Sides<'_>, before: u64, after: u64) -> Option<bool>
-    ensures { AreNamedInOrder sides.entry → result ≡ has_moved (compared sides.entry).objects_before (compared sides.entry).objects_after before after }
+    ensures { AreMovedInOrder sides.entry → result ≡ has_moved (compared sides.entry).objects_before (compared sides.entry).objects_after before after }
 {
     if sides.names_after.is_some() {
         let old = note_at(sides.before, sides.names, before);

@@ -1,10 +1,12 @@
 //! What is asked of two heaps, and the answer in lines.
 ghost use Rattle.std.specs.Prelude.{◌≡◌, OnOk, IfOk, IfErr, string_bytes};
+ghost use Rattle.g1_text.specs.Graphs.{NamedGraph};
 ghost use Rattle.g1_report.specs.Finding.{IsFault, IsRefusal, IsVerdict, IsUntouched};
 ghost use Rattle.g1_report.specs.Taken.{TakesFirst};
 ghost use Rattle.g1_report.specs.Wording.{Called, Compared};
-ghost use Rattle.g1_report.specs.Answer.{compared_of, names_or_none, stale_names, IsPlain, HandsOn};
+ghost use Rattle.g1_report.specs.Answer.{compared_of, names_or_none, stale_names, IsPlain, HandsOnFirst, HandsOn};
 ghost use Rattle.g1_report.specs.Listed.{lists, HandedOn};
+ghost use Rattle.g1_report.specs.Opened.{AsksOfGraphs, IsVerdictByName};
 ghost use Rattle.g1_report.specs.Given.{listed, compared, AreNamedInOrder};
 
 use crate::comparing::{Labels, Sides};
@@ -85,7 +87,8 @@ impl<T: Drop> From<AllocFailed<T>> for Refused {
 }
 
 /// Reports whether two heaps show the same graph, or where they differ, and what else is asked. The lines go
-/// to `out`. Returns the exit status: 0 if what is asked holds, and 1 if the heaps differ.
+/// to `out`. Returns the exit status: 0 if what is asked holds, and 1 if the heaps differ. Of two texts of graphs by name,
+/// with nothing asked of a set, it is 0 exactly if one graph is the other with new names.
 ///
 /// # Errors
 ///
@@ -93,7 +96,9 @@ impl<T: Drop> From<AllocFailed<T>> for Refused {
 /// behind some of the lines.
 pub fn report<L: Lines>(alloc: Global, asked: &Asked<'_>, out: &mut L) -> Result<u8, Refused>
     ensures text { IsPlain asked.now → IfOk result (λ s. HandsOn asked.now s (L.taken out.old) (L.taken out.new)) }
+    ensures first { IfOk result (λ s. HandsOnFirst asked.now s (L.taken out.old) (L.taken out.new)) }
     ensures status { IfOk result (λ s. IsVerdict asked.now.before.now.image.heap asked.now.after.now.image.heap asked.now.after.now.stale asked.now.set.now asked.now.fill s) }
+    ensures by_name { (g h : NamedGraph) → AsksOfGraphs asked.now g h → IfOk result (λ s. IsVerdictByName g h s) }
     ensures refused { IfErr result (λ e. IsRefusal asked.now.before.now.image.heap asked.now.after.now.image.heap asked.now.after.now.stale asked.now.set.now e) }
     ensures untouched { IfErr result (λ e. IsUntouched (L.taken out.old) (L.taken out.new) e) }
 {

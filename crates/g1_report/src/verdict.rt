@@ -1,13 +1,13 @@
 //! What is found first of two heaps, and what is said of it.
-ghost use Rattle.std.specs.Prelude.{◌≡◌, ◌++◌, ℕ, List, length, Option, Some, None, AllPairs, IsTrue, IsFalse, IfOk, IfErr, IfSome, IfNone, OnOk, string_bytes};
+ghost use Rattle.std.specs.Prelude.{◌≡◌, ◌++◌, false, ℕ, List, length, Option, Some, None, AllPairs, IsTrue, IsFalse, IfOk, IfErr, IfSome, IfNone, OnOk, string_bytes};
 ghost use Rattle.g1_image.specs.Stale.{HasLowerPlace};
 ghost use Rattle.g1_same.specs.Same.{IsRenaming};
 ghost use Rattle.g1_report.specs.Agreement.{used, KeepsSet};
 ghost use Rattle.g1_report.specs.Finding.{IsFinding, IsRefusal, IsVerdict, Loses};
 ghost use Rattle.g1_report.specs.declared.sides.Strays.{Strays};
 ghost use Rattle.g1_report.specs.Wording.{Compared, lost_line};
-ghost use Rattle.g1_report.specs.Answer.{IsAnswer, IsSameAnswer, same_text, moved_text, kept_text};
-ghost use Rattle.g1_report.specs.Given.{compared, AreNamedInOrder};
+ghost use Rattle.g1_report.specs.Answer.{NamesNothing, IsAnswer, IsSameAnswer, same_text, moved_text, kept_text};
+ghost use Rattle.g1_report.specs.Given.{compared, AreNamedInOrder, AreMovedInOrder, MovesPlainly};
 
 use crate::comparing::{Sides, push_difference_line, push_same_line};
 use crate::listing::words_of;
@@ -104,6 +104,7 @@ pub fn verdict_on(
     finding: &Finding,
 ) -> Result<Verdict, Refused>
     requires { IsFinding sides.before.now sides.after.now asked.now.after.now.stale finding.now }
+    ensures unnamed { NamesNothing (MovesPlainly asked.now.moved sides.entry) finding.now → IfOk result (λ v. IsAnswer (compared sides.entry) asked.now finding.now v.status (string_bytes v.text)) }
     ensures text { AreNamedInOrder sides.entry → IfOk result (λ v. IsAnswer (compared sides.entry) asked.now finding.now v.status (string_bytes v.text)) }
     ensures verdict { IfOk result (λ v. IsVerdict sides.entry.before.now sides.entry.after.now asked.now.after.now.stale asked.now.set.now asked.now.fill v.status) }
     ensures refused { IfErr result (λ e. IsRefusal sides.entry.before.now sides.entry.after.now asked.now.after.now.stale asked.now.set.now e) }
@@ -133,7 +134,8 @@ fn verdict_on_same(
 ) -> Result<Verdict, Refused>
     requires graph { IsRenaming sides.before.now sides.after.now renaming.now.before.items renaming.now.after.items }
     requires none { asked.now.after.now.stale ≡ None }
-    ensures text { AreNamedInOrder sides.entry → IfOk result (λ v. IsSameAnswer (compared sides.entry) asked.now renaming.now v.status (string_bytes v.text)) }
+    ensures unnamed { asked.now.moved ≡ false → IfOk result (λ v. IsSameAnswer (compared sides.entry) asked.now renaming.now v.status (string_bytes v.text)) }
+    ensures text { AreMovedInOrder sides.entry → IfOk result (λ v. IsSameAnswer (compared sides.entry) asked.now renaming.now v.status (string_bytes v.text)) }
     ensures verdict { IfOk result (λ v. IsVerdict sides.entry.before.now sides.entry.after.now asked.now.after.now.stale asked.now.set.now asked.now.fill v.status) }
     ensures refused { IfErr result (λ e. IsRefusal sides.entry.before.now sides.entry.after.now asked.now.after.now.stale asked.now.set.now e) }
 {
@@ -154,7 +156,8 @@ fn push_same_text(
     renaming: &Renaming,
 ) -> Result<(), AllocError>
     requires { IsRenaming sides.before.now sides.after.now renaming.now.before.items renaming.now.after.items }
-    ensures { AreNamedInOrder sides.entry → OnOk result (string_bytes text.new ≡ string_bytes text.old ++ same_text (compared sides.entry) asked.now renaming.now) }
+    ensures unnamed { asked.now.moved ≡ false → OnOk result (string_bytes text.new ≡ string_bytes text.old ++ same_text (compared sides.entry) asked.now renaming.now) }
+    ensures text { AreMovedInOrder sides.entry → OnOk result (string_bytes text.new ≡ string_bytes text.old ++ same_text (compared sides.entry) asked.now renaming.now) }
 {
     push_same_line(text, sides.before, renaming)?;
     push_moved(text, asked.moved, sides, renaming)?;
@@ -169,7 +172,8 @@ fn push_moved(
     renaming: &Renaming,
 ) -> Result<(), AllocError>
     requires { length renaming.now.before.items ≡ length renaming.now.after.items }
-    ensures { AreNamedInOrder sides.entry → OnOk result (string_bytes text.new ≡ string_bytes text.old ++ moved_text moved (compared sides.entry) renaming.now.before.items renaming.now.after.items) }
+    ensures unnamed { moved ≡ false → OnOk result (string_bytes text.new ≡ string_bytes text.old ++ moved_text moved (compared sides.entry) renaming.now.before.items renaming.now.after.items) }
+    ensures text { AreMovedInOrder sides.entry → OnOk result (string_bytes text.new ≡ string_bytes text.old ++ moved_text moved (compared sides.entry) renaming.now.before.items renaming.now.after.items) }
 {
     if moved {
         push_moved_line(text, sides, renaming)

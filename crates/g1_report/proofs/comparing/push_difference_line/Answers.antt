@@ -7,8 +7,8 @@ use Rattle.g1_report.specs.Given.{compared}
 use Rattle.g1_report.specs.Taken.{Adds}
 use Rattle.g1_report.proofs.comparing.push_difference_line.Goals as goal
 
-pub returns-in-Roots : goal.returns-in-Roots
-returns-in-Roots c = λ h.
+pub returns-in-Roots-clause-line : goal.returns-in-Roots-clause-line
+returns-in-Roots-clause-line c = λ h.
     let s = compared c.args.sides in
     let m = c.in-Roots.before in
     let n = c.in-Roots.after in
@@ -23,8 +23,8 @@ push_how_line-requires c =
     let ends = subst (λ d. AreEnds c.args.sides.before.now c.args.sides.after.now d c.ends_of-ends.result) c.in-At.is c.ends_of-ends.ensures in
     ends.1
 
-pub returns-in-At : goal.returns-in-At
-returns-in-At c = λ h.
+pub returns-in-At-clause-line : goal.returns-in-At-clause-line
+returns-in-At-clause-line c = λ h.
     let s = compared c.args.sides in
     let ends = subst (λ d. AreEnds c.args.sides.before.now c.args.sides.after.now d c.ends_of-ends.result) c.in-At.is c.ends_of-ends.ensures in
     let x = c.ends_of-ends.result.before in
