@@ -1,10 +1,11 @@
 -- Full lines tell what they say.
-use Rattle.std.proofs.Common.{◌≡◌, ◌<◌, ◌^◌, ◌-◌, ℕ, List, [], ◌∷◌, ◌++◌, inl, refl, ◌∙◌, ap, subst}
+use Rattle.std.proofs.Common.{◌≡◌, ◌≤◌, ◌<◌, ◌^◌, ◌-◌, ◌⊎◌, ℕ, zero, suc, List, [], ◌∷◌, ◌++◌, length, replicate, append-nil, inl, inr, refl, sym, ◌∙◌, ap, subst, arith}
 use Rattle.std.specs.Prelude.{Option, Some, None, codes}
+use Rattle.g1_words.specs.Heap.{free_region}
 use Rattle.g1_image.specs.Image.{Image}
 use Rattle.g1_text.specs.Lines.{current_word}
-use Rattle.g1_text.specs.Content.{Content, Line, Root, Dirty, Numbers, Remembered, Holds, words_of, words_beyond, Takes, Begins, Says, SaysAll, SaysImage}
-use Rattle.g1_text.specs.Short.{Short, RootAs, DirtyAs, RegionAs, RememberedAs, ObjectAs, short_words, Gives, BeginsShort, Tells, TellsAll, TellsImage}
+use Rattle.g1_text.specs.Content.{Content, Line, Root, Dirty, Numbers, Remembered, Holds, words_of, words_beyond, Takes, Begins, Says, SaysAll, SaysImage, IsClosed}
+use Rattle.g1_text.specs.Short.{Short, RootAs, DirtyAs, RegionAs, RememberedAs, ObjectAs, short_words, Gives, BeginsShort, Tells, TellsAll, TellsImage, Closes}
 
 -- the short line that leaves nothing out
 abbrev short_of : Line → Short
@@ -69,5 +70,32 @@ pub tell_all : (before after : Option Content) (lines : List (List (List ℕ))) 
 tell_all before after [] e = e
 tell_all before after (line ∷ lines) (c, says, all) = (c, tells before line c says, tell_all (Some c) after lines all)
 
+-- no region is left out, or some are
+pub none_left : (c : Content) → c.geometry.n ≤ length c.regions → c ≡ record c { regions = c.regions ++ replicate (c.geometry.n - length c.regions) free_region }
+none_left c all =
+    let none : 0 ≡ c.geometry.n - length c.regions = omega (arith, all) in
+    let same = sym (append-nil c.regions) ∙ ap (λ k. c.regions ++ replicate k free_region) none in
+    λ i. record c { regions = same i }
+
+pub either : (a b : ℕ) → (a ≤ b) ⊎ (b ≤ a)
+either zero b = inl (omega arith)
+either (suc a) zero = inr (omega arith)
+either (suc a) (suc b) = by (either a b)
+  where
+    by : (a ≤ b) ⊎ (b ≤ a) → (suc a ≤ suc b) ⊎ (suc b ≤ suc a)
+    by (inl le) = inl (omega (arith, le))
+    by (inr le) = inr (omega (arith, le))
+
+pub closes : (c : Content) → IsClosed c → Closes c c
+closes c closed = (closed.0, none_left c closed.1)
+
 pub tells_image : (text : List ℕ) (i : Image) → SaysImage text i → TellsImage text i
-tells_image text i s = record { lines = s.lines; content = s.content; has = s.has; tells = tell_all None (Some s.content) s.lines s.says; closed = s.closed; is = s.is }
+tells_image text i s = record {
+  lines = s.lines;
+  told = s.content;
+  content = s.content;
+  has = s.has;
+  tells = tell_all None (Some s.content) s.lines s.says;
+  closed = closes s.content s.closed;
+  is = s.is;
+}

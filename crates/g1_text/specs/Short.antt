@@ -1,13 +1,14 @@
 -- The short lines of an image: what follows from the lines above them is left out.
-use Rattle.std.specs.Prelude.{◌≡◌, ◌⊎◌, ◌<◌, ◌+◌, ◌-◌, ◌^◌, ℕ, Bool, true, Option, Some, None, List, [], ◌∷◌, ◌++◌, length, map, take, drop, decimal, codes, All, IsTrue, IfSome}
+use Rattle.std.specs.Prelude.{◌≡◌, ◌⊎◌, ◌<◌, ◌+◌, ◌-◌, ◌^◌, ℕ, Bool, true, Option, Some, None, List, [], ◌∷◌, ◌++◌, length, map, take, drop, replicate, decimal, codes, All, IsTrue, IfSome}
 use Rattle.g1_words.specs.Geometry.{Geometry, IsWithinBounds}
+use Rattle.g1_words.specs.Heap.{free_region}
 use Rattle.g1_words.specs.Kind.{kind_word}
 use Rattle.g1_words.specs.declared.region.Kind.{Kind}
 use Rattle.g1_words.specs.declared.region.Kind.TheVariants.{Ordinary}
 use Rattle.g1_image.specs.Image.{Image}
 use Rattle.g1_text.specs.Reading.{HasLines}
 use Rattle.g1_text.specs.Lines.{reference_word, current_word, cards_words, pinned_words}
-use Rattle.g1_text.specs.Content.{Content, Root, Dirty, Remembered, Holds, Takes, MayFollow, IsCount, IsClosed, IsContentOf, words_beyond, begun, size_with}
+use Rattle.g1_text.specs.Content.{Content, Root, Dirty, Remembered, Holds, Takes, MayFollow, IsCount, IsContentOf, words_beyond, begun, size_with}
 
 -- a line below the heading: None is a number that is left out. An object's line may have only so many of its words before `..`
 pub data Short : Type 0 where
@@ -104,11 +105,16 @@ abbrev pub TellsAll : Option Content → List (List (List ℕ)) → Option Conte
 TellsAll before [] after = before ≡ after
 TellsAll before (line ∷ lines) after = (c : Content) × Tells before line c × TellsAll (Some c) lines after
 
+-- what is told once all lines are read: no humongous object goes on, and the regions behind those with a line are free
+abbrev pub Closes : Content → Content → Type 0
+Closes c d = (c.beyond ≡ 0) × (d ≡ record c { regions = c.regions ++ replicate (c.geometry.n - length c.regions) free_region })
+
 -- A TEXT TELLS AN IMAGE: its lines, short or in full, tell all of it, one after the other
 pub record TellsImage (text : List ℕ) (i : Image) : Type 0 where
   pub lines : List (List (List ℕ))
+  pub told : Content
   pub content : Content
   pub has : HasLines text lines
-  pub tells : TellsAll None lines (Some content)
-  pub closed : IsClosed content
+  pub tells : TellsAll None lines (Some told)
+  pub closed : Closes told content
   pub is : IsContentOf content i

@@ -7,8 +7,8 @@ ghost use Rattle.g1_text.specs.Lines.{reference_word, current_word, cards_words,
 ghost use Rattle.std.specs.Option.{is_some};
 ghost use Rattle.g1_text.specs.Reading.{words_in, says_something, parts_of, lines_in, HasLines};
 ghost use Rattle.g1_text.specs.Forms.{ImageHeading, ImageLine, RootLine, DirtyLine, CoveredLine, RegionLine, RememberedLine, ObjectLine, HasMeaning, Form, Spells, IsBelow, IsDataWord, HasSize, IsReferenceWord, Number, Single, Many, Maybe, Labelled, Current, Cards, Holding, Pinned, ◌▸◌, HasFront, HasFirst, HasValues};
-ghost use Rattle.g1_text.specs.Content.{Content, Counts, Root, Dirty, Remembered, words_of, Takes, MayFollow, with_region, one_found, IsClosed};
-ghost use Rattle.g1_text.specs.Short.{Short, RegionAs, ObjectAs, Fits, IsZeroFrom, IsCurrentPart, labelled_words, counts_words, abridged, short_words, Gives, BeginsShort, Tells, TellsAll};
+ghost use Rattle.g1_text.specs.Content.{Content, Counts, Root, Dirty, Remembered, words_of, Takes, MayFollow, with_region, one_found};
+ghost use Rattle.g1_text.specs.Short.{Short, RegionAs, ObjectAs, Fits, IsZeroFrom, IsCurrentPart, labelled_words, counts_words, abridged, short_words, Gives, BeginsShort, Tells, TellsAll, Closes};
 ghost use Rattle.g1_text.specs.Drafts.{content, counts_of, Becomes, said, IsTaken, AreTaken};
 ghost use Rattle.g1_text.specs.Refused.{IsLineOrMemory};
 ghost use Rattle.g1_text.specs.Reported.{IsFirstWrong, IsReported};
@@ -24,7 +24,7 @@ use std::str;
 /// Reads lines one after the other.
 pub(crate) fn read(alloc: Global, text: &[u8]) -> Result<Draft, Wrong>
     ensures fault { IfErr result IsLineOrMemory }
-    ensures says { (lines : List (List (List ℕ))) (c : Content) → HasLines text.now lines → TellsAll None lines (Some c) → IsClosed c → MatchResult result (λ d. content d ≡ c) (λ e. e ≡ Wrong.Fault Fault.Memory) }
+    ensures says { (lines : List (List (List ℕ))) (told c : Content) → HasLines text.now lines → TellsAll None lines (Some told) → Closes told c → MatchResult result (λ d. content d ≡ c) (λ e. e ≡ Wrong.Fault Fault.Memory) }
     ensures known { OnOk result (HasMeaning ImageHeading ImageLine text.now) }
     ensures reports { IfErr result (IsReported text.now) }
 {
