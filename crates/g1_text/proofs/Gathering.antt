@@ -1,6 +1,6 @@
 -- Words that are read one after the other, and the counts of the last region's line.
-use Rattle.std.proofs.Common.{◌≡◌, ◌≢◌, ℕ, zero, suc, ◌+◌, ◌<◌, ◌≤◌, ◌^◌, Bool, true, false, List, [], ◌∷◌, ◌++◌, length, get_or, map, drop, set, refl, sym, ◌∙◌, ap, subst, arith}
-use Rattle.std.specs.Prelude.{decimal, All, MatchBool}
+use Rattle.std.proofs.Common.{◌≡◌, ◌≢◌, ℕ, zero, suc, ◌+◌, ◌<◌, ◌≤◌, ◌^◌, List, [], ◌∷◌, ◌++◌, length, get_or, map, drop, set, refl, sym, ◌∙◌, ap, arith}
+use Rattle.std.specs.Prelude.{decimal, All}
 use Rattle.g1_text.specs.Lines.{reference_word}
 use Rattle.g1_text.proofs.Fields.{first_digit}
 
@@ -25,11 +25,11 @@ module _ (f : ℕ → List ℕ) (xs : List ℕ) (rest : List (List ℕ)) where
   no_word n le = ap (λ ys. map f ys ++ rest) (drop_end xs n le)
 
 -- no word begins with a dot
-abbrev NoDots : List (List ℕ) → Type 0
+abbrev pub NoDots : List (List ℕ) → Type 0
 NoDots [] = Unit {0}
 NoDots (w ∷ ws) = (get_or w 0 0 ≢ 46) × NoDots ws
 
-dots_end : (ws : List (List ℕ)) → NoDots (ws ++ (46 ∷ 46 ∷ []) ∷ []) → ⊥
+pub dots_end : (ws : List (List ℕ)) → NoDots (ws ++ (46 ∷ 46 ∷ []) ∷ []) → ⊥
 dots_end [] none = none.0 refl
 dots_end (w ∷ ws) none = dots_end ws none.1
 
@@ -44,15 +44,9 @@ data_dots (x ∷ xs) all = (
   data_dots xs (λ k d lt. all (suc k) d (omega (arith, lt))),
 )
 
-content_dots : (refs values : List ℕ) → All (λ x. x < 2 ^ 64) refs → All (λ x. x < 2 ^ 64) values → NoDots (map reference_word refs ++ map decimal values)
+pub content_dots : (refs values : List ℕ) → All (λ x. x < 2 ^ 64) refs → All (λ x. x < 2 ^ 64) values → NoDots (map reference_word refs ++ map decimal values)
 content_dots [] values fr fv = data_dots values fv
 content_dots (x ∷ refs) values fr fv = (reference_dots x (fr 0 0 (omega arith)), content_dots refs values (λ k d lt. fr (suc k) d (omega (arith, lt))) fv)
-
--- two dots do not end the words of an object in full
-pub none_left_out : (found : Bool) (old new : List (List ℕ)) (refs values : List ℕ) → All (λ x. x < 2 ^ 64) refs → All (λ x. x < 2 ^ 64) values → old ≡ map reference_word refs ++ map decimal values
-    → MatchBool found (old ≡ new ++ (46 ∷ 46 ∷ []) ∷ []) ((new ≡ old) × ((front : List (List ℕ)) → old ≢ front ++ (46 ∷ 46 ∷ []) ∷ [])) → new ≡ map reference_word refs ++ map decimal values
-none_left_out true old new refs values fr fv e m = absurd (dots_end new (subst NoDots (sym e ∙ m) (content_dots refs values fr fv)))
-none_left_out false old new refs values fr fv e m = m.0 ∙ e
 
 length_map : {A B : Type 0} (f : A → B) (xs : List A) → length (map f xs) ≡ length xs
 length_map f [] = refl

@@ -45,3 +45,6 @@ pub mod Holding
 pub mod Rooms
 pub mod Refusing
 pub mod DataWords
+pub mod Abridging
+pub mod Shortening
+pub mod Telling

@@ -17,7 +17,8 @@ use Rattle.g1_text.specs.declared.expected.Wrong.{Wrong}
 use Rattle.g1_text.specs.declared.expected.Wrong.TheVariants.{Line, Fault}
 use Rattle.g1_text.specs.Reading.{words_in, says_something, parts_of, lines_in}
 use Rattle.g1_text.specs.Forms.{ImageHeading, ImageLine, HaveForms, HasMeaning}
-use Rattle.g1_text.specs.Content.{Content, Says, SaysAll}
+use Rattle.g1_text.specs.Content.{Content}
+use Rattle.g1_text.specs.Short.{Tells, TellsAll}
 use Rattle.g1_text.specs.Drafts.{form_after, IsTaken, AreTaken}
 use Rattle.g1_text.specs.Refused.{IsLineOrMemory}
 use Rattle.g1_text.specs.Reported.{IsFirstWrongLine, IsLastLine, IsFirstWrong, IsReported, Reports}
@@ -30,7 +31,7 @@ pub record IsReadUpTo (text left : List (List ℕ)) (number : ℕ) (now : Option
   pub counted : number ≡ length above
   pub utf8 : All IsUtf8 above
   pub taken : AreTaken ImageHeading ImageLine false (lines_of above) (is_some now)
-  pub says : (said : Option Content) → SaysAll None (lines_of above) said → now ≡ said
+  pub says : (said : Option Content) → TellsAll None (lines_of above) said → now ≡ said
 
 pub none_read : (text : List (List ℕ)) → IsReadUpTo text text 0 None
 none_read text = record { above = []; parts = refl; counted = refl; utf8 = All-nil IsUtf8; taken = refl; says = λ said e. e }
@@ -41,8 +42,8 @@ taken_more : (before now new : Bool) (lines : List (List (List ℕ))) (line : Li
 taken_more before now new [] line e t = (subst (λ b. form_after ImageHeading ImageLine b line) (sym e) t.0, sym t.1)
 taken_more before now new (l ∷ lines) line a t = (a.0, taken_more true now new lines line a.1 t)
 
-said_last : (before after : Option Content) (lines : List (List (List ℕ))) (line : List (List ℕ)) → SaysAll before (lines ++ line ∷ []) after
-    → (middle : Option Content) × SaysAll before lines middle × (d : Content) × Says middle line d × (Some d ≡ after)
+said_last : (before after : Option Content) (lines : List (List (List ℕ))) (line : List (List ℕ)) → TellsAll before (lines ++ line ∷ []) after
+    → (middle : Option Content) × TellsAll before lines middle × (d : Content) × Tells middle line d × (Some d ≡ after)
 said_last before after [] line s = (before, refl, s.0, s.1, s.2)
 said_last before after (l ∷ lines) line s = let r = said_last (Some s.0) after lines line s.2 in (r.0, (s.0, s.1, r.1), r.2, r.3, r.4)
 
@@ -69,7 +70,7 @@ module _ (text left rest : List (List ℕ)) (line : List ℕ) (is : left ≡ lin
   no_line e = one_line false e ∙ append-nil (lines_of so_far.above)
 
   module _ (utf8 : IsUtf8 line) (known : says_something (words_in line) ≡ true → IsTaken ImageHeading ImageLine (is_some old) (words_in line) (is_some new))
-      (says : (d : Content) → says_something (words_in line) ≡ true → Says old (words_in line) d → new ≡ Some d) (nothing : says_something (words_in line) ≡ false → new ≡ old) where
+      (says : (d : Content) → says_something (words_in line) ≡ true → Tells old (words_in line) d → new ≡ Some d) (nothing : says_something (words_in line) ≡ false → new ≡ old) where
     taken_now : (b : Bool) → says_something (words_in line) ≡ b → AreTaken ImageHeading ImageLine false (lines_of (so_far.above ++ line ∷ [])) (is_some new)
     taken_now true e =
         subst (λ ls. AreTaken ImageHeading ImageLine false ls (is_some new)) (sym (one_line true e))
@@ -78,11 +79,11 @@ module _ (text left rest : List (List ℕ)) (line : List ℕ) (is : left ≡ lin
         subst (λ ls. AreTaken ImageHeading ImageLine false ls (is_some new)) (sym (no_line e))
         (subst (λ o. AreTaken ImageHeading ImageLine false (lines_of so_far.above) (is_some o)) (sym (nothing e)) so_far.taken)
 
-    said_now : (b : Bool) → says_something (words_in line) ≡ b → (said : Option Content) → SaysAll None (lines_of (so_far.above ++ line ∷ [])) said → new ≡ said
+    said_now : (b : Bool) → says_something (words_in line) ≡ b → (said : Option Content) → TellsAll None (lines_of (so_far.above ++ line ∷ [])) said → new ≡ said
     said_now true e said s =
-        let r = said_last None said (lines_of so_far.above) (words_in line) (subst (λ ls. SaysAll None ls said) (one_line true e) s) in
-        says r.2 e (subst (λ o. Says o (words_in line) r.2) (sym (so_far.says r.0 r.1)) r.3) ∙ r.4
-    said_now false e said s = nothing e ∙ so_far.says said (subst (λ ls. SaysAll None ls said) (no_line e) s)
+        let r = said_last None said (lines_of so_far.above) (words_in line) (subst (λ ls. TellsAll None ls said) (one_line true e) s) in
+        says r.2 e (subst (λ o. Tells o (words_in line) r.2) (sym (so_far.says r.0 r.1)) r.3) ∙ r.4
+    said_now false e said s = nothing e ∙ so_far.says said (subst (λ ls. TellsAll None ls said) (no_line e) s)
 
     pub one_read : (n : ℕ) → n ≡ number + 1 → IsReadUpTo text rest n new
     one_read n count = record {
@@ -95,12 +96,12 @@ module _ (text left rest : List (List ℕ)) (line : List ℕ) (is : left ≡ lin
     }
 
   module _ (r : Result (Unit {0}) Refusal) (x : Refusal) (was : r ≡ Err x)
-      (says : (d : Content) → IsUtf8 line → says_something (words_in line) ≡ true → Says old (words_in line) d → MatchResult r (λ _. new ≡ Some d) (λ e. e ≡ Memory))
+      (says : (d : Content) → IsUtf8 line → says_something (words_in line) ≡ true → Tells old (words_in line) d → MatchResult r (λ _. new ≡ Some d) (λ e. e ≡ Memory))
       (nothing : IsUtf8 line → says_something (words_in line) ≡ false → MatchResult r (λ _. new ≡ old) (λ e. e ≡ Memory)) where
     may_not : (x ≡ Memory → ⊥) → (said : Option Content) → old ≡ said → IsUtf8 line → (b : Bool) → says_something (words_in line) ≡ b
-        → (says_something (words_in line) ≡ true) × ((d : Content) → Says said (words_in line) d → ⊥)
+        → (says_something (words_in line) ≡ true) × ((d : Content) → Tells said (words_in line) d → ⊥)
     may_not other said same utf8 true e =
-        (e, λ d s. other (at_err (λ _. new ≡ Some d) (λ y. y ≡ Memory) was (says d utf8 e (subst (λ o. Says o (words_in line) d) (sym same) s))))
+        (e, λ d s. other (at_err (λ _. new ≡ Some d) (λ y. y ≡ Memory) was (says d utf8 e (subst (λ o. Tells o (words_in line) d) (sym same) s))))
     may_not other said same utf8 false e = absurd (other (at_err (λ _. new ≡ old) (λ y. y ≡ Memory) was (nothing utf8 e)))
 
     pub first_wrong_line : (x ≡ Memory → ⊥) → (n : ℕ) → n ≡ number + 1 → (bytes : List ℕ) → parts_of bytes ≡ text → IsFirstWrongLine bytes n

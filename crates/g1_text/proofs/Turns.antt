@@ -3,7 +3,8 @@ use Rattle.std.proofs.Common.{◌≡◌, ℕ, suc, ◌+◌, ◌<◌, Bool, true,
 use Rattle.std.specs.Borrow.{Bor}
 use Rattle.std.specs.Prelude.{Option, Some, None, Result, Ok, Err, MatchOption, MatchResult, unwrap_or}
 use Rattle.g1_text.specs.Reading.{words_in, says_something, parts_of}
-use Rattle.g1_text.specs.Content.{Content, Says, SaysAll}
+use Rattle.g1_text.specs.Content.{Content}
+use Rattle.g1_text.specs.Short.{Tells, TellsAll}
 
 -- what these parts of a text say
 abbrev pub lines_of : List (List ℕ) → List (List (List ℕ))
@@ -21,7 +22,7 @@ size_left (Some left) = length left.now + 1
 
 -- these parts are still to be read
 abbrev pub ToRead : List (List ℕ) → Option Content → Option Content → Type 0
-ToRead parts before after = All IsUtf8 parts × SaysAll before (lines_of parts) after
+ToRead parts before after = All IsUtf8 parts × TellsAll before (lines_of parts) after
 
 -- a part was split off
 pub split_off : (parts : List (List ℕ)) (line : List ℕ) (n : ℕ) (r : Option (Bor (List ℕ)))
@@ -41,23 +42,23 @@ module _ (parts rest : List (List ℕ)) (line : List ℕ) (is : parts ≡ line �
   rest_utf8 : All IsUtf8 rest
   rest_utf8 k d lt = utf8 (suc k) d (omega (arith, lt))
 
-  by_words : (b : Bool) → says_something (words_in line) ≡ b → SaysAll old (cond b (words_in line ∷ lines_of rest) (lines_of rest)) (Some c)
+  by_words : (b : Bool) → says_something (words_in line) ≡ b → TellsAll old (cond b (words_in line ∷ lines_of rest) (lines_of rest)) (Some c)
   by_words b e =
-      subst (λ t. SaysAll old (cond t (words_in line ∷ lines_of rest) (lines_of rest)) (Some c)) e
-      (subst (λ ps. SaysAll old (lines_of ps) (Some c)) is reads.1)
+      subst (λ t. TellsAll old (cond t (words_in line ∷ lines_of rest) (lines_of rest)) (Some c)) e
+      (subst (λ ps. TellsAll old (lines_of ps) (Some c)) is reads.1)
 
   module _ {E : Type 0} (M : E → Type 0) (new : Option Content) where
-    added : (r : Result (Unit {0}) E) (d : Content) → MatchResult r (λ _. new ≡ Some d) M → SaysAll (Some d) (lines_of rest) (Some c) → MatchResult r (λ _. ToRead rest new (Some c)) M
-    added (Ok x) d e all = (rest_utf8, subst (λ s. SaysAll s (lines_of rest) (Some c)) (sym e) all)
+    added : (r : Result (Unit {0}) E) (d : Content) → MatchResult r (λ _. new ≡ Some d) M → TellsAll (Some d) (lines_of rest) (Some c) → MatchResult r (λ _. ToRead rest new (Some c)) M
+    added (Ok x) d e all = (rest_utf8, subst (λ s. TellsAll s (lines_of rest) (Some c)) (sym e) all)
     added (Err x) d e all = e
 
-    passed : (r : Result (Unit {0}) E) → MatchResult r (λ _. new ≡ old) M → SaysAll old (lines_of rest) (Some c) → MatchResult r (λ _. ToRead rest new (Some c)) M
-    passed (Ok x) e all = (rest_utf8, subst (λ s. SaysAll s (lines_of rest) (Some c)) (sym e) all)
+    passed : (r : Result (Unit {0}) E) → MatchResult r (λ _. new ≡ old) M → TellsAll old (lines_of rest) (Some c) → MatchResult r (λ _. ToRead rest new (Some c)) M
+    passed (Ok x) e all = (rest_utf8, subst (λ s. TellsAll s (lines_of rest) (Some c)) (sym e) all)
     passed (Err x) e all = e
 
     -- ONE LINE MORE
     pub turned : (r : Result (Unit {0}) E)
-        → ((d : Content) → IsUtf8 line → says_something (words_in line) ≡ true → Says old (words_in line) d → MatchResult r (λ _. new ≡ Some d) M)
+        → ((d : Content) → IsUtf8 line → says_something (words_in line) ≡ true → Tells old (words_in line) d → MatchResult r (λ _. new ≡ Some d) M)
         → (IsUtf8 line → says_something (words_in line) ≡ false → MatchResult r (λ _. new ≡ old) M)
         → MatchResult r (λ _. ToRead rest new (Some c)) M
     turned r says nothing = by (says_something (words_in line)) refl

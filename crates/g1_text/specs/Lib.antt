@@ -14,3 +14,4 @@ pub mod Filled
 pub mod Renamed
 pub mod RenamedExample
 pub mod Reported
+pub mod Short

@@ -5,17 +5,18 @@ use Rattle.g1_text.specs.declared.expected.Wrong.{Wrong}
 use Rattle.g1_text.specs.declared.expected.Wrong.TheVariants.{Line, Fault}
 use Rattle.g1_text.specs.Reading.{words_in, says_something, parts_of, lines_in}
 use Rattle.g1_text.specs.Forms.{ImageHeading, ImageLine, HaveForms, HasMeaning}
-use Rattle.g1_text.specs.Content.{Content, Says, SaysAll}
+use Rattle.g1_text.specs.Content.{Content}
+use Rattle.g1_text.specs.Short.{Tells, TellsAll}
 
 -- what these lines of a text say, without blank ones and comments
 abbrev pub said_in : List (List ℕ) → List (List (List ℕ))
 said_in lines = filter says_something (map words_in lines)
 
--- a line may not follow what was said: in UTF-8 it says something, and no full line of these words is the next one
+-- a line may not follow what was said: in UTF-8 it says something, and these words are no line, short or full, that comes next
 abbrev pub MayNotFollow : Option Content → List ℕ → Type 0
-MayNotFollow said line = IsUtf8 line → (says_something (words_in line) ≡ true) × ((d : Content) → Says said (words_in line) d → ⊥)
+MayNotFollow said line = IsUtf8 line → (says_something (words_in line) ≡ true) × ((d : Content) → Tells said (words_in line) d → ⊥)
 
--- THE FIRST WRONG LINE, counted from 1 with blank lines and comments: each word of the lines above it has a meaning, and if these are full lines, the line may not follow what they say
+-- THE FIRST WRONG LINE, counted from 1 with blank lines and comments: each word of the lines above it has a meaning, and if these are lines, short or full, that follow each other, the line may not follow what they tell
 pub record IsFirstWrongLine (text : List ℕ) (number : ℕ) : Type 0 where
   pub above : List (List ℕ)
   pub line : List ℕ
@@ -24,7 +25,7 @@ pub record IsFirstWrongLine (text : List ℕ) (number : ℕ) : Type 0 where
   pub counted : number ≡ length above + 1
   pub utf8 : All IsUtf8 above
   pub forms : (said_in above ≡ []) ⊎ HaveForms ImageHeading ImageLine (said_in above)
-  pub wrong : (said : Option Content) → SaysAll None (said_in above) said → MayNotFollow said line
+  pub wrong : (said : Option Content) → TellsAll None (said_in above) said → MayNotFollow said line
 
 -- no line says anything, and this is the last one: an LF at the end of the text begins no other one
 pub record IsLastLine (text : List ℕ) (number : ℕ) : Type 0 where

@@ -215,6 +215,7 @@ impl Draft {
     /// Adds the regions that have no line.
     pub(crate) fn close(&mut self) -> Result<(), AllocError>
         ensures same { self.old.beyond ≡ 0 → self.old.geometry.n ≤ length (content self.old).regions → OnOk result (content self.new ≡ content self.old) }
+        ensures free { self.old.beyond ≡ 0 → length (content self.old).regions ≤ self.old.geometry.n → OnOk result (content self.new ≡ record (content self.old) { regions = (content self.old).regions ++ replicate (self.old.geometry.n - length (content self.old).regions) free_region }) }
         ensures laid { (g : GeometryOf) (os : List Object) → IsLaid g os (content self.old) → OnOk result (IsLaidOut g os (content self.new)) }
     {
         self.close_run()?;

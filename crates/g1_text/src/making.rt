@@ -6,6 +6,7 @@ ghost use Rattle.g1_text.specs.Lines.{image_text};
 ghost use Rattle.g1_text.specs.Reading.{HasLines};
 ghost use Rattle.g1_text.specs.Forms.{ImageHeading, ImageLine, HasMeaning};
 ghost use Rattle.g1_text.specs.Content.{Content, IsClosed, IsContentOf, SaysAll, SaysImage, file_with};
+ghost use Rattle.g1_text.specs.Short.{TellsAll, TellsImage, Closes};
 ghost use Rattle.g1_text.specs.Counted.{IsMadeOf};
 ghost use Rattle.g1_text.specs.Drafts.{content};
 ghost use Rattle.g1_text.specs.Refused.{IsLineOrMemory};
@@ -32,7 +33,9 @@ pub fn make(alloc: Global, text: &[u8]) -> Result<Vec<u8>, Wrong>
     ensures fault { IfErr result IsLineOrMemory }
     ensures whole { (i : ImageOf) → IsImage i → text.now ≡ image_text i → MatchResult result (λ v. IsTextIn Two v.items i) (λ e. e ≡ Wrong.Fault Fault.Memory) }
     ensures says { (i : ImageOf) → SaysImage text.now i → MatchResult result (λ v. IsTextIn Two v.items i) (λ e. e ≡ Wrong.Fault Fault.Memory) }
+    ensures tells { (i : ImageOf) → TellsImage text.now i → MatchResult result (λ v. IsTextIn Two v.items i) (λ e. e ≡ Wrong.Fault Fault.Memory) }
     ensures only { (lines : List (List (List ℕ))) (c : Content) → HasLines text.now lines → SaysAll None lines (Some c) → IsClosed c → CountsFit (file_with c) → IfOk result (λ v. IsMadeOf c v.items) }
+    ensures counted { (lines : List (List (List ℕ))) (told c : Content) → HasLines text.now lines → TellsAll None lines (Some told) → Closes told c → c.covered ≡ false → CountsFit (file_with c) → IfOk result (λ v. IsMadeOf c v.items) }
     ensures known { OnOk result (HasMeaning ImageHeading ImageLine text.now) }
     ensures reports { IfErr result (Reports text.now) }
 {

@@ -7,7 +7,8 @@ ghost use Rattle.g1_text.specs.Lines.{reference_word, current_word, cards_words,
 ghost use Rattle.std.specs.Option.{is_some};
 ghost use Rattle.g1_text.specs.Reading.{words_in, says_something, parts_of, lines_in, HasLines};
 ghost use Rattle.g1_text.specs.Forms.{ImageHeading, ImageLine, RootLine, DirtyLine, CoveredLine, RegionLine, RememberedLine, ObjectLine, HasMeaning, Form, Spells, IsBelow, IsDataWord, HasSize, IsReferenceWord, Number, Single, Many, Maybe, Labelled, Current, Cards, Holding, Pinned, ◌▸◌, HasFront, HasFirst, HasValues};
-ghost use Rattle.g1_text.specs.Content.{Content, Counts, Line, Root, Dirty, Numbers, Remembered, Holds, words_of, Takes, MayFollow, with_region, one_found, Begins, Says, SaysAll, IsClosed};
+ghost use Rattle.g1_text.specs.Content.{Content, Counts, Root, Dirty, Remembered, words_of, Takes, MayFollow, with_region, one_found};
+ghost use Rattle.g1_text.specs.Short.{Short, RegionAs, ObjectAs, Fits, IsZeroFrom, IsCurrentPart, labelled_words, counts_words, abridged, short_words, Gives, BeginsShort, Tells, TellsAll, Closes};
 ghost use Rattle.g1_text.specs.Drafts.{content, counts_of, Becomes, said, IsTaken, AreTaken};
 ghost use Rattle.g1_text.specs.Refused.{IsLineOrMemory};
 ghost use Rattle.g1_text.specs.Reported.{IsFirstWrong, IsReported};
@@ -23,7 +24,7 @@ use std::str;
 /// Reads lines one after the other.
 pub(crate) fn read(alloc: Global, text: &[u8]) -> Result<Draft, Wrong>
     ensures fault { IfErr result IsLineOrMemory }
-    ensures says { (lines : List (List (List ℕ))) (c : Content) → HasLines text.now lines → SaysAll None lines (Some c) → IsClosed c → MatchResult result (λ d. content d ≡ c) (λ e. e ≡ Wrong.Fault Fault.Memory) }
+    ensures says { (lines : List (List (List ℕ))) (told c : Content) → HasLines text.now lines → TellsAll None lines (Some told) → Closes told c → MatchResult result (λ d. content d ≡ c) (λ e. e ≡ Wrong.Fault Fault.Memory) }
     ensures known { OnOk result (HasMeaning ImageHeading ImageLine text.now) }
     ensures reports { IfErr result (IsReported text.now) }
 {
@@ -39,7 +40,7 @@ pub(crate) fn read(alloc: Global, text: &[u8]) -> Result<Draft, Wrong>
 // Reads each line, and returns how many parts the text has: there is one behind the last LF.
 fn read_lines(alloc: Global, draft: &mut Option<Draft>, text: &[u8]) -> Result<u64, Wrong>
     ensures fault { IfErr result IsLineOrMemory }
-    ensures says { (lines : List (List (List ℕ))) (c : Content) → HasLines text.now lines → SaysAll (said draft.old) lines (Some c) → MatchResult result (λ _. said draft.new ≡ Some c) (λ e. e ≡ Wrong.Fault Fault.Memory) }
+    ensures says { (lines : List (List (List ℕ))) (c : Content) → HasLines text.now lines → TellsAll (said draft.old) lines (Some c) → MatchResult result (λ _. said draft.new ≡ Some c) (λ e. e ≡ Wrong.Fault Fault.Memory) }
     ensures known { OnOk result (All IsUtf8 (parts_of text.now) × AreTaken ImageHeading ImageLine (is_some (said draft.old)) (lines_in text.now) (is_some (said draft.new))) }
     ensures count { said draft.old ≡ None → IfOk result (λ n. n ≡ length (parts_of text.now)) }
     ensures reports { said draft.old ≡ None → IfErr result (IsFirstWrong text.now) }
@@ -91,7 +92,7 @@ fn read_line<'a>(
     number: u64,
     line: &'a [u8],
 ) -> Result<(), Refusal>
-    ensures says { (c : Content) → IsUtf8 line.now → says_something (words_in line.now) ≡ true → Says (said draft.old) (words_in line.now) c → MatchResult result (λ _. said draft.new ≡ Some c) (λ e. e ≡ Refusal.Memory) }
+    ensures says { (c : Content) → IsUtf8 line.now → says_something (words_in line.now) ≡ true → Tells (said draft.old) (words_in line.now) c → MatchResult result (λ _. said draft.new ≡ Some c) (λ e. e ≡ Refusal.Memory) }
     ensures nothing { IsUtf8 line.now → says_something (words_in line.now) ≡ false → MatchResult result (λ _. said draft.new ≡ said draft.old) (λ e. e ≡ Refusal.Memory) }
     ensures utf8 { OnOk result (IsUtf8 line.now) }
     ensures known { says_something (words_in line.now) ≡ true → OnOk result (IsTaken ImageHeading ImageLine (is_some (said draft.old)) (words_in line.now) (is_some (said draft.new))) }
@@ -110,7 +111,7 @@ fn read_words(
     number: u64,
     mut words: Words<'_>,
 ) -> Result<(), Refusal>
-    ensures says { (c : Content) → says_something words.entry ≡ true → Says (said draft.old) words.entry c → MatchResult result (λ _. said draft.new ≡ Some c) (λ e. e ≡ Refusal.Memory) }
+    ensures says { (c : Content) → says_something words.entry ≡ true → Tells (said draft.old) words.entry c → MatchResult result (λ _. said draft.new ≡ Some c) (λ e. e ≡ Refusal.Memory) }
     ensures nothing { says_something words.entry ≡ false → MatchResult result (λ _. said draft.new ≡ said draft.old) (λ e. e ≡ Refusal.Memory) }
     ensures known { says_something words.entry ≡ true → OnOk result (IsTaken ImageHeading ImageLine (is_some (said draft.old)) words.entry (is_some (said draft.new))) }
 {
@@ -131,7 +132,7 @@ fn begin_or_add(
     first: &str,
     words: Words<'_>,
 ) -> Result<(), Refusal>
-    ensures says { (c : Content) → Says (said draft.old) (first.now ∷ words.entry) c → MatchResult result (λ _. said draft.new ≡ Some c) (λ e. e ≡ Refusal.Memory) }
+    ensures says { (c : Content) → Tells (said draft.old) (first.now ∷ words.entry) c → MatchResult result (λ _. said draft.new ≡ Some c) (λ e. e ≡ Refusal.Memory) }
     ensures known { OnOk result (IsTaken ImageHeading ImageLine (is_some (said draft.old)) (first.now ∷ words.entry) (is_some (said draft.new))) }
 {
     match draft {
@@ -145,7 +146,7 @@ fn begin_or_add(
 
 // heap W K N [roots R] [dirty D] [current none|C]
 fn begin(alloc: Global, first: &str, mut words: Words<'_>, line: u64) -> Result<Draft, Refusal>
-    ensures says { (c : Content) → Begins (first.now ∷ words.entry) c → MatchResult result (λ d. content d ≡ c) (λ e. e ≡ Refusal.Memory) }
+    ensures says { (c : Content) → BeginsShort (first.now ∷ words.entry) c → MatchResult result (λ d. content d ≡ c) (λ e. e ≡ Refusal.Memory) }
     ensures form { OnOk result (ImageHeading (first.now ∷ words.entry)) }
 {
     if first != "heap" {
@@ -189,7 +190,7 @@ pub(crate) fn sizes(words: &mut Words<'_>) -> Result<HeapSizes, Expected>
 // [roots R] [dirty D] [current none|C]
 fn heading(mut words: Words<'_>, line: u64) -> Result<(Heading, Option<u32>), Expected>
     ensures form { OnOk result ((Labelled (codes "roots") ▸ Labelled (codes "dirty") ▸ Current) words.entry) }
-    ensures full { (roots dirty : ℕ) (c : Option ℕ) → roots < 2 ^ 64 → dirty < 2 ^ 64 → IfSome c (λ r. r < 2 ^ 32) → words.entry ≡ codes "roots" ∷ decimal roots ∷ codes "dirty" ∷ decimal dirty ∷ codes "current" ∷ current_word c ∷ [] → result ≡ Ok (record { line = line; roots = Some roots; dirty = Some dirty }, c) }
+    ensures short { (roots dirty c : Option ℕ) (behind : List (List ℕ)) → Fits roots → Fits dirty → IfSome c (λ r. r < 2 ^ 32) → IsCurrentPart c behind → words.entry ≡ labelled_words (codes "roots") roots ++ (labelled_words (codes "dirty") dirty ++ behind) → result ≡ Ok (record { line = line; roots = roots; dirty = dirty }, c) }
 {
     let roots = words.take_named("roots")?;
     let dirty = words.take_named("dirty")?;
@@ -202,6 +203,7 @@ fn heading(mut words: Words<'_>, line: u64) -> Result<(Heading, Option<u32>), Ex
 fn current(words: &mut Words<'_>) -> Result<Option<u32>, Expected>
     ensures form { OnOk result (HasFront Current words.old words.new) }
     ensures full { (c : Option ℕ) → IfSome c (λ r. r < 2 ^ 32) → words.old ≡ codes "current" ∷ current_word c ∷ [] → (result ≡ Ok c) × (words.new ≡ []) }
+    ensures absent { words.old ≡ [] → (result ≡ Ok None) × (words.new ≡ []) }
 {
     if !words.take("current") {
         return Ok(None);
@@ -225,7 +227,7 @@ pub(crate) fn follows(told: Option<u64>, what: &'static str, number: u64) -> Res
 impl Draft {
     // Reads the words behind the first word of a line.
     fn add(&mut self, first: &str, words: Words<'_>, line: u64) -> Result<(), Refusal>
-        ensures says { (l : Line) (c : Content) → first.now ∷ words.entry ≡ words_of l → Takes (content self.old) l c → Becomes result (content self.new) c }
+        ensures says { (l : Short) (c : Content) → first.now ∷ words.entry ≡ short_words l → Gives (content self.old) l c → Becomes result (content self.new) c }
         ensures form { OnOk result (ImageLine (first.now ∷ words.entry)) }
     {
         match first {
@@ -243,6 +245,7 @@ impl Draft {
     fn add_root(&mut self, words: Words<'_>, line: u64) -> Result<(), Refusal>
         ensures form { OnOk result (RootLine (codes "root" ∷ words.entry)) }
         ensures full { (m x : ℕ) (c : Content) → codes "root" ∷ words.entry ≡ words_of (Root m x) → Takes (content self.old) (Root m x) c → Becomes result (content self.new) c }
+        ensures bare { (m x : ℕ) (c : Content) → words.entry ≡ reference_word x ∷ [] → Takes (content self.old) (Root m x) c → Becomes result (content self.new) c }
     {
         let next = self.roots.len() as u64;
         let most = u64::from(MOST_ROOTS);
@@ -268,6 +271,7 @@ impl Draft {
     // covered
     fn cover(&mut self, words: Words<'_>) -> Result<(), Refusal>
         ensures form { OnOk result (CoveredLine (codes "covered" ∷ words.entry)) }
+        ensures said { words.entry ≡ [] → (result ≡ Ok tt) × (content self.new ≡ record (content self.old) { covered = true }) }
     {
         words.end()?;
         self.covered = true;
@@ -292,7 +296,7 @@ impl Draft {
     // region [NUMBER] KIND [top WORDS] [objects COUNT] [cards COUNT] [pinned]
     fn add_region(&mut self, mut words: Words<'_>, line: u64) -> Result<(), Refusal>
         ensures form { OnOk result (RegionLine (codes "region" ∷ words.entry)) }
-        ensures full { (r : ℕ) (k : KindOf) (t o m : ℕ) (p : Bool) (c : Content) → codes "region" ∷ words.entry ≡ words_of (Numbers r k t o m p) → Takes (content self.old) (Numbers r k t o m p) c → Becomes result (content self.new) c }
+        ensures short { (r : Option ℕ) (k : KindOf) (t o m : Option ℕ) (p : Bool) (c : Content) → codes "region" ∷ words.entry ≡ short_words (RegionAs r k t o m p) → Gives (content self.old) (RegionAs r k t o m p) c → Becomes result (content self.new) c }
     {
         let told = words.take_number();
         let kind = region_kind(&mut words)?;
@@ -306,7 +310,8 @@ impl Draft {
 
     // Adds a region of a kind, and those below it that no line has. Returns its number.
     fn begin_region(&mut self, told: Option<u64>, kind: Kind) -> Result<usize, Refusal>
-        ensures { told ≡ Some (length (content self.old).regions) → length (content self.old).regions < self.old.geometry.n → MayFollow (content self.old) kind → MatchResult result (λ r. (r ≡ length (content self.old).regions) × (content self.new ≡ with_region (content self.old) kind)) (λ e. e ≡ Refusal.Memory) }
+        ensures told { told ≡ Some (length (content self.old).regions) → length (content self.old).regions < self.old.geometry.n → MayFollow (content self.old) kind → MatchResult result (λ r. (r ≡ length (content self.old).regions) × (content self.new ≡ with_region (content self.old) kind)) (λ e. e ≡ Refusal.Memory) }
+        ensures next { told ≡ None → length (content self.old).regions < self.old.geometry.n → MayFollow (content self.old) kind → MatchResult result (λ r. (r ≡ length (content self.old).regions) × (content self.new ≡ with_region (content self.old) kind)) (λ e. e ≡ Refusal.Memory) }
     {
         if !kind.is_continuation() {
             self.end_run()?;
@@ -323,7 +328,8 @@ impl Draft {
 
     // The number of a region behind the last one: the next one, unless a line has another.
     fn region_number(&self, told: Option<u64>) -> Result<u64, Expected>
-        ensures { told ≡ Some (length (content self.now).regions) → length (content self.now).regions < self.now.geometry.n → result ≡ Ok (length (content self.now).regions) }
+        ensures told { told ≡ Some (length (content self.now).regions) → length (content self.now).regions < self.now.geometry.n → result ≡ Ok (length (content self.now).regions) }
+        ensures next { told ≡ None → length (content self.now).regions < self.now.geometry.n → result ≡ Ok (length (content self.now).regions) }
     {
         let next = self.regions.len() as u64;
         let number = told.unwrap_or(next);
@@ -334,7 +340,7 @@ impl Draft {
     // object [ADDRESS] SIZE/SLOTS SLOT .. WORD .. [..]
     fn add_object(&mut self, mut words: Words<'_>, line: u64) -> Result<(), Refusal>
         ensures form { OnOk result (ObjectLine (codes "object" ∷ words.entry)) }
-        ensures full { (at : ℕ) (slots values : List ℕ) (c : Content) → codes "object" ∷ words.entry ≡ words_of (Holds at slots values) → Takes (content self.old) (Holds at slots values) c → Becomes result (content self.new) c }
+        ensures short { (at : Option ℕ) (slots values : List ℕ) (given : Option ℕ) (c : Content) → codes "object" ∷ words.entry ≡ short_words (ObjectAs at slots values given) → Gives (content self.old) (ObjectAs at slots values given) c → Becomes result (content self.new) c }
     {
         let told = words.take_number();
         let (size, slots) = size(&mut words)?;
@@ -386,7 +392,7 @@ fn add_content(
     count: u64,
 ) -> Result<(), Refusal>
     ensures form { slots + count < 2 ^ 64 → OnOk result (Holding IsReferenceWord slots count words.entry) }
-    ensures full { (refs values : List ℕ) → slots ≡ length refs → count ≡ length values → slots + count < 2 ^ 64 → All (λ x. x < 2 ^ 64) refs → All (λ x. x < 2 ^ 64) values → words.entry ≡ map reference_word refs ++ map decimal values → MatchResult result (λ _. content.new.items ≡ content.old.items ++ (refs ++ values)) (λ e. e ≡ Refusal.Memory) }
+    ensures short { (refs values : List ℕ) (given : Option ℕ) → slots ≡ length refs → count ≡ length values → slots + count < 2 ^ 64 → All (λ x. x < 2 ^ 64) refs → All (λ x. x < 2 ^ 64) values → IsZeroFrom given (refs ++ values) → words.entry ≡ abridged (map reference_word refs ++ map decimal values) given → MatchResult result (λ _. content.new.items ≡ content.old.items ++ (refs ++ values)) (λ e. e ≡ Refusal.Memory) }
 {
     let (given, missing) = given_words(&mut words, slots, count)?;
     let references = slots.min(given);
@@ -404,7 +410,7 @@ pub(crate) fn given_words(
 ) -> Result<(u64, u64), Expected>
     ensures form { slots + count < 2 ^ 64 → IfOk result (λ p. (p.0 ≡ length words.new) × (p.0 + p.1 ≡ slots + count) × (((p.1 ≡ 0) × (words.old ≡ words.new)) ⊎ (words.old ≡ words.new ++ codes ".." ∷ []))) }
     ensures open { (words.old ≡ words.new ++ codes ".." ∷ []) ⊎ ((words.old ≡ words.new) × ((front : List (List ℕ)) → words.old ≢ front ++ codes ".." ∷ [])) }
-    ensures full { (refs values : List ℕ) → slots ≡ length refs → count ≡ length values → slots + count < 2 ^ 64 → All (λ x. x < 2 ^ 64) refs → All (λ x. x < 2 ^ 64) values → words.old ≡ map reference_word refs ++ map decimal values → (result ≡ Ok (slots + count, 0)) × (words.new ≡ map reference_word refs ++ map decimal values) }
+    ensures refused { slots + count < 2 ^ 64 → IfErr result (λ _. (slots + count < length words.new) ⊎ ((words.old ≡ words.new) × (length words.new ≢ slots + count))) }
 {
     let whole = slots.saturating_add(count);
     let open = words.take_last("..");
@@ -458,6 +464,7 @@ pub(crate) fn add_zeros(content: &mut Vec<u64>, count: u64) -> Result<(), AllocE
 fn root(mut words: Words<'_>, next: u64) -> Result<u64, Expected>
     ensures form { OnOk result ((Maybe Number ▸ Single IsReferenceWord) words.entry) }
     ensures full { (x : ℕ) → x < 2 ^ 64 → words.entry ≡ decimal next ∷ reference_word x ∷ [] → result ≡ Ok x }
+    ensures bare { (x : ℕ) → x < 2 ^ 64 → words.entry ≡ reference_word x ∷ [] → result ≡ Ok x }
 {
     if words.len() > 1 {
         let told = words.take_number();
@@ -484,7 +491,7 @@ fn add_cards(mut words: Words<'_>, cards: &mut Vec<u32>) -> Result<(), Refusal>
 // [top WORDS] [objects COUNT] [cards COUNT]
 fn read_counts(region: usize, words: &mut Words<'_>, line: u64) -> Result<Told, Expected>
     ensures form { OnOk result (HasFront (Labelled (codes "top") ▸ Labelled (codes "objects") ▸ Labelled (codes "cards")) words.old words.new) }
-    ensures full { (top objects cards : ℕ) (rest : List (List ℕ)) → top < 2 ^ 64 → objects < 2 ^ 64 → cards < 2 ^ 64 → words.old ≡ codes "top" ∷ decimal top ∷ codes "objects" ∷ decimal objects ∷ codes "cards" ∷ decimal cards ∷ rest → (result ≡ Ok (record { line = line; region = region; top = Some top; objects = Some objects; cards = Some cards; found = 0 })) × (words.new ≡ rest) }
+    ensures short { (top objects cards : Option ℕ) (p : Bool) → Fits top → Fits objects → Fits cards → words.old ≡ counts_words top objects cards (pinned_words p) → (result ≡ Ok (record { line = line; region = region; top = top; objects = objects; cards = cards; found = 0 })) × (words.new ≡ pinned_words p) }
 {
     let top = words.take_named("top")?;
     let objects = words.take_named("objects")?;

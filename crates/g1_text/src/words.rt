@@ -34,7 +34,7 @@ impl<'a> Model for Words<'a> {
 }
 
 impl<'a> Words<'a> {
-    ghost use Rattle.std.specs.Prelude.{◌≡◌, ◌≢◌, ◌<◌, ◌^◌, ℕ, List, [], ◌∷◌, ◌++◌, Some, Ok, length, map, decimal, OnOk, IfOk, MatchOption, MatchBool, MatchResult};
+    ghost use Rattle.std.specs.Prelude.{◌≡◌, ◌≢◌, ◌<◌, ◌^◌, ℕ, List, [], ◌∷◌, ◌++◌, Some, None, Ok, length, map, decimal, OnOk, IfOk, MatchOption, MatchBool, MatchResult};
     ghost use Rattle.g1_text.specs.Lines.{reference_word};
     ghost use Rattle.g1_text.specs.Forms.{Spells, IsBelow, StandsFor, IsReferenceWord, Denotes, Word, Single, Labelled, ◌▸◌, HasFront, HasFirst, HasNoFirst};
 
@@ -155,6 +155,7 @@ impl<'a> Words<'a> {
     pub(crate) fn take_named(&mut self, word: &'static str) -> Result<Option<u64>, Expected>
         ensures digits { IfOk result (λ r. MatchOption r (self.new ≡ self.old) (λ n. HasFront (Word word.now ▸ Single (Spells (2 ^ 64) n)) self.old self.new)) }
         ensures form { OnOk result (HasFront (Labelled word.now) self.old self.new) }
+        ensures absent { ((rest : List (List ℕ)) → self.old ≢ word.now ∷ rest) → (result ≡ Ok None) × (self.new ≡ self.old) }
         ensures full { (n : ℕ) (rest : List (List ℕ)) → n < 2 ^ 64 → self.old ≡ word.now ∷ decimal n ∷ rest → (result ≡ Ok (Some n)) × (self.new ≡ rest) }
     {
         if !self.take(word) {

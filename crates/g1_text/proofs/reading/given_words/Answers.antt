@@ -1,16 +1,8 @@
-use Rattle.std.proofs.Common.{◌∷◌, [], inl, inr, ⊎_elim, length, refl, ap, arith}
+use Rattle.std.proofs.Common.{◌∷◌, [], inl, inr, ⊎_elim, refl, arith}
 use Rattle.std.specs.Prelude.{codes}
-use Rattle.g1_text.proofs.Gathering.{none_left_out, content_count}
 use Rattle.std.proofs.lemmas.Bool.Decides.{when_true}
 use Rattle.g1_text.proofs.Fronts.{dots_or_none}
 use Rattle.g1_text.proofs.reading.given_words.Goals as goal
-
-pub returns-clause-full : goal.returns-clause-full
-returns-clause-full c = λ refs values slots count fit fr fv e.
-    let left = none_left_out c.take_last-open.result c.args.words.now c.take_last-open.new.self refs values fr fv e c.take_last-open.ensures in
-    let some = ap length left in
-    let all = content_count refs values in
-    absurd (omega (arith, c.len-given.ensures, some, all, c.saturating_add-whole.ensures, slots, count, fit, c.if-given-whole.false))
 
 pub returns-then-given-whole-clause-form : goal.returns-then-given-whole-clause-form
 returns-then-given-whole-clause-form c = λ fits. (

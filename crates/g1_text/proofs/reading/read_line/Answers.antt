@@ -3,14 +3,14 @@ use Rattle.std.specs.Prelude.{OnOk}
 use Rattle.std.specs.Option.{is_some}
 use Rattle.g1_text.specs.Reading.{words_in, says_something}
 use Rattle.g1_text.specs.Forms.{ImageHeading, ImageLine}
-use Rattle.g1_text.specs.Content.{Says}
+use Rattle.g1_text.specs.Short.{Tells}
 use Rattle.g1_text.specs.Drafts.{said, IsTaken}
 use Rattle.g1_text.proofs.reading.read_line.Goals as goal
 
 pub returns-clause-says : goal.returns-clause-says
 returns-clause-says c = λ after utf8 some says.
     let e = c.new.ensures ∙ ap (map (λ t. t.now)) c.as_slice.ensures.value ∙ c.in_ok-cut_words.ensures ∙ ap words_in c.in-Ok.ensures.cases.0 in
-    c.read_words.ensures.says after (ap says_something e ∙ some) (subst (λ ws. Says (said c.args.draft.now) ws after) (sym e) says)
+    c.read_words.ensures.says after (ap says_something e ∙ some) (subst (λ ws. Tells (said c.args.draft.now) ws after) (sym e) says)
 
 pub returns-clause-nothing : goal.returns-clause-nothing
 returns-clause-nothing c = λ utf8 none.

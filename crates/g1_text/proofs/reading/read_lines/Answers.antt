@@ -4,7 +4,7 @@ use Rattle.std.proofs.lemmas.List.Elements.{All-nil}
 use Rattle.g1_text.specs.declared.expected.Refusal.TheVariants.{Memory}
 use Rattle.g1_text.specs.Reading.{parts_of}
 use Rattle.g1_text.specs.Forms.{ImageHeading, ImageLine}
-use Rattle.g1_text.specs.Content.{SaysAll}
+use Rattle.g1_text.specs.Short.{TellsAll}
 use Rattle.g1_text.specs.Drafts.{said}
 use Rattle.g1_text.proofs.Turns.{ToRead, parts_left, size_left, split_off, less_left, turned, at_ok, at_err}
 use Rattle.g1_text.proofs.Formed.{IsLeft, nothing_read, one_more}
@@ -23,7 +23,7 @@ returns-in-Err-clause-says c = λ lines after has all.
 
 pub lines-init : goal.lines-init
 lines-init c = (
-  (λ lines after has all. (has.utf8, subst (λ ls. SaysAll (said c.args.draft.now) ls (Some after)) (sym has.same) all)),
+  (λ lines after has all. (has.utf8, subst (λ ls. TellsAll (said c.args.draft.now) ls (Some after)) (sym has.same) all)),
   nothing_read ImageHeading ImageLine (parts_of c.args.text.now) (is_some (said c.args.draft.now)),
   (λ none. subst (IsReadUpTo (parts_of c.args.text.now) (parts_of c.args.text.now) 0) (sym none) (none_read (parts_of c.args.text.now))),
   omega arith,

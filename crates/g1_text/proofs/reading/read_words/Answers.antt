@@ -5,7 +5,7 @@ use Rattle.std.proofs.lemmas.Str.Pattern.{starts_char}
 use Rattle.std.specs.Option.{is_some}
 use Rattle.g1_text.specs.Reading.{says_something}
 use Rattle.g1_text.specs.Forms.{ImageHeading, ImageLine}
-use Rattle.g1_text.specs.Content.{Says}
+use Rattle.g1_text.specs.Short.{Tells}
 use Rattle.g1_text.specs.Drafts.{said, IsTaken}
 use Rattle.g1_text.proofs.Comments.{comment, statement}
 use Rattle.g1_text.proofs.reading.read_words.Goals as goal
@@ -25,7 +25,7 @@ pub returns-then-starts_with-clause-nothing : goal.returns-then-starts_with-clau
 returns-then-starts_with-clause-nothing c = λ none. refl
 
 pub returns-clause-says : goal.returns-clause-says
-returns-clause-says c = λ after some says. c.begin_or_add.ensures.says after (subst (λ ws. Says (said c.args.draft.now) ws after) c.in-Some.ensures says)
+returns-clause-says c = λ after some says. c.begin_or_add.ensures.says after (subst (λ ws. Tells (said c.args.draft.now) ws after) c.in-Some.ensures says)
 
 pub returns-clause-nothing : goal.returns-clause-nothing
 returns-clause-nothing c = λ none.

@@ -1,7 +1,10 @@
-use Rattle.std.proofs.Common.{◌≡◌, inl, inr, ℕ, Bool, List, [], ◌∷◌, get_or, sym, ◌∙◌, ap, subst, arith}
-use Rattle.std.specs.Prelude.{codes}
+use Rattle.std.proofs.Common.{◌≡◌, inl, inr, ℕ, Bool, true, List, [], ◌∷◌, drop, get_or, sym, ◌∙◌, ap, subst, arith}
+use Rattle.std.specs.Prelude.{Option, Some, None, Result, Ok, codes}
+use Rattle.g1_text.specs.declared.expected.Refusal.{Refusal}
 use Rattle.g1_words.specs.declared.region.Kind.{Kind}
-use Rattle.g1_text.specs.Content.{Content, Line, Root, Dirty, Numbers, Remembered, Holds, words_of, Takes}
+use Rattle.g1_text.specs.Lines.{reference_word}
+use Rattle.g1_text.specs.Content.{Content, Root, Dirty, Remembered, words_of, Takes}
+use Rattle.g1_text.specs.Short.{Short, RootAs, DirtyAs, Covered, RegionAs, RememberedAs, ObjectAs, short_words, Gives}
 use Rattle.g1_text.specs.Drafts.{content, Becomes}
 use Rattle.std.proofs.lemmas.Result.{on_ok_weaker}
 use Rattle.g1_text.specs.Forms.{RootLine, DirtyLine, CoveredLine, RegionLine, RememberedLine, ObjectLine}
@@ -12,89 +15,102 @@ abbrev third : List (List ℕ) → ℕ
 third words = get_or (get_or words 0 []) 2 0
 
 module _ (s : Content) (words : List (List ℕ)) (X : Content → Type 0) where
-  in_root : ((m x : ℕ) (c : Content) → codes "root" ∷ words ≡ words_of (Root m x) → Takes s (Root m x) c → X c)
-      → (l : Line) (c : Content) → codes "root" ∷ words ≡ words_of l → Takes s l c → X c
-  in_root f (Root m x) c e takes = f m x c e takes
-  in_root f (Dirty cards) c e takes = let d : 111 ≡ 114 = ap third e in absurd (omega (arith, d))
-  in_root f (Numbers r k t o m p) c e takes = let d : 111 ≡ 103 = ap third e in absurd (omega (arith, d))
-  in_root f (Remembered r cards) c e takes = let d : 111 ≡ 109 = ap third e in absurd (omega (arith, d))
-  in_root f (Holds at slots values) c e takes = let d : 111 ≡ 106 = ap third e in absurd (omega (arith, d))
+  in_root : ((m x : ℕ) (c : Content) → codes "root" ∷ words ≡ words_of (Root m x) → Takes s (Root m x) c → X c) → ((m x : ℕ) (c : Content) → words ≡ reference_word x ∷ [] → Takes s (Root m x) c → X c)
+      → (l : Short) (c : Content) → codes "root" ∷ words ≡ short_words l → Gives s l c → X c
+  in_root f bare (RootAs (Some m) x) c e (n, count, takes) = f m x c e (subst (λ k. Takes s (Root k x) c) (sym count) takes)
+  in_root f bare (RootAs None x) c e (n, count, takes) = bare n x c (ap (drop 1) e) takes
+  in_root f bare (DirtyAs cards) c e gives = let d : 111 ≡ 114 = ap third e in absurd (omega (arith, d))
+  in_root f bare Covered c e gives = let d : 111 ≡ 118 = ap third e in absurd (omega (arith, d))
+  in_root f bare (RegionAs r k t o m p) c e gives = let d : 111 ≡ 103 = ap third e in absurd (omega (arith, d))
+  in_root f bare (RememberedAs r cards) c e gives = let d : 111 ≡ 109 = ap third e in absurd (omega (arith, d))
+  in_root f bare (ObjectAs at slots values given) c e gives = let d : 111 ≡ 106 = ap third e in absurd (omega (arith, d))
 
   in_dirty : ((cards : List ℕ) (c : Content) → codes "dirty" ∷ words ≡ words_of (Dirty cards) → Takes s (Dirty cards) c → X c)
-      → (l : Line) (c : Content) → codes "dirty" ∷ words ≡ words_of l → Takes s l c → X c
-  in_dirty f (Root m x) c e takes = let d : 114 ≡ 111 = ap third e in absurd (omega (arith, d))
-  in_dirty f (Dirty cards) c e takes = f cards c e takes
-  in_dirty f (Numbers r k t o m p) c e takes = let d : 114 ≡ 103 = ap third e in absurd (omega (arith, d))
-  in_dirty f (Remembered r cards) c e takes = let d : 114 ≡ 109 = ap third e in absurd (omega (arith, d))
-  in_dirty f (Holds at slots values) c e takes = let d : 114 ≡ 106 = ap third e in absurd (omega (arith, d))
+      → (l : Short) (c : Content) → codes "dirty" ∷ words ≡ short_words l → Gives s l c → X c
+  in_dirty f (RootAs m x) c e gives = let d : 114 ≡ 111 = ap third e in absurd (omega (arith, d))
+  in_dirty f (DirtyAs cards) c e takes = f cards c e takes
+  in_dirty f Covered c e gives = let d : 114 ≡ 118 = ap third e in absurd (omega (arith, d))
+  in_dirty f (RegionAs r k t o m p) c e gives = let d : 114 ≡ 103 = ap third e in absurd (omega (arith, d))
+  in_dirty f (RememberedAs r cards) c e gives = let d : 114 ≡ 109 = ap third e in absurd (omega (arith, d))
+  in_dirty f (ObjectAs at slots values given) c e gives = let d : 114 ≡ 106 = ap third e in absurd (omega (arith, d))
 
-  in_region : ((r : ℕ) (k : Kind) (t o m : ℕ) (p : Bool) (c : Content) → codes "region" ∷ words ≡ words_of (Numbers r k t o m p) → Takes s (Numbers r k t o m p) c → X c)
-      → (l : Line) (c : Content) → codes "region" ∷ words ≡ words_of l → Takes s l c → X c
-  in_region f (Root m x) c e takes = let d : 103 ≡ 111 = ap third e in absurd (omega (arith, d))
-  in_region f (Dirty cards) c e takes = let d : 103 ≡ 114 = ap third e in absurd (omega (arith, d))
-  in_region f (Numbers r k t o m p) c e takes = f r k t o m p c e takes
-  in_region f (Remembered r cards) c e takes = let d : 103 ≡ 109 = ap third e in absurd (omega (arith, d))
-  in_region f (Holds at slots values) c e takes = let d : 103 ≡ 106 = ap third e in absurd (omega (arith, d))
+  in_covered : (words ≡ [] → X (record s { covered = true }))
+      → (l : Short) (c : Content) → codes "covered" ∷ words ≡ short_words l → Gives s l c → X c
+  in_covered f (RootAs m x) c e gives = let d : 118 ≡ 111 = ap third e in absurd (omega (arith, d))
+  in_covered f (DirtyAs cards) c e gives = let d : 118 ≡ 114 = ap third e in absurd (omega (arith, d))
+  in_covered f Covered c e is = subst X (sym is) (f (ap (drop 1) e))
+  in_covered f (RegionAs r k t o m p) c e gives = let d : 118 ≡ 103 = ap third e in absurd (omega (arith, d))
+  in_covered f (RememberedAs r cards) c e gives = let d : 118 ≡ 109 = ap third e in absurd (omega (arith, d))
+  in_covered f (ObjectAs at slots values given) c e gives = let d : 118 ≡ 106 = ap third e in absurd (omega (arith, d))
+
+  in_region : ((r : Option ℕ) (k : Kind) (t o m : Option ℕ) (p : Bool) (c : Content) → codes "region" ∷ words ≡ short_words (RegionAs r k t o m p) → Gives s (RegionAs r k t o m p) c → X c)
+      → (l : Short) (c : Content) → codes "region" ∷ words ≡ short_words l → Gives s l c → X c
+  in_region f (RootAs m x) c e gives = let d : 103 ≡ 111 = ap third e in absurd (omega (arith, d))
+  in_region f (DirtyAs cards) c e gives = let d : 103 ≡ 114 = ap third e in absurd (omega (arith, d))
+  in_region f Covered c e gives = let d : 103 ≡ 118 = ap third e in absurd (omega (arith, d))
+  in_region f (RegionAs r k t o m p) c e gives = f r k t o m p c e gives
+  in_region f (RememberedAs r cards) c e gives = let d : 103 ≡ 109 = ap third e in absurd (omega (arith, d))
+  in_region f (ObjectAs at slots values given) c e gives = let d : 103 ≡ 106 = ap third e in absurd (omega (arith, d))
 
   in_remembered : ((r : ℕ) (cards : List ℕ) (c : Content) → codes "remembered" ∷ words ≡ words_of (Remembered r cards) → Takes s (Remembered r cards) c → X c)
-      → (l : Line) (c : Content) → codes "remembered" ∷ words ≡ words_of l → Takes s l c → X c
-  in_remembered f (Root m x) c e takes = let d : 109 ≡ 111 = ap third e in absurd (omega (arith, d))
-  in_remembered f (Dirty cards) c e takes = let d : 109 ≡ 114 = ap third e in absurd (omega (arith, d))
-  in_remembered f (Numbers r k t o m p) c e takes = let d : 109 ≡ 103 = ap third e in absurd (omega (arith, d))
-  in_remembered f (Remembered r cards) c e takes = f r cards c e takes
-  in_remembered f (Holds at slots values) c e takes = let d : 109 ≡ 106 = ap third e in absurd (omega (arith, d))
+      → (l : Short) (c : Content) → codes "remembered" ∷ words ≡ short_words l → Gives s l c → X c
+  in_remembered f (RootAs m x) c e gives = let d : 109 ≡ 111 = ap third e in absurd (omega (arith, d))
+  in_remembered f (DirtyAs cards) c e gives = let d : 109 ≡ 114 = ap third e in absurd (omega (arith, d))
+  in_remembered f Covered c e gives = let d : 109 ≡ 118 = ap third e in absurd (omega (arith, d))
+  in_remembered f (RegionAs r k t o m p) c e gives = let d : 109 ≡ 103 = ap third e in absurd (omega (arith, d))
+  in_remembered f (RememberedAs r cards) c e takes = f r cards c e takes
+  in_remembered f (ObjectAs at slots values given) c e gives = let d : 109 ≡ 106 = ap third e in absurd (omega (arith, d))
 
-  in_object : ((at : ℕ) (slots values : List ℕ) (c : Content) → codes "object" ∷ words ≡ words_of (Holds at slots values) → Takes s (Holds at slots values) c → X c)
-      → (l : Line) (c : Content) → codes "object" ∷ words ≡ words_of l → Takes s l c → X c
-  in_object f (Root m x) c e takes = let d : 106 ≡ 111 = ap third e in absurd (omega (arith, d))
-  in_object f (Dirty cards) c e takes = let d : 106 ≡ 114 = ap third e in absurd (omega (arith, d))
-  in_object f (Numbers r k t o m p) c e takes = let d : 106 ≡ 103 = ap third e in absurd (omega (arith, d))
-  in_object f (Remembered r cards) c e takes = let d : 106 ≡ 109 = ap third e in absurd (omega (arith, d))
-  in_object f (Holds at slots values) c e takes = f at slots values c e takes
+  in_object : ((at : Option ℕ) (slots values : List ℕ) (given : Option ℕ) (c : Content) → codes "object" ∷ words ≡ short_words (ObjectAs at slots values given) → Gives s (ObjectAs at slots values given) c → X c)
+      → (l : Short) (c : Content) → codes "object" ∷ words ≡ short_words l → Gives s l c → X c
+  in_object f (RootAs m x) c e gives = let d : 106 ≡ 111 = ap third e in absurd (omega (arith, d))
+  in_object f (DirtyAs cards) c e gives = let d : 106 ≡ 114 = ap third e in absurd (omega (arith, d))
+  in_object f Covered c e gives = let d : 106 ≡ 118 = ap third e in absurd (omega (arith, d))
+  in_object f (RegionAs r k t o m p) c e gives = let d : 106 ≡ 103 = ap third e in absurd (omega (arith, d))
+  in_object f (RememberedAs r cards) c e gives = let d : 106 ≡ 109 = ap third e in absurd (omega (arith, d))
+  in_object f (ObjectAs at slots values given) c e gives = f at slots values given c e gives
 
--- no other line begins so
-not_covered : (words : List (List ℕ)) (l : Line) → codes "covered" ∷ words ≡ words_of l → ⊥
-not_covered words (Root m x) e = let d : 118 ≡ 111 = ap third e in absurd (omega (arith, d))
-not_covered words (Dirty cards) e = let d : 118 ≡ 114 = ap third e in absurd (omega (arith, d))
-not_covered words (Numbers r k t o m p) e = let d : 118 ≡ 103 = ap third e in absurd (omega (arith, d))
-not_covered words (Remembered r cards) e = let d : 118 ≡ 109 = ap third e in absurd (omega (arith, d))
-not_covered words (Holds at slots values) e = let d : 118 ≡ 106 = ap third e in absurd (omega (arith, d))
+none_of : (first : List ℕ) (words : List (List ℕ)) → (first ≡ codes "root" → ⊥) → (first ≡ codes "dirty" → ⊥) → (first ≡ codes "covered" → ⊥) → (first ≡ codes "region" → ⊥)
+    → (first ≡ codes "remembered" → ⊥) → (first ≡ codes "object" → ⊥) → (l : Short) → first ∷ words ≡ short_words l → ⊥
+none_of first words root dirty covered region remembered object (RootAs m x) e = root (ap (λ ws. get_or ws 0 []) e)
+none_of first words root dirty covered region remembered object (DirtyAs cards) e = dirty (ap (λ ws. get_or ws 0 []) e)
+none_of first words root dirty covered region remembered object Covered e = covered (ap (λ ws. get_or ws 0 []) e)
+none_of first words root dirty covered region remembered object (RegionAs r k t o m p) e = region (ap (λ ws. get_or ws 0 []) e)
+none_of first words root dirty covered region remembered object (RememberedAs r cards) e = remembered (ap (λ ws. get_or ws 0 []) e)
+none_of first words root dirty covered region remembered object (ObjectAs at slots values given) e = object (ap (λ ws. get_or ws 0 []) e)
 
-none_of : (first : List ℕ) (words : List (List ℕ)) → (first ≡ codes "root" → ⊥) → (first ≡ codes "dirty" → ⊥) → (first ≡ codes "region" → ⊥)
-    → (first ≡ codes "remembered" → ⊥) → (first ≡ codes "object" → ⊥) → (l : Line) → first ∷ words ≡ words_of l → ⊥
-none_of first words root dirty region remembered object (Root m x) e = root (ap (λ ws. get_or ws 0 []) e)
-none_of first words root dirty region remembered object (Dirty cards) e = dirty (ap (λ ws. get_or ws 0 []) e)
-none_of first words root dirty region remembered object (Numbers r k t o m p) e = region (ap (λ ws. get_or ws 0 []) e)
-none_of first words root dirty region remembered object (Remembered r cards) e = remembered (ap (λ ws. get_or ws 0 []) e)
-none_of first words root dirty region remembered object (Holds at slots values) e = object (ap (λ ws. get_or ws 0 []) e)
+-- an Ok with this content
+becomes : {after c : Content} (r : Result (Unit {0}) Refusal) → r ≡ Ok tt → after ≡ c → Becomes r after c
+becomes {after} {c} r is e = subst (λ x. Becomes x after c) (sym is) e
 
 pub returns-in-root-clause-says : goal.returns-in-root-clause-says
-returns-in-root-clause-says c = λ l after e takes.
-    in_root (content c.args.self.now) c.args.words (λ d. Becomes c.add_root.result (content c.add_root.new.self) d) c.add_root.ensures.full l after ((λ i. sym c.in-root.is i ∷ c.args.words) ∙ e) takes
+returns-in-root-clause-says c = λ l after e gives.
+    in_root (content c.args.self.now) c.args.words (λ d. Becomes c.add_root.result (content c.add_root.new.self) d) c.add_root.ensures.full c.add_root.ensures.bare l after ((λ i. sym c.in-root.is i ∷ c.args.words) ∙ e) gives
 
 pub returns-in-dirty-clause-says : goal.returns-in-dirty-clause-says
-returns-in-dirty-clause-says c = λ l after e takes.
-    in_dirty (content c.args.self.now) c.args.words (λ d. Becomes c.add_dirty.result (content c.add_dirty.new.self) d) c.add_dirty.ensures.full l after ((λ i. sym c.in-dirty.is i ∷ c.args.words) ∙ e) takes
+returns-in-dirty-clause-says c = λ l after e gives.
+    in_dirty (content c.args.self.now) c.args.words (λ d. Becomes c.add_dirty.result (content c.add_dirty.new.self) d) c.add_dirty.ensures.full l after ((λ i. sym c.in-dirty.is i ∷ c.args.words) ∙ e) gives
 
 pub returns-in-covered-clause-says : goal.returns-in-covered-clause-says
-returns-in-covered-clause-says c = λ l after e takes. absurd (not_covered c.args.words l ((λ i. sym c.in-covered.is i ∷ c.args.words) ∙ e))
+returns-in-covered-clause-says c = λ l after e gives.
+    in_covered (content c.args.self.now) c.args.words (λ d. Becomes c.cover.result (content c.cover.new.self) d) (λ none. let read = c.cover.ensures.said none in becomes c.cover.result read.0 read.1) l after ((λ i. sym c.in-covered.is i ∷ c.args.words) ∙ e) gives
 
 pub returns-in-region-clause-says : goal.returns-in-region-clause-says
-returns-in-region-clause-says c = λ l after e takes.
-    in_region (content c.args.self.now) c.args.words (λ d. Becomes c.add_region.result (content c.add_region.new.self) d) c.add_region.ensures.full l after ((λ i. sym c.in-region.is i ∷ c.args.words) ∙ e) takes
+returns-in-region-clause-says c = λ l after e gives.
+    in_region (content c.args.self.now) c.args.words (λ d. Becomes c.add_region.result (content c.add_region.new.self) d) c.add_region.ensures.short l after ((λ i. sym c.in-region.is i ∷ c.args.words) ∙ e) gives
 
 pub returns-in-remembered-clause-says : goal.returns-in-remembered-clause-says
-returns-in-remembered-clause-says c = λ l after e takes.
-    in_remembered (content c.args.self.now) c.args.words (λ d. Becomes c.add_remembered.result (content c.add_remembered.new.self) d) c.add_remembered.ensures.full l after ((λ i. sym c.in-remembered.is i ∷ c.args.words) ∙ e) takes
+returns-in-remembered-clause-says c = λ l after e gives.
+    in_remembered (content c.args.self.now) c.args.words (λ d. Becomes c.add_remembered.result (content c.add_remembered.new.self) d) c.add_remembered.ensures.full l after ((λ i. sym c.in-remembered.is i ∷ c.args.words) ∙ e) gives
 
 pub returns-in-object-clause-says : goal.returns-in-object-clause-says
-returns-in-object-clause-says c = λ l after e takes.
-    in_object (content c.args.self.now) c.args.words (λ d. Becomes c.add_object.result (content c.add_object.new.self) d) c.add_object.ensures.full l after ((λ i. sym c.in-object.is i ∷ c.args.words) ∙ e) takes
+returns-in-object-clause-says c = λ l after e gives.
+    in_object (content c.args.self.now) c.args.words (λ d. Becomes c.add_object.result (content c.add_object.new.self) d) c.add_object.ensures.short l after ((λ i. sym c.in-object.is i ∷ c.args.words) ∙ e) gives
 
 pub returns-in_default-clause-says : goal.returns-in_default-clause-says
-returns-in_default-clause-says c = λ l after e takes.
+returns-in_default-clause-says c = λ l after e gives.
     let other = c.in_default in
-    absurd (none_of c.args.first.now c.args.words other.not-root other.not-dirty other.not-region other.not-remembered other.not-object l e)
+    absurd (none_of c.args.first.now c.args.words other.not-root other.not-dirty other.not-covered other.not-region other.not-remembered other.not-object l e)
 
 pub returns-in-root-clause-form : goal.returns-in-root-clause-form
 returns-in-root-clause-form c = on_ok_weaker c.add_root.result (λ f. inl (subst (λ word. RootLine (word ∷ c.args.words)) (sym c.in-root.is) f)) c.add_root.ensures.form

@@ -7,7 +7,9 @@ use Rattle.g1_words.specs.declared.region.Kind.TheVariants.{Ordinary, HumongousF
 use Rattle.g1_text.specs.Lines.{reference_word}
 use Rattle.g1_text.specs.Content.{Content, HasSpace, top_behind, beyond_behind, size_with}
 use Rattle.g1_text.specs.Drafts.{content}
+use Rattle.g1_text.specs.Short.{abridged}
 use Rattle.g1_text.proofs.Results.{ok_one, not_both}
+use Rattle.g1_text.proofs.Shortening.{number_told, size_no_number, count_fits, count_is}
 use Rattle.std.specs.Prelude.{codes}
 use Rattle.std.proofs.lemmas.Result.{on_ok_weaker}
 use Rattle.g1_text.specs.Forms.{Number, Maybe, Single, HasSize, Holding, IsReferenceWord, SizeAndWords, ◌▸◌}
@@ -21,41 +23,49 @@ top_within HumongousFirst g r t size room = omega (arith, room.0)
 top_within Free g r t size room = absurd room
 top_within Continuation g r t size room = absurd room
 
-pub returns-in_err-size-clause-full : goal.returns-in_err-size-clause-full
-returns-in_err-size-clause-full c = λ at slots values after e takes.
-    let rest = map reference_word slots ++ map decimal values in
-    let number = c.take_number-told.ensures.full at ((decimal (size_with slots values) ++ 47 ∷ decimal (length slots)) ∷ rest) takes.8 (ap (drop 1) e) in
+pub returns-in_err-size-clause-short : goal.returns-in_err-size-clause-short
+returns-in_err-size-clause-short c = λ at slots values given after e gives.
+    let takes = gives.2 in
+    let rest = abridged (map reference_word slots ++ map decimal values) given in
+    let number = number_told at (decimal (size_with slots values) ++ 47 ∷ decimal (length slots)) c.args.words c.take_number-told.new.self rest _ c.take_number-told.result
+    c.take_number-told.ensures.full c.take_number-told.ensures.digits (size_no_number (decimal (size_with slots values)) (decimal (length slots))) (count_fits at gives.0 gives.1 takes.8) (ap (drop 1) e) in
     let read = c.size.ensures.full (size_with slots values) (length slots) rest (omega arith) (omega (arith, takes.10)) number.1 in
     absurd (not_both c.in_err-size.was read.0)
 
-pub returns-in_err-follows-clause-full : goal.returns-in_err-follows-clause-full
-returns-in_err-follows-clause-full c = λ at slots values after e takes.
+pub returns-in_err-follows-clause-short : goal.returns-in_err-follows-clause-short
+returns-in_err-follows-clause-short c = λ at slots values given after e gives.
+    let takes = gives.2 in
     let q = takes.1 in
-    let rest = map reference_word slots ++ map decimal values in
-    let number = c.take_number-told.ensures.full at ((decimal (size_with slots values) ++ 47 ∷ decimal (length slots)) ∷ rest) takes.8 (ap (drop 1) e) in
+    let rest = abridged (map reference_word slots ++ map decimal values) given in
+    let number = number_told at (decimal (size_with slots values) ++ 47 ∷ decimal (length slots)) c.args.words c.take_number-told.new.self rest _ c.take_number-told.result
+    c.take_number-told.ensures.full c.take_number-told.ensures.digits (size_no_number (decimal (size_with slots values)) (decimal (length slots))) (count_fits at gives.0 gives.1 takes.8) (ap (drop 1) e) in
     let next = c.next_address-at.ensures takes.0 q takes.4 takes.6 (top_within q.kind c.args.self.now.geometry (length takes.0) q.top (size_with slots values) takes.9) in
-    absurd (c.in_err-follows.ensures (subst (λ told. IfSome told (λ t. t ≡ c.next_address-at.result)) (sym number.0) (takes.7 ∙ sym next)))
+    absurd (c.in_err-follows.ensures (subst (λ told. IfSome told (λ t. t ≡ c.next_address-at.result)) (sym number.0) (count_is at gives.0 c.next_address-at.result gives.1 (takes.7 ∙ sym next))))
 
-pub returns-in_err-take_room-clause-full : goal.returns-in_err-take_room-clause-full
-returns-in_err-take_room-clause-full c = λ at slots values after e takes.
+pub returns-in_err-take_room-clause-short : goal.returns-in_err-take_room-clause-short
+returns-in_err-take_room-clause-short c = λ at slots values given after e gives.
+    let takes = gives.2 in
     let g = c.args.self.now.geometry in
     let q = takes.1 in
-    let rest = map reference_word slots ++ map decimal values in
-    let number = c.take_number-told.ensures.full at ((decimal (size_with slots values) ++ 47 ∷ decimal (length slots)) ∷ rest) takes.8 (ap (drop 1) e) in
+    let rest = abridged (map reference_word slots ++ map decimal values) given in
+    let number = number_told at (decimal (size_with slots values) ++ 47 ∷ decimal (length slots)) c.args.words c.take_number-told.new.self rest _ c.take_number-told.result
+    c.take_number-told.ensures.full c.take_number-told.ensures.digits (size_no_number (decimal (size_with slots values)) (decimal (length slots))) (count_fits at gives.0 gives.1 takes.8) (ap (drop 1) e) in
     let read = c.size.ensures.full (size_with slots values) (length slots) rest (omega arith) (omega (arith, takes.10)) number.1 in
     let pair = ok_one c.in_ok-size.was read.0 in
     let size = ap (λ x. x.0) pair in
     let room = c.take_room.ensures.room takes.0 q takes.4 takes.6 (subst (λ n. n < 2 ^ 32) (sym size) takes.10) (subst (λ n. HasSpace q.kind g (length takes.0) q.top n) (sym size) takes.9) in
     absurd (not_both c.in_err-take_room.was room.0)
 
-pub returns-clause-full : goal.returns-clause-full
-returns-clause-full c = λ at slots values after e takes.
+pub returns-clause-short : goal.returns-clause-short
+returns-clause-short c = λ at slots values given after e gives.
+    let takes = gives.2 in
     let s = content c.args.self.now in
     let g = c.args.self.now.geometry in
     let below = takes.0 in
     let q = takes.1 in
-    let rest = map reference_word slots ++ map decimal values in
-    let number = c.take_number-told.ensures.full at ((decimal (size_with slots values) ++ 47 ∷ decimal (length slots)) ∷ rest) takes.8 (ap (drop 1) e) in
+    let rest = abridged (map reference_word slots ++ map decimal values) given in
+    let number = number_told at (decimal (size_with slots values) ++ 47 ∷ decimal (length slots)) c.args.words c.take_number-told.new.self rest _ c.take_number-told.result
+    c.take_number-told.ensures.full c.take_number-told.ensures.digits (size_no_number (decimal (size_with slots values)) (decimal (length slots))) (count_fits at gives.0 gives.1 takes.8) (ap (drop 1) e) in
     let read = c.size.ensures.full (size_with slots values) (length slots) rest (omega arith) (omega (arith, takes.10)) number.1 in
     let pair = ok_one c.in_ok-size.was read.0 in
     let size : c.in_ok-size.size ≡ length slots + length values + 1 = ap (λ x. x.0) pair in
@@ -68,7 +78,7 @@ returns-clause-full c = λ at slots values after e takes.
     let headed = c.in_ok-push-2.ensures.items ∙ (λ i. had i ++ (c.header_word.ensures ∙ (λ j. size j * 2 ^ 32 + refs j)) i ∷ []) in
     let more = ap (λ xs. xs ++ (slots ++ values)) headed ∙ append_assoc s.words ((size_with slots values * 2 ^ 32 + length slots) ∷ []) (slots ++ values) in
     let counts = c.count_object.ensures takes.2 takes.3 (ap (λ (x : Content). x.counts) room ∙ takes.5) takes.13 in
-    let added = c.add_content.ensures.full slots values refs others (omega (arith, refs, others, takes.10)) takes.11 takes.12 read.1 in
+    let added = c.add_content.ensures.short slots values given refs others (omega (arith, refs, others, takes.10)) takes.11 takes.12 gives.3 read.1 in
     MatchResult-weaker c.add_content.result added (λ _ e. (λ i. record (room i) { words = (e ∙ more) i; counts = counts i }) ∙ sym takes.14) (λ _ m. m)
 
 pub returns-clause-form : goal.returns-clause-form

@@ -7,6 +7,16 @@ use Rattle.g1_text.specs.Drafts.{content}
 use Rattle.g1_text.proofs.Laying.{laid_free}
 use Rattle.g1_text.proofs.draft.Draft.close.Goals as goal
 
+pub returns-clause-free : goal.returns-clause-free
+returns-clause-free c = λ none few.
+    let s = content c.args.self.now in
+    let before = c.in_ok-close_run.ensures.same none in
+    let end : c.regions-regions.result ≡ s.geometry.n = c.regions-regions.ensures.value ∙ ap (λ (x : Content). x.geometry.n) before in
+    let same : length (content c.close_run.new.self).regions ≡ length s.regions = ap (λ (x : Content). length x.regions) before in
+    let many : c.regions-regions.result - length (content c.close_run.new.self).regions ≡ s.geometry.n - length s.regions = omega (arith, end, same) in
+    on_ok_weaker c.fill_up_to.result (λ e. e ∙ (λ i. record (before i) { regions = (before i).regions ++ replicate (many i) free_region }))
+    (c.fill_up_to.ensures.free (omega (arith, same, few, end)))
+
 pub returns-clause-laid : goal.returns-clause-laid
 returns-clause-laid c = λ g os laid.
     let rs = laid.0 in
