@@ -4,7 +4,6 @@ ghost use Rattle.clap.specs.Words.{found_of, rows_of};
 ghost use Rattle.g1_choose.specs.Cost.{IsCost};
 ghost use Rattle.g1_work.specs.Team.{AreWorkers, IsChunk};
 ghost use Rattle.g1_answers.specs.Numbers.{RefusesNumbers, RefusesQuestion, RefusesPause, RefusesImage, AreSettingsOf, IsChoiceOf, cost_asked};
-
 ghost use Rattle.g1_command.specs.Values.{Because};
 ghost use Rattle.g1_answers.specs.Asked.{IsQuestionOf, IsPauseOf, HasNoNumberOf, number_options};
 

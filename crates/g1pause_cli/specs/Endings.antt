@@ -1,15 +1,18 @@
 -- How g1pause ends.
 use Rattle.std.specs.Prelude.{◌≡◌, ◌⊎◌, ℕ, List, codes, IsOk, Option, Result, Ok, Err}
 use Rattle.std.specs.Io.KnownBytes.{Keeps}
+use Rattle.clap.specs.Words.{Text}
 use Rattle.g1_words.specs.declared.fault.Fault.{Fault}
 use Rattle.g1_image.specs.Source.{HoldsOfLeft}
 use Rattle.g1_command.specs.declared.refusal.Ending.{Ending}
 use Rattle.g1_command.specs.declared.refusal.Refusal.{Refusal}
 use Rattle.g1_command.specs.declared.refusal.Refusal.TheVariants as refusal
 use Rattle.g1_command.specs.Refusals.{EndsBy}
+use Rattle.g1_command.specs.Requests.{IsUsageIf}
 use Rattle.g1_answers.specs.Replies.{Gives}
 use Rattle.g1pause_cli.specs.declared.options.Request.{Request}
 use Rattle.g1pause_cli.specs.Requests.{IsReplyTo}
+use Rattle.g1pause_cli.specs.Asks.{Asked, IsWrong}
 
 -- the program's name
 abbrev pub name : List ℕ
@@ -29,12 +32,13 @@ module _ (out_old out_new error_old error_new : Option (List ℕ)) where
     pub given : Gives (IsReplyTo request bytes) out_old out_new result
     pub ended : EndsWith result error_old error_new ending
 
-  -- the words are no request: nothing is on standard output
-  pub record EndsByWords (ending : Ending) : Type 0 where
+  -- the words are no request, or memory was wanted to read them: nothing is on standard output
+  pub record EndsByWords (words : List Text) (ending : Ending) : Type 0 where
     pub why : Refusal
+    pub wrong : IsUsageIf (IsWrong words) why
     pub silent : Keeps out_old out_new
     pub ended : EndsBy name why error_old error_new ending
 
-  -- how it ends by whatever words, with these bytes left to read
-  abbrev pub Ends : Option (List ℕ) → Ending → Type 0
-  Ends left ending = EndsByWords ending ⊎ ((request : Request) × HoldsOfLeft left (λ bytes. EndsByRequest request bytes ending))
+  -- HOW IT ENDS by words, with these bytes left to read: by the request that the words ask for, or by what is wrong with them
+  abbrev pub Ends : List Text → Option (List ℕ) → Ending → Type 0
+  Ends words left ending = EndsByWords words ending ⊎ ((request : Request) × Asked words request × HoldsOfLeft left (λ bytes. EndsByRequest request bytes ending))

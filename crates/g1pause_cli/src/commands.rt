@@ -1,5 +1,5 @@
 //! What the program does with a request.
-ghost use Rattle.std.specs.Prelude.{◌≡◌, Ok, IfOk, IfErr};
+ghost use Rattle.std.specs.Prelude.{◌≡◌, Ok, IfOk, IfErr, map};
 ghost use Rattle.g1_image.specs.Source.{HoldsOfLeft};
 ghost use Rattle.g1_answers.specs.Replies.{MayRefuse, Gives};
 ghost use Rattle.g1pause_cli.specs.Requests.{IsReplayed, IsReplyTo};
@@ -29,7 +29,7 @@ pub fn program<T: Threads + Sync, R: Read, W: Write, E: Write>(
     writer: &mut ToWriter<W>,
     errors: &mut E,
 ) -> Ending
-    ensures { Ends (⟦<ToWriter<W> as Sink>⟧.written writer.old) (⟦<ToWriter<W> as Sink>⟧.written writer.new) (E.contents errors.old) (E.contents errors.new) (R.remaining reader.old) result }
+    ensures { Ends (⟦<ToWriter<W> as Sink>⟧.written writer.old) (⟦<ToWriter<W> as Sink>⟧.written writer.new) (E.contents errors.old) (E.contents errors.new) (map (λ w. w.bytes.items) words.now) (R.remaining reader.old) result }
 {
     match parse(alloc, words) {
         Ok(request) => perform(rt, alloc, &request, reader, writer, errors),
