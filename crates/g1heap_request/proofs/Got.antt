@@ -8,7 +8,7 @@ use Rattle.std.proofs.lemmas.List.{map-append, take_more}
 use Rattle.std.proofs.lemmas.List.Splits.{slice_split_at, slice_split_none}
 use Rattle.std.proofs.lemmas.Str.Parse.{IsNumeralModel, not_in_digits, numerals_by_value, tells_digits}
 use Rattle.std.proofs.lemmas.Str.Pattern.{IsSplitOnceResult, split_parts}
-use Rattle.clap.specs.Words.{Text, first_of, first_value, matched_of, one_of, one_text, raw_values, rows_of}
+use Rattle.clap.specs.Words.{Text, first_of, first_value, matched_of, one_text, raw_values, rows_of}
 use Rattle.g1_command.specs.Values.{IfGiven, IsNumber, texts_of}
 use Rattle.g1heap_request.specs.declared.dump.HeapSizes.{HeapSizes}
 use Rattle.g1heap_request.specs.declared.options.ImageAfter.{ImageAfter}

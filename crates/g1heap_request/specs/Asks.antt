@@ -1,5 +1,5 @@
 -- WHICH REQUEST the values of a command are, by the names of its options, their defaults and their ranges.
-use Rattle.std.specs.Prelude.{◌≡◌, ◌≢◌, ℕ, List, [], ◌∷◌, ◌==◌, true, false, Option, Some, None, codes, option_to_list, ⊤}
+use Rattle.std.specs.Prelude.{◌≡◌, ◌≢◌, List, [], ◌∷◌, true, false, Option, Some, None, codes, option_to_list, ⊤}
 use Rattle.clap.specs.Words.{Row, Text, first_of}
 use Rattle.g1_command.specs.Values.{IfGiven, IsCostOf, IsNumber, IsNumberOf, IsRegion, texts_of}
 use Rattle.g1_answers.specs.declared.question.NewImage.{NewImage}

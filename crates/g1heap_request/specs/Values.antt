@@ -1,6 +1,6 @@
 -- What the values of options say that more than one command has: by the rows that clap found, each with an option's name and the
 -- texts of its values, those of its default if the words give none.
-use Rattle.std.specs.Prelude.{◌≡◌, ◌≢◌, ◌⊎◌, ℕ, List, [], ◌∷◌, ◌==◌, Bool, true, false, Option, Some, None, String, Vec, option_map, unwrap_or, map, codes, ⊤}
+use Rattle.std.specs.Prelude.{◌≡◌, ◌≢◌, ◌⊎◌, ℕ, List, Bool, true, false, Option, Some, None, String, Vec, option_map, unwrap_or, map, codes}
 use Rattle.clap.specs.Words.{Row, Text, first_of, one_of}
 use Rattle.g1_command.specs.Values.{IsNumber, texts_of}
 use Rattle.g1_words.specs.declared.limits.Limits.{Limits}

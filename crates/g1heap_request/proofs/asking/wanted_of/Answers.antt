@@ -1,4 +1,4 @@
-use Rattle.std.proofs.Common.{◌≡◌, ◌≢◌, true, false, rules, subst}
+use Rattle.std.proofs.Common.{◌≡◌, ◌≢◌, rules, subst}
 use Rattle.std.specs.Prelude.{codes}
 use Rattle.clap.specs.Words.{found_of, rows_of}
 use Rattle.g1heap_request.specs.Values.{IsFlag}

@@ -1,4 +1,4 @@
-use Rattle.std.proofs.Common.{◌≢◌, [], None, subst, arith}
+use Rattle.std.proofs.Common.{[], None, subst, arith}
 use Rattle.std.specs.Borrow.{Bor}
 use Rattle.std.specs.Prelude.{codes}
 use Rattle.clap.specs.Words.{Text, found_of, rows_of}

@@ -1,4 +1,4 @@
-use Rattle.std.proofs.Common.{Some, true, false, subst}
+use Rattle.std.proofs.Common.{subst}
 use Rattle.std.specs.Prelude.{codes}
 use Rattle.clap.specs.Words.{first_of, found_of, rows_of}
 use Rattle.g1_command.specs.Values.{IfGiven, IsNumber, IsRegion}

@@ -1,4 +1,4 @@
-use Rattle.std.proofs.Common.{[], ap, subst}
+use Rattle.std.proofs.Common.{[], subst}
 use Rattle.std.specs.Prelude.{IfOk, codes}
 use Rattle.clap.specs.Words.{found_of}
 use Rattle.g1_command.specs.Lists.{AreRegionsIn}
