@@ -1,4 +1,8 @@
 //! What the values of `show`, `check`, `live`, `choose` and `pause` ask for.
+ghost use Rattle.std.specs.Prelude.{IfOk, MatchOption};
+ghost use Rattle.clap.specs.Words.{found_of, rows_of};
+ghost use Rattle.g1heap_request.specs.Asks.{Asks, IsNoneAsked, MakesImage, MakesNoImage};
+
 use crate::image_file::ImageFile;
 use crate::options::{Request, image_of, output_of, set_of};
 use crate::output::Output;
@@ -34,7 +38,9 @@ pub fn asked_of(
     alloc: Global,
     name: &str,
     values: &ArgMatches<'_>,
-) -> Result<Option<Request>, Misuse> {
+) -> Result<Option<Request>, Misuse>
+    ensures { IfOk result (λ o. MatchOption o (IsNoneAsked name.now) (Asks name.now (rows_of (found_of values.now)))) }
+{
     if let Some(wanted) = wanted_of(alloc, name, values)? {
         check_ranges(alloc, values)?;
         return Ok(Some(Request::Rewrite(Rewrite {
@@ -55,11 +61,9 @@ pub fn asked_of(
 }
 
 // The image that a command makes, if it makes one.
-fn wanted_of(
-    alloc: Global,
-    name: &str,
-    values: &ArgMatches<'_>,
-) -> Result<Option<NewImage>, Misuse> {
+fn wanted_of(alloc: Global, name: &str, values: &ArgMatches<'_>) -> Result<Option<NewImage>, Misuse>
+    ensures { IfOk result (λ o. MatchOption o (MakesNoImage name.now (rows_of (found_of values.now))) (MakesImage name.now (rows_of (found_of values.now)))) }
+{
     if name == "pause" {
         let mut pause = pause_of(alloc, values)?;
         pause.regions = set_of(alloc, values)?;

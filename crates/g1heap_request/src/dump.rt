@@ -1,4 +1,10 @@
 //! What the values of `convert` ask for.
+ghost use Rattle.std.specs.Prelude.{IfOk, IfSome, codes};
+ghost use Rattle.clap.specs.Words.{first_of, found_of, rows_of};
+ghost use Rattle.g1_command.specs.Lists.{parts_of};
+ghost use Rattle.g1heap_request.specs.Values.{AreTextsOf, IsNameIfGiven};
+ghost use Rattle.g1heap_request.specs.Asks.{Asks, AreSizesIfGiven, AreSizesIn};
+
 use crate::options::{Request, name_if_given, name_of, output_of};
 use crate::output::{Output, STANDARD_STREAM};
 use crate::usage as table;
@@ -52,7 +58,9 @@ static NAMES_MADE: Argument = table::NAMES_MADE;
 static SIZES: Argument = table::SIZES;
 
 /// What the values of the command ask for.
-pub(crate) fn convert_of(alloc: Global, values: &ArgMatches<'_>) -> Result<Request, Misuse> {
+pub(crate) fn convert_of(alloc: Global, values: &ArgMatches<'_>) -> Result<Request, Misuse>
+    ensures { IfOk result (Asks (codes "convert") (rows_of (found_of values.now))) }
+{
     let from = words_of(alloc, values, &FROM)?;
     check_part(alloc, values, from.is_empty())?;
     Ok(Request::Convert(Convert {
@@ -90,7 +98,9 @@ fn words_of(
     alloc: Global,
     values: &ArgMatches<'_>,
     argument: &Argument,
-) -> Result<Vec<String>, AllocError> {
+) -> Result<Vec<String>, AllocError>
+    ensures { IfOk result (AreTextsOf (rows_of (found_of values.now)) argument.now.id.now) }
+{
     let mut words = Vec::new(alloc);
     for text in values.get_strs(argument.id).unwrap_or(&[]) {
         words.push(String::from_str(alloc, text)?)?;
@@ -99,7 +109,9 @@ fn words_of(
 }
 
 // The file of the names, which is none of the standard streams.
-fn names_made_of(alloc: Global, values: &ArgMatches<'_>) -> Result<Option<String>, Misuse> {
+fn names_made_of(alloc: Global, values: &ArgMatches<'_>) -> Result<Option<String>, Misuse>
+    ensures { IfOk result (IsNameIfGiven (rows_of (found_of values.now)) (codes "names")) }
+{
     if values.get_str(NAMES_MADE.id) == Some(STANDARD_STREAM) {
         let message = "the names need a file";
         return Err(Misuse::Value(String::from_str(alloc, message)?));
@@ -107,7 +119,9 @@ fn names_made_of(alloc: Global, values: &ArgMatches<'_>) -> Result<Option<String
     Ok(name_if_given(alloc, values, &NAMES_MADE)?)
 }
 
-fn sizes_of(alloc: Global, values: &ArgMatches<'_>) -> Result<Option<HeapSizes>, Misuse> {
+fn sizes_of(alloc: Global, values: &ArgMatches<'_>) -> Result<Option<HeapSizes>, Misuse>
+    ensures { IfOk result (AreSizesIfGiven (first_of (codes "sizes") (rows_of (found_of values.now)))) }
+{
     let Some(text) = values.get_str(SIZES.id) else {
         return Ok(None);
     };
@@ -123,7 +137,9 @@ fn sizes_of(alloc: Global, values: &ArgMatches<'_>) -> Result<Option<HeapSizes>,
 }
 
 // Three numbers with commas between them.
-fn sizes_in(text: &str) -> Option<HeapSizes> {
+fn sizes_in(text: &str) -> Option<HeapSizes>
+    ensures { IfSome result (AreSizesIn (parts_of text.now)) }
+{
     let (region_words, rest) = text.split_once(',')?;
     let (card_words, regions) = rest.split_once(',')?;
     Some(HeapSizes {

@@ -1,4 +1,11 @@
 //! The command line.
+ghost use Rattle.std.specs.Prelude.{IfOk, codes, option_to_list};
+ghost use Rattle.clap.specs.Words.{Text, first_of, found_of, rows_of};
+ghost use Rattle.g1_command.specs.Values.{IfGiven, texts_of};
+ghost use Rattle.g1_command.specs.Lists.{AreRegionsIn};
+ghost use Rattle.g1heap_request.specs.Values.{AreLimitsOf, IsCount, IsFlag, IsImageOf, IsNameIfGiven, IsNameOf, IsOutputOf};
+ghost use Rattle.g1heap_request.specs.Asks.{Asks, IsImageAfter, IsNoOther, IsPartOf};
+
 use crate::asking::{Ask, Rewrite, asked_of};
 use crate::dump::{Convert, convert_of};
 use crate::image_file::ImageFile;
@@ -183,7 +190,9 @@ static TRACED: Argument = table::TRACED;
 
 static YOUNG: Argument = table::YOUNG;
 
-fn part_of(alloc: Global, values: &ArgMatches<'_>) -> Result<Part, Misuse> {
+fn part_of(alloc: Global, values: &ArgMatches<'_>) -> Result<Part, Misuse>
+    ensures { IfOk result (IsPartOf (rows_of (found_of values.now))) }
+{
     if values.get_flag(SUMMARY.id) {
         return Ok(Part::Summary);
     }
@@ -201,7 +210,9 @@ pub(crate) fn name_of(
     alloc: Global,
     values: &ArgMatches<'_>,
     argument: &Argument,
-) -> Result<String, AllocError> {
+) -> Result<String, AllocError>
+    ensures { IfOk result (λ s. IsNameOf (rows_of (found_of values.now)) argument.now.id.now s.bytes.items) }
+{
     String::from_str(
         alloc,
         values.get_str(argument.id).unwrap_or(STANDARD_STREAM),
@@ -209,16 +220,21 @@ pub(crate) fn name_of(
 }
 
 // The image that is read, which is on standard input if none is named.
-pub(crate) fn image_of(alloc: Global, values: &ArgMatches<'_>) -> Result<ImageFile, Misuse> {
+pub(crate) fn image_of(alloc: Global, values: &ArgMatches<'_>) -> Result<ImageFile, Misuse>
+    ensures { IfOk result (IsImageOf (rows_of (found_of values.now))) }
+{
     Ok(ImageFile {
         name: name_of(alloc, values, &IMAGE)?,
         limits: limits_of(alloc, values)?,
     })
 }
 
-fn limits_of(alloc: Global, values: &ArgMatches<'_>) -> Result<Limits, Misuse> {
+fn limits_of(alloc: Global, values: &ArgMatches<'_>) -> Result<Limits, Misuse>
+    ensures { IfOk result (AreLimitsOf (rows_of (found_of values.now))) }
+{
     match values.get_str(LIMITS.id) {
-        None | Some("wide") => Ok(Limits::Wide),
+        None => Ok(Limits::Wide),
+        Some("wide") => Ok(Limits::Wide),
         Some("specification") => Ok(Limits::Specified),
         Some(_) => {
             let message = "'--limits' is 'wide' or 'specification'";
@@ -231,14 +247,18 @@ pub(crate) fn name_if_given(
     alloc: Global,
     values: &ArgMatches<'_>,
     argument: &Argument,
-) -> Result<Option<String>, AllocError> {
+) -> Result<Option<String>, AllocError>
+    ensures { IfOk result (IsNameIfGiven (rows_of (found_of values.now)) argument.now.id.now) }
+{
     match values.get_str(argument.id) {
         Some(name) => Ok(Some(String::from_str(alloc, name)?)),
         None => Ok(None),
     }
 }
 
-pub(crate) fn output_of(alloc: Global, values: &ArgMatches<'_>) -> Result<Output, AllocError> {
+pub(crate) fn output_of(alloc: Global, values: &ArgMatches<'_>) -> Result<Output, AllocError>
+    ensures { IfOk result (IsOutputOf (rows_of (found_of values.now))) }
+{
     Output::of_name(alloc, values.get_str(OUTPUT.id))
 }
 
@@ -263,14 +283,19 @@ fn is_standard(values: &ArgMatches<'_>, argument: &Argument) -> bool {
     values.get_str(argument.id) == Some(STANDARD_STREAM)
 }
 
-fn all_of(alloc: Global, values: &ArgMatches<'_>) -> Result<Option<u64>, Misuse> {
+fn all_of(alloc: Global, values: &ArgMatches<'_>) -> Result<Option<u64>, Misuse>
+    ensures { IfOk result (IfGiven IsCount (first_of (codes "all") (rows_of (found_of values.now)))) }
+{
     match number(alloc, values, &ALL)? {
         Some(0) => Err(ALL.refuse(alloc, "0")?),
-        found => Ok(found),
+        Some(count) => Ok(Some(count)),
+        None => Ok(None),
     }
 }
 
-fn young_of(alloc: Global, values: &ArgMatches<'_>) -> Result<Vec<u32>, Misuse> {
+fn young_of(alloc: Global, values: &ArgMatches<'_>) -> Result<Vec<u32>, Misuse>
+    ensures { IfOk result (λ v. AreRegionsIn (option_to_list (first_of (codes "young") (rows_of (found_of values.now)))) v.items) }
+{
     match values.get_str(YOUNG.id) {
         None => Ok(Vec::new(alloc)),
         Some(_) if !values.get_flag(COVERED.id) => Err(YOUNG.needs(alloc, &COVERED)?),
@@ -278,7 +303,9 @@ fn young_of(alloc: Global, values: &ArgMatches<'_>) -> Result<Vec<u32>, Misuse> 
     }
 }
 
-pub(crate) fn set_of(alloc: Global, values: &ArgMatches<'_>) -> Result<Vec<u32>, Misuse> {
+pub(crate) fn set_of(alloc: Global, values: &ArgMatches<'_>) -> Result<Vec<u32>, Misuse>
+    ensures { IfOk result (λ v. AreRegionsIn (texts_of (rows_of (found_of values.now)) (codes "set")) v.items) }
+{
     match values.get_strs(SET.id) {
         Some(lists) => regions_in(alloc, &SET, lists),
         None => Ok(Vec::new(alloc)),
@@ -286,7 +313,9 @@ pub(crate) fn set_of(alloc: Global, values: &ArgMatches<'_>) -> Result<Vec<u32>,
 }
 
 // Whether copies may fill regions, which only a set gives a meaning.
-fn fill_of(alloc: Global, values: &ArgMatches<'_>) -> Result<bool, Misuse> {
+fn fill_of(alloc: Global, values: &ArgMatches<'_>) -> Result<bool, Misuse>
+    ensures { IfOk result (IsFlag (rows_of (found_of values.now)) (codes "fill")) }
+{
     let fill = values.get_flag(FILL.id);
     if fill && values.get_strs(SET.id).is_none() {
         return Err(FILL.needs(alloc, &SET)?);
@@ -295,7 +324,9 @@ fn fill_of(alloc: Global, values: &ArgMatches<'_>) -> Result<bool, Misuse> {
 }
 
 // The names for an image, which are not on standard input if that is.
-fn names_beside(alloc: Global, values: &ArgMatches<'_>) -> Result<Option<String>, Misuse> {
+fn names_beside(alloc: Global, values: &ArgMatches<'_>) -> Result<Option<String>, Misuse>
+    ensures { IfOk result (IsNameIfGiven (rows_of (found_of values.now)) (codes "names")) }
+{
     if is_standard(values, &NAMES) && is_standard(values, &IMAGE) {
         let message = "only one of the files can be standard input";
         return Err(Misuse::Value(String::from_str(alloc, message)?));
@@ -304,7 +335,9 @@ fn names_beside(alloc: Global, values: &ArgMatches<'_>) -> Result<Option<String>
 }
 
 // The names after are said beside those before.
-fn names_after_of(alloc: Global, values: &ArgMatches<'_>) -> Result<Option<String>, Misuse> {
+fn names_after_of(alloc: Global, values: &ArgMatches<'_>) -> Result<Option<String>, Misuse>
+    ensures { IfOk result (IsNameIfGiven (rows_of (found_of values.now)) (codes "names-after")) }
+{
     let names = name_if_given(alloc, values, &NAMES_AFTER)?;
     if names.is_some() && values.get_str(NAMES.id).is_none() {
         return Err(NAMES_AFTER.needs(alloc, &NAMES)?);
@@ -312,7 +345,9 @@ fn names_after_of(alloc: Global, values: &ArgMatches<'_>) -> Result<Option<Strin
     Ok(names)
 }
 
-fn same_of(alloc: Global, values: &ArgMatches<'_>) -> Result<Request, Misuse> {
+fn same_of(alloc: Global, values: &ArgMatches<'_>) -> Result<Request, Misuse>
+    ensures { IfOk result (Asks (codes "same") (rows_of (found_of values.now))) }
+{
     check_streams(alloc, values)?;
     Ok(Request::Same(Same {
         before: name_of(alloc, values, &BEFORE)?,
@@ -329,7 +364,9 @@ fn same_of(alloc: Global, values: &ArgMatches<'_>) -> Result<Request, Misuse> {
     }))
 }
 
-fn explain_of(alloc: Global, values: &ArgMatches<'_>) -> Result<Request, Misuse> {
+fn explain_of(alloc: Global, values: &ArgMatches<'_>) -> Result<Request, Misuse>
+    ensures { IfOk result (Asks (codes "explain") (rows_of (found_of values.now))) }
+{
     Ok(Request::Explain(Explain {
         image: image_of(alloc, values)?,
         cost: cost_of(alloc, values)?,
@@ -342,11 +379,17 @@ fn explain_of(alloc: Global, values: &ArgMatches<'_>) -> Result<Request, Misuse>
 }
 
 // The number of the command, and the file.
-fn image_after_of(alloc: Global, values: &ArgMatches<'_>) -> Result<Option<ImageAfter>, Misuse> {
-    let Some([number, file]) = values.get_strs(IMAGE_AFTER.id) else {
+fn image_after_of(alloc: Global, values: &ArgMatches<'_>) -> Result<Option<ImageAfter>, Misuse>
+    ensures { IfOk result (IsImageAfter (texts_of (rows_of (found_of values.now)) (codes "image"))) }
+{
+    let Some(words) = values.get_strs(IMAGE_AFTER.id) else {
         return Ok(None);
     };
-    if *file == STANDARD_STREAM && values.get_flag(LIVE.id) {
+    if words.len() != 2 {
+        return Ok(None);
+    }
+    let (number, file) = (words[0], words[1]);
+    if file == STANDARD_STREAM && values.get_flag(LIVE.id) {
         let message = "with '--live' standard output has the replies: the image needs a file";
         return Err(Misuse::Value(String::from_str(alloc, message)?));
     }
@@ -354,12 +397,14 @@ fn image_after_of(alloc: Global, values: &ArgMatches<'_>) -> Result<Option<Image
         0 => Err(IMAGE_AFTER.refuse(alloc, "0")?),
         command => Ok(Some(ImageAfter {
             command,
-            output: Output::of_name(alloc, Some(*file))?,
+            output: Output::of_name(alloc, Some(file))?,
         })),
     }
 }
 
-fn trace_of(alloc: Global, values: &ArgMatches<'_>) -> Result<Request, Misuse> {
+fn trace_of(alloc: Global, values: &ArgMatches<'_>) -> Result<Request, Misuse>
+    ensures { IfOk result (Asks (codes "trace") (rows_of (found_of values.now))) }
+{
     Ok(Request::Trace(Trace {
         name: name_of(alloc, values, &TRACED)?,
         cost: cost_of(alloc, values)?,
@@ -370,7 +415,9 @@ fn trace_of(alloc: Global, values: &ArgMatches<'_>) -> Result<Request, Misuse> {
     }))
 }
 
-fn print_of(alloc: Global, values: &ArgMatches<'_>) -> Result<Request, Misuse> {
+fn print_of(alloc: Global, values: &ArgMatches<'_>) -> Result<Request, Misuse>
+    ensures { IfOk result (Asks (codes "print") (rows_of (found_of values.now))) }
+{
     Ok(Request::Print {
         image: image_of(alloc, values)?,
         part: part_of(alloc, values)?,
@@ -379,7 +426,9 @@ fn print_of(alloc: Global, values: &ArgMatches<'_>) -> Result<Request, Misuse> {
     })
 }
 
-fn why_of(alloc: Global, values: &ArgMatches<'_>) -> Result<Request, Misuse> {
+fn why_of(alloc: Global, values: &ArgMatches<'_>) -> Result<Request, Misuse>
+    ensures { IfOk result (Asks (codes "why") (rows_of (found_of values.now))) }
+{
     Ok(Request::Why(Why {
         image: image_of(alloc, values)?,
         address: required_number(alloc, values, &ADDRESS)?,
@@ -387,7 +436,9 @@ fn why_of(alloc: Global, values: &ArgMatches<'_>) -> Result<Request, Misuse> {
     }))
 }
 
-fn make_of(alloc: Global, values: &ArgMatches<'_>) -> Result<Request, Misuse> {
+fn make_of(alloc: Global, values: &ArgMatches<'_>) -> Result<Request, Misuse>
+    ensures { IfOk result (λ r. (name : Text) → IsNoOther name → Asks name (rows_of (found_of values.now)) r) }
+{
     Ok(Request::Make {
         lines: name_of(alloc, values, &LINES)?,
         output: output_of(alloc, values)?,
@@ -395,7 +446,9 @@ fn make_of(alloc: Global, values: &ArgMatches<'_>) -> Result<Request, Misuse> {
 }
 
 // What the values of a command ask for.
-fn request_of(alloc: Global, name: &str, values: &ArgMatches<'_>) -> Result<Request, Misuse> {
+fn request_of(alloc: Global, name: &str, values: &ArgMatches<'_>) -> Result<Request, Misuse>
+    ensures { IfOk result (Asks name.now (rows_of (found_of values.now))) }
+{
     if let Some(request) = asked_of(alloc, name, values)? {
         return Ok(request);
     }

@@ -1,4 +1,7 @@
 //! Where an answer goes.
+ghost use Rattle.std.specs.Prelude.{IfOk, option_map};
+ghost use Rattle.g1heap_request.specs.Values.{GoesTo};
+
 use std::alloc::{AllocError, Global};
 
 /// The name that means standard input, or standard output.
@@ -17,7 +20,9 @@ pub enum Output {
 
 impl Output {
     /// The output of this name, if one is given.
-    pub fn of_name(alloc: Global, name: Option<&str>) -> Result<Output, AllocError> {
+    pub fn of_name(alloc: Global, name: Option<&str>) -> Result<Output, AllocError>
+        ensures { IfOk result (GoesTo (option_map (λ s. s.now) name.entry)) }
+    {
         match name {
             None => Ok(Output::Default),
             Some(STANDARD_STREAM) => Ok(Output::Standard),
