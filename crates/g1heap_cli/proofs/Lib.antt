@@ -1,3 +1,4 @@
 pub mod Told
 pub mod Left
+pub mod Found
 pub mod Made

@@ -65,8 +65,13 @@ HandsText (output.File name) = Files
 HandsText output.Standard = SendsText
 HandsText output.Default = SendsText
 
--- the lines of an image, or those that can be read of bytes that are none, which stand before the refusal
+-- lines go there before a refusal, as far as they come
+abbrev pub GoesBefore : Output → Option (List ℕ) → Option (List ℕ) → Type 0
+GoesBefore (output.File name) = Keeps
+GoesBefore output.Standard = Grows
+GoesBefore output.Default = Grows
+
+-- the lines of an image; or those that can be read of bytes that are none, which stand before the refusal
 abbrev pub HandsPrint : Output → Reply → Option (List ℕ) → Option (List ℕ) → Result ℕ Refusal → Type 0
-HandsPrint (output.File name) Is old new r = Files Is old new r
-HandsPrint out Is old new (Ok status) = SendsText Is old new (Ok status)
-HandsPrint out Is old new (Err why) = Grows old new
+HandsPrint out Is old new (Ok status) = HandsText out Is old new (Ok status)
+HandsPrint out Is old new (Err why) = GoesBefore out old new

@@ -2,6 +2,10 @@ pub mod Refusals
 pub mod Lines
 pub mod Streams
 pub mod Opened
+pub mod Found
+pub mod Texts
+pub mod Reasons
 pub mod Leaving
+pub mod Printed
 pub mod Replies
 pub mod Endings

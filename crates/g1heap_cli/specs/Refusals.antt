@@ -1,5 +1,5 @@
 -- What g1heap reports of a file, and with which status.
-use Rattle.std.specs.Prelude.{◌≡◌, ◌⊎◌, ℕ, List, [], ◌++◌, codes, decimal}
+use Rattle.std.specs.Prelude.{◌≡◌, ◌⊎◌, ℕ, Bool, true, false, List, [], ◌++◌, codes, decimal}
 use Rattle.g1_words.specs.Fault.{number_of, status_of, fault_text}
 use Rattle.g1_words.specs.declared.fault.Fault.{Fault}
 use Rattle.g1_words.specs.declared.fault.Fault.TheVariants as fault
@@ -40,6 +40,29 @@ IsFileText file f text = (behind : List ℕ) × MayBeCause behind × (text ≡ f
 -- THE REFUSAL OF A FILE for a fault: with the fault's status
 abbrev pub RefusesFile : List ℕ → Fault → Refusal → Type 0
 RefusesFile file f r = Tells (status_of f) (IsFileText file f) r
+
+-- a file can't be opened
+abbrev pub CantOpen : List ℕ → Refusal → Type 0
+CantOpen file r = Tells 7 (λ t. (why : List ℕ) × (t ≡ told_line file (codes "can't be opened: " ++ ended why))) r
+
+-- a fault is of the machine, and not of bytes that are read
+abbrev pub is_of_machine : Fault → Bool
+is_of_machine fault.Memory = true
+is_of_machine (fault.Device d) = true
+is_of_machine _ = false
+
+-- THE REFUSAL OF A FILE THAT IS NOT READ: it can't be opened, or the machine has a fault, a want of memory or a read that failed
+abbrev pub IsUnread : List ℕ → Refusal → Type 0
+IsUnread file r = CantOpen file r ⊎ ((f : Fault) × (is_of_machine f ≡ true) × RefusesFile file f r)
+
+-- a refusal as it is, or with a tip behind the text of a file that can't be opened
+abbrev pub MayHaveTip : Refusal → Refusal → Type 0
+MayHaveTip (refusal.Told s text) r = (r ≡ refusal.Told s text) ⊎ ((s ≡ 7) × Tells 7 (λ t. (tip : List ℕ) × (t ≡ text.bytes.items ++ cause_line tip)) r)
+MayHaveTip (refusal.Fault f) r = r ≡ refusal.Fault f
+
+-- the refusal for a want of cover, of an image that has the graph of another one
+abbrev pub RefusesCover : List ℕ → Fault → Refusal → Type 0
+RefusesCover file f r = Tells (status_of f) (λ t. (text : List ℕ) × IsFileText file f text × (t ≡ text ++ cause_line (codes "the graph is the same"))) r
 
 -- the line of a line that is not what is expected, and what is behind it
 abbrev pub wrong_line : List ℕ → ℕ → List ℕ → List ℕ → List ℕ

@@ -1,11 +1,13 @@
 -- What g1heap replies to a request: a status and a text. `left` is what standard input has left.
-use Rattle.std.specs.Prelude.{◌≡◌, ℕ, List, Option, Ok, ⊤}
+use Rattle.std.specs.Prelude.{◌≡◌, ℕ, Bool, List, Option, is_some, Ok, ⊤}
 use Rattle.g1_words.specs.declared.limits.Limits.TheVariants.{Wide}
 use Rattle.g1_image.specs.Image.{IsImageTextWithin}
 use Rattle.g1_answers.specs.Questions.{IsReply}
 use Rattle.g1_answers.specs.Images.{IsNewImage}
 use Rattle.g1heap_request.specs.declared.asking.Ask.{Ask}
 use Rattle.g1heap_request.specs.declared.asking.Rewrite.{Rewrite}
+use Rattle.g1heap_request.specs.declared.image_file.ImageFile.{ImageFile}
+use Rattle.g1heap_request.specs.declared.options.Part.{Part}
 use Rattle.g1heap_request.specs.declared.options.Request.{Request}
 use Rattle.g1heap_request.specs.declared.options.Request.TheVariants as request
 use Rattle.g1heap_request.specs.declared.options.Same.{Same}
@@ -13,6 +15,7 @@ use Rattle.g1heap_request.specs.declared.options.Explain.{Explain}
 use Rattle.g1heap_request.specs.declared.options.Why.{Why}
 use Rattle.g1heap_request.specs.declared.options.Trace.{Trace}
 use Rattle.g1heap_cli.specs.Streams.{HoldsOfNamed}
+use Rattle.g1heap_cli.specs.Texts.{IsPrinted, IsMade, IsWhyText}
 use Rattle.g1heap_cli.specs.Leaving.{Reply, Just}
 
 -- with status 0 a text, by the bytes of what has this name
@@ -30,19 +33,24 @@ IsRewritten r left = ByNamed r.image.name.bytes.items left (λ bytes text. IsNew
 abbrev pub IsSomeImage : Reply
 IsSomeImage status text = (status ≡ 0) × IsImageTextWithin Wide text
 
--- lines of which no clause says more
-abbrev pub IsSomeText : Reply
-IsSomeText status text = status ≡ 0
+-- the lines of a part of an image, and the bytes that lines make
+abbrev pub IsPrintReply : ImageFile → Part → Bool → Option (List ℕ) → Reply
+IsPrintReply image part hex left = ByNamed image.name.bytes.items left (IsPrinted image.limits part hex)
+
+abbrev pub IsMakeReply : List ℕ → Option (List ℕ) → Reply
+IsMakeReply file left = ByNamed file left IsMade
+
+-- what keeps an object
+abbrev pub IsWhyReply : Why → Option (List ℕ) → Reply
+IsWhyReply why left = ByNamed why.image.name.bytes.items left (IsWhyText why.image.limits why.address (is_some why.names))
 
 -- of these replies no clause says more yet
+
 abbrev pub IsSameReply : Same → Option (List ℕ) → Reply
 IsSameReply same left status text = ⊤
 
 abbrev pub IsExplainReply : Explain → Option (List ℕ) → Reply
 IsExplainReply explain left status text = ⊤
-
-abbrev pub IsWhyReply : Why → Option (List ℕ) → Reply
-IsWhyReply why left status text = status ≡ 0
 
 abbrev pub IsTraceReply : Trace → Option (List ℕ) → Reply
 IsTraceReply trace left status text = status ≡ 0
@@ -51,8 +59,8 @@ IsTraceReply trace left status text = status ≡ 0
 abbrev pub IsReplyTo : Request → Option (List ℕ) → Reply
 IsReplyTo (request.Help text) left = Just 0 text.bytes.items
 IsReplyTo (request.Same same) left = IsSameReply same left
-IsReplyTo (request.Print image part hex output) left = IsSomeText
-IsReplyTo (request.Make lines output) left = IsSomeImage
+IsReplyTo (request.Print image part hex output) left = IsPrintReply image part hex left
+IsReplyTo (request.Make lines output) left = IsMakeReply lines.bytes.items left
 IsReplyTo (request.Convert asked) left = IsSomeImage
 IsReplyTo (request.Explain explain) left = IsExplainReply explain left
 IsReplyTo (request.Why why) left = IsWhyReply why left

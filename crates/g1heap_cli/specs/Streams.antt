@@ -1,6 +1,7 @@
 -- Streams that may be away, and the bytes of what has a name.
 use Rattle.std.specs.Prelude.{◌≡◌, ℕ, List, codes, Option, Some, None, IfSome}
 use Rattle.std.specs.Option.{option_map}
+use Rattle.g1_image.specs.Source.{HoldsOfLeft}
 
 -- what is known of a stream that may be away
 abbrev pub known_of : {S : Type 0} → (S → Option (List ℕ)) → Option S → Option (List ℕ)
@@ -18,3 +19,7 @@ HoldsOfNamed file left P = (bytes : List ℕ) × P bytes × AreNamed file left b
 -- what is kept are those bytes, if the name is that of standard input
 abbrev pub KeepsNamed : {V : Type 0} → (V → List ℕ) → List ℕ → Option (List ℕ) → Option V → Type 0
 KeepsNamed items file left kept = file ≡ codes "-" → IfSome left (λ xs. option_map items kept ≡ Some xs)
+
+-- P holds of the bytes that are kept; of some bytes, if none are
+abbrev pub HoldsOfKept : {V : Type 0} → (V → List ℕ) → Option V → (List ℕ → Type 0) → Type 0
+HoldsOfKept items kept P = HoldsOfLeft (option_map items kept) P

@@ -1,10 +1,14 @@
 //! What the program does with a request.
-ghost use Rattle.std.specs.Prelude.{◌≡◌, ◌⊎◌, ℕ, List, Ok, Err, IfOk, ⊤};
+ghost use Rattle.std.specs.Prelude.{◌≡◌, ◌⊎◌, ℕ, List, Ok, Err, IfOk, IfErr, ⊤};
 ghost use Rattle.std.specs.Io.KnownBytes.{Keeps};
-ghost use Rattle.g1_words.specs.declared.limits.Limits.TheVariants.{Wide};
-ghost use Rattle.g1_image.specs.Image.{IsImageTextWithin};
-ghost use Rattle.g1heap_cli.specs.Leaving.{Just, SendsText, HandsText, HandsBytes, HandsPrint};
-ghost use Rattle.g1heap_cli.specs.Replies.{IsReplyTo, IsSomeText, IsAsked};
+ghost use Rattle.g1heap_request.specs.declared.options.Part.TheVariants as asked;
+ghost use Rattle.g1heap_cli.specs.Leaving.{Just, SendsText, HandsText, HandsBytes, HandsPrint, GoesBefore};
+ghost use Rattle.g1heap_cli.specs.Printed.{IfLines, IfBroken, reply_of};
+ghost use Rattle.g1heap_cli.specs.Refusals.{RefusesFile, IsUnread};
+ghost use Rattle.g1heap_cli.specs.Streams.{HoldsOfNamed};
+ghost use Rattle.g1heap_cli.specs.Reasons.{RefusesImage, RefusesPrint, RefusesMake, MayLack};
+ghost use Rattle.g1heap_cli.specs.Texts.{IsPartText, MayChange, IsMade};
+ghost use Rattle.g1heap_cli.specs.Replies.{IsReplyTo, IsPrintReply, IsMakeReply, IsAsked};
 ghost use Rattle.g1heap_cli.specs.Endings.{Leaves, IsReported, EndsByRequest, Ends};
 
 use crate::answering::{answer_file, rewrite_file};
@@ -26,7 +30,7 @@ use g1_image::Image;
 use g1_report::locate;
 use g1_tables::summary;
 use g1_text::{image_lines, is_graph, make, make_graph, object_line, region_lines};
-use g1_words::{Device, Fault, object_at};
+use g1_words::{Device, Fault, Limits, object_at};
 use g1heap_request::{ImageFile, NAME, Output, Part, Request, Same, parse};
 use std::alloc::{AllocError, Global};
 use std::io::{Error, Read, Write};
@@ -163,11 +167,14 @@ fn compare<T: Threads + Sync + Files, R: Read, W: Write>(
     Ok(answer.finish(status)?)
 }
 
-// The lines of a file, if it has any, and why it is refused behind them, if it is.
+// The lines of an image; or those that can be read of bytes that are none, if there are any, and why they are none.
 #[derive(Drop)]
-struct Printed {
-    text: Option<String>,
-    refusal: Option<Refusal>,
+enum Printed {
+    Lines(String),
+    Broken {
+        text: Option<String>,
+        refusal: Refusal,
+    },
 }
 
 fn print_part<T: Threads + Sync + Files, R: Read>(
@@ -177,19 +184,49 @@ fn print_part<T: Threads + Sync + Files, R: Read>(
     part: Part,
     hex: bool,
     reader: &mut R,
-) -> Result<Printed, Refusal> {
-    let source = find_source(rt, alloc, image, reader)?;
-    let printed = match source.found(rt, alloc)? {
-        Ok(image) => Printed {
-            text: Some(lines(rt, alloc, &image, source.name(), part)?),
-            refusal: None,
-        },
-        Err(fault) => print_broken(rt, alloc, &source, part, fault)?,
+) -> Result<Printed, Refusal>
+    ensures lines { IfOk result (IfLines (IsPrintReply image.now part hex (R.remaining reader.old) 0)) }
+    ensures broken { IfOk result (IfBroken (RefusesImage image.now (R.remaining reader.old) (RefusesPrint image.now part))) }
+    ensures refused { IfErr result (RefusesImage image.now (R.remaining reader.old) (RefusesPrint image.now part)) }
+{
+    let source = match find_source(rt, alloc, image, reader) {
+        Ok(source) => source,
+        Err(refusal) => return Err(refusal),
     };
-    if hex {
-        Ok(in_hexadecimal(alloc, printed)?)
-    } else {
-        Ok(printed)
+    match source.found(rt, alloc) {
+        Ok(Ok(image)) => match print_lines(rt, alloc, &image, source.name(), part, hex) {
+            Ok(text) => Ok(Printed::Lines(text)),
+            Err(refusal) => Err(refusal),
+        },
+        Ok(Err(fault)) => match print_broken(rt, alloc, &source, part, hex, fault) {
+            Ok((text, refusal)) => Ok(Printed::Broken { text, refusal }),
+            Err(refusal) => Err(refusal),
+        },
+        Err(refusal) => Err(refusal),
+    }
+}
+
+fn print_lines<T: Threads + Sync>(
+    rt: &T,
+    alloc: Global,
+    image: &Image,
+    name: &str,
+    part: Part,
+    hex: bool,
+) -> Result<String, Refusal>
+    ensures text { IfOk result (λ s. MayChange hex (IsPartText part image.now) s.bytes.items) }
+    ensures refused { IfErr result (MayLack name.now part image.now) }
+{
+    let text = match lines(rt, alloc, image, name, part) {
+        Ok(text) => text,
+        Err(refusal) => return Err(refusal),
+    };
+    if !hex {
+        return Ok(text);
+    }
+    match with_hexadecimal(alloc, text.as_str()) {
+        Ok(text) => Ok(text),
+        Err(_) => Err(Refusal::Fault(Fault::Memory)),
     }
 }
 
@@ -198,36 +235,45 @@ fn print_broken<T: Files>(
     alloc: Global,
     source: &Source<'_>,
     part: Part,
+    hex: bool,
     fault: Fault,
-) -> Result<Printed, Refusal> {
-    let bytes = source.bytes(rt, alloc)?;
-    let text = match part {
-        Part::Whole => broken_lines(alloc, source.limits(), bytes.as_slice(), fault)?,
-        _ => None,
+) -> Result<(Option<String>, Refusal), Refusal>
+    ensures broken { IfOk result (λ b. RefusesFile source.now.image.now.name.bytes.items fault b.1) }
+    ensures refused { IfErr result (IsUnread source.now.image.now.name.bytes.items) }
+{
+    let bytes = match source.bytes(rt, alloc) {
+        Ok(bytes) => bytes,
+        Err(refusal) => return Err(refusal),
     };
-    match of_bytes(
-        alloc,
-        source.name(),
-        source.limits(),
-        bytes.as_slice(),
-        fault,
-    ) {
+    let bytes = bytes.as_slice();
+    let text = match readable_lines(alloc, source.limits(), bytes, part, hex, fault) {
+        Ok(text) => text,
+        Err(_) => return Err(Refusal::Fault(Fault::Memory)),
+    };
+    match of_bytes(alloc, source.name(), source.limits(), bytes, fault) {
         // Memory ran out, so nothing is printed.
-        Refusal::Fault(fault) => Err(Refusal::Fault(fault)),
-        refusal => Ok(Printed {
-            text,
-            refusal: Some(refusal),
-        }),
+        Refusal::Fault(_) => Err(Refusal::Fault(Fault::Memory)),
+        refusal => Ok((text, refusal)),
     }
 }
 
-fn in_hexadecimal(alloc: Global, printed: Printed) -> Result<Printed, AllocError> {
-    let Printed { text, refusal } = printed;
-    let text = match text {
-        Some(text) => Some(with_hexadecimal(alloc, text.as_str())?),
-        None => None,
+// The lines of an image that can be read of bytes that are none.
+fn readable_lines(
+    alloc: Global,
+    limits: Limits,
+    bytes: &[u8],
+    part: Part,
+    hex: bool,
+    fault: Fault,
+) -> Result<Option<String>, AllocError> {
+    let text = match part {
+        Part::Whole => broken_lines(alloc, limits, bytes, fault)?,
+        _ => None,
     };
-    Ok(Printed { text, refusal })
+    match text {
+        Some(text) if hex => Ok(Some(with_hexadecimal(alloc, text.as_str())?)),
+        _ => Ok(text),
+    }
 }
 
 // The status, when what is printed is where it is to go, or the refusal behind it.
@@ -238,24 +284,35 @@ fn hand_over_print<T: Files, W: Write>(
     output: &Output,
     writer: &mut W,
 ) -> Result<u8, Refusal>
-    ensures { HandsPrint output.now IsSomeText (W.contents writer.old) (W.contents writer.new) result }
+    ensures { HandsPrint output.now (reply_of printed) (W.contents writer.old) (W.contents writer.new) result }
 {
-    let Printed { text, refusal } = printed;
-    let Some(text) = text else {
-        return status_or(refusal, 0);
-    };
-    match hand_over_text(rt, alloc, 0, text.as_bytes(), output, writer) {
-        Ok(status) => status_or(refusal, status),
-        Err(refusal) => Err(refusal),
+    match printed {
+        Printed::Lines(text) => hand_over_text(rt, alloc, 0, text.as_bytes(), output, writer),
+        Printed::Broken { text, refusal } => {
+            match hand_over_broken(rt, alloc, &text, output, writer) {
+                Ok(()) => Err(refusal),
+                Err(refusal) => Err(refusal),
+            }
+        }
     }
 }
 
-fn status_or(refusal: Option<Refusal>, status: u8) -> Result<u8, Refusal>
-    ensures { IfOk result (λ s. s ≡ status) }
+// Lines go before a refusal, if there are any.
+fn hand_over_broken<T: Files, W: Write>(
+    rt: &T,
+    alloc: Global,
+    text: &Option<String>,
+    output: &Output,
+    writer: &mut W,
+) -> Result<(), Refusal>
+    ensures { GoesBefore output.now (W.contents writer.old) (W.contents writer.new) }
 {
-    match refusal {
-        Some(refusal) => Err(refusal),
-        None => Ok(status),
+    let Some(text) = text else {
+        return Ok(());
+    };
+    match hand_over_text(rt, alloc, 0, text.as_bytes(), output, writer) {
+        Ok(_) => Ok(()),
+        Err(refusal) => Err(refusal),
     }
 }
 
@@ -316,26 +373,55 @@ fn lines<T: Threads + Sync>(
     image: &Image,
     name: &str,
     part: Part,
-) -> Result<String, Refusal> {
-    let heap = image.heap();
-    let text = match part {
-        Part::Whole => image_lines(alloc, image),
-        Part::Summary => summary(rt, alloc, image),
-        Part::Region(region) if u64::from(region) < heap.geometry().regions() => {
-            region_lines(alloc, image, region)
-        }
-        Part::Region(region) => {
-            return Err(no_region(alloc, name, region, heap.geometry().regions()));
-        }
-        Part::Object(address) => match object_at(heap, address) {
-            Some(object) => object_line(alloc, heap, &object),
-            None => {
-                let location = locate(alloc, heap, address)?;
-                return Err(no_object(alloc, name, address, &location));
-            }
+) -> Result<String, Refusal>
+    ensures text { IfOk result (λ s. IsPartText part image.now s.bytes.items) }
+    ensures refused { IfErr result (MayLack name.now part image.now) }
+{
+    match part {
+        Part::Whole => match image_lines(alloc, image) {
+            Ok(text) => Ok(text),
+            Err(_) => Err(Refusal::Fault(Fault::Memory)),
         },
+        // It wants memory, and nothing else.
+        Part::Summary => match summary(rt, alloc, image) {
+            Ok(text) => Ok(text),
+            Err(_) => Err(Refusal::Fault(Fault::Memory)),
+        },
+        Part::Region(region) => lines_of_region(alloc, image, name, region),
+        Part::Object(address) => line_of_object(alloc, image, name, address),
+    }
+}
+
+fn lines_of_region(alloc: Global, image: &Image, name: &str, region: u32) -> Result<String, Refusal>
+    ensures text { IfOk result (λ s. IsPartText (asked.Region region) image.now s.bytes.items) }
+    ensures refused { IfErr result (MayLack name.now (asked.Region region) image.now) }
+{
+    let regions = image.heap().geometry().regions();
+    if u64::from(region) >= regions {
+        return Err(no_region(alloc, name, region, regions));
+    }
+    match region_lines(alloc, image, region) {
+        Ok(text) => Ok(text),
+        Err(_) => Err(Refusal::Fault(Fault::Memory)),
+    }
+}
+
+fn line_of_object(alloc: Global, image: &Image, name: &str, address: u64) -> Result<String, Refusal>
+    ensures text { IfOk result (λ s. IsPartText (asked.Object address) image.now s.bytes.items) }
+    ensures refused { IfErr result (MayLack name.now (asked.Object address) image.now) }
+{
+    let heap = image.heap();
+    let Some(object) = object_at(heap, address) else {
+        return match locate(alloc, heap, address) {
+            Ok(location) => Err(no_object(alloc, name, address, &location)),
+            // It wants memory, and nothing else.
+            Err(_) => Err(Refusal::Fault(Fault::Memory)),
+        };
     };
-    Ok(text?)
+    match object_line(alloc, heap, &object) {
+        Ok(text) => Ok(text),
+        Err(_) => Err(Refusal::Fault(Fault::Memory)),
+    }
 }
 
 fn make_from<T: Files, R: Read>(
@@ -344,7 +430,8 @@ fn make_from<T: Files, R: Read>(
     name: &str,
     reader: &mut R,
 ) -> Result<Vec<u8>, Refusal>
-    ensures { IfOk result (λ v. IsImageTextWithin Wide v.items) }
+    ensures bytes { IfOk result (λ v. IsMakeReply name.now (R.remaining reader.old) 0 v.items) }
+    ensures refused { IfErr result (λ r. IsUnread name.now r ⊎ HoldsOfNamed name.now (R.remaining reader.old) (λ lines. RefusesMake name.now lines r)) }
 {
     match read_bytes(rt, alloc, name, reader) {
         Ok(lines) => make_image(alloc, name, lines.as_slice()),
@@ -354,14 +441,16 @@ fn make_from<T: Files, R: Read>(
 
 // Lines of objects by name begin with another word.
 fn make_image(alloc: Global, name: &str, lines: &[u8]) -> Result<Vec<u8>, Refusal>
-    ensures { IfOk result (λ v. IsImageTextWithin Wide v.items) }
+    ensures bytes { IfOk result (λ v. IsMade lines.now v.items) }
+    ensures refused { IfErr result (RefusesMake name.now lines.now) }
 {
-    let made = if is_graph(lines) {
-        make_graph(alloc, lines)
-    } else {
-        make(alloc, lines)
-    };
-    match made {
+    if is_graph(lines) {
+        return match make_graph(alloc, lines) {
+            Ok(bytes) => Ok(bytes),
+            Err(wrong) => Err(refuse_lines(alloc, name, lines, wrong)),
+        };
+    }
+    match make(alloc, lines) {
         Ok(bytes) => Ok(bytes),
         Err(wrong) => Err(refuse_lines(alloc, name, lines, wrong)),
     }

@@ -1,4 +1,8 @@
 //! A pause as lines, and what keeps an object.
+ghost use Rattle.std.specs.Prelude.{IfOk, is_some};
+ghost use Rattle.g1heap_cli.specs.Texts.{MayChange, IsReasonText};
+ghost use Rattle.g1heap_cli.specs.Replies.{IsWhyReply};
+
 use crate::alone::{CHUNK, WORKERS};
 use crate::mapping::{copy_for, read_names, with_names};
 use crate::refusal::{contradiction, no_object, of_file};
@@ -25,15 +29,28 @@ pub fn explain_pause<T: Threads + Sync + Files, R: Read>(
     let settings = settings_of(alloc, request)?;
     let source = find_collected(rt, alloc, &request.image, reader)?;
     let image = source.image(rt, alloc)?;
+    let form = if request.map { Form::Map } else { Form::Steps };
+    if request.names.is_none() {
+        return pause_lines(rt, alloc, &source, image, &settings, form);
+    }
     let mut map = Vec::new(alloc);
     let names = read_names(rt, alloc, &request.names, None, reader, &mut map)?;
     let before = copy_for(alloc, &image, &names)?;
-    let form = if request.map { Form::Map } else { Form::Steps };
-    match explain(rt, alloc, image, &settings, form) {
-        Ok(explanation) => {
-            let (status, text) = answer(rt, alloc, &source, explanation, form)?;
-            Ok((status, with_names(alloc, text, &before, &names)?))
-        }
+    let (status, text) = pause_lines(rt, alloc, &source, image, &settings, form)?;
+    Ok((status, with_names(alloc, text, &before, &names)?))
+}
+
+// The lines of a pause of an image, and the status.
+fn pause_lines<T: Threads + Sync + Files>(
+    rt: &T,
+    alloc: Global,
+    source: &Source<'_>,
+    image: Image,
+    settings: &Settings,
+    form: Form,
+) -> Result<(u8, String), Refusal> {
+    match explain(rt, alloc, image, settings, form) {
+        Ok(explanation) => answer(rt, alloc, source, explanation, form),
         Err(Failure::Fault(fault)) => Err(source.refuse(rt, alloc, fault)),
         Err(failure) => Err(of_failure(alloc, source.name(), failure)),
     }
@@ -77,18 +94,67 @@ pub fn explain_object<T: Threads + Sync + Files, R: Read>(
     alloc: Global,
     request: &Why,
     reader: &mut R,
+) -> Result<String, Refusal>
+    ensures { IfOk result (λ s. IsWhyReply request.now (R.remaining reader.old) 0 s.bytes.items) }
+{
+    let source = match find_source(rt, alloc, &request.image, reader) {
+        Ok(source) => source,
+        Err(refusal) => return Err(refusal),
+    };
+    match source.image(rt, alloc) {
+        Ok(image) => keeping_lines(rt, alloc, &source, image, request, reader),
+        Err(refusal) => Err(refusal),
+    }
+}
+
+fn keeping_lines<T: Threads + Sync + Files, R: Read>(
+    rt: &T,
+    alloc: Global,
+    source: &Source<'_>,
+    image: Image,
+    request: &Why,
+    reader: &mut R,
+) -> Result<String, Refusal>
+    ensures { IfOk result (λ s. MayChange (is_some request.now.names) (IsReasonText request.now.address image) s.bytes.items) }
+{
+    let address = request.address;
+    if let Err(refusal) = check_object(alloc, source.name(), &image, address) {
+        return Err(refusal);
+    }
+    match &request.names {
+        None => reason_lines(rt, alloc, source, image, address),
+        Some(_) => named_lines(rt, alloc, source, image, request, reader),
+    }
+}
+
+fn named_lines<T: Threads + Sync + Files, R: Read>(
+    rt: &T,
+    alloc: Global,
+    source: &Source<'_>,
+    image: Image,
+    request: &Why,
+    reader: &mut R,
 ) -> Result<String, Refusal> {
-    let source = find_source(rt, alloc, &request.image, reader)?;
-    let name = source.name();
-    let image = source.image(rt, alloc)?;
-    check_object(alloc, name, &image, request.address)?;
     let mut map = Vec::new(alloc);
     let names = read_names(rt, alloc, &request.names, None, reader, &mut map)?;
     let before = copy_for(alloc, &image, &names)?;
-    match why(rt, alloc, image, request.address) {
-        Ok(text) => Ok(with_names(alloc, text, &before, &names)?),
+    let text = reason_lines(rt, alloc, source, image, request.address)?;
+    Ok(with_names(alloc, text, &before, &names)?)
+}
+
+fn reason_lines<T: Threads + Sync + Files>(
+    rt: &T,
+    alloc: Global,
+    source: &Source<'_>,
+    image: Image,
+    address: u64,
+) -> Result<String, Refusal>
+    ensures { IfOk result (λ s. IsReasonText address image s.bytes.items) }
+{
+    match why(rt, alloc, image, address) {
+        Ok(text) => Ok(text),
         Err(Failure::Fault(fault)) => Err(source.refuse(rt, alloc, fault)),
-        Err(failure) => Err(of_failure(alloc, name, failure)),
+        Err(failure) => Err(of_failure(alloc, source.name(), failure)),
     }
 }
 

@@ -1,6 +1,7 @@
 //! Files on the command line.
-ghost use Rattle.std.specs.Prelude.{◌≡◌, IfOk, IfSome};
+ghost use Rattle.std.specs.Prelude.{◌≡◌, IfOk, IfErr, IfSome};
 ghost use Rattle.g1heap_cli.specs.Streams.{AreNamed};
+ghost use Rattle.g1heap_cli.specs.Refusals.{IsUnread};
 
 use crate::heard::Heard;
 use crate::refusal::{of_bytes, of_device, unopenable};
@@ -21,18 +22,22 @@ pub fn read_bytes<T: Files, R: Read>(
     name: &str,
     reader: &mut R,
 ) -> Result<Vec<u8>, Refusal>
-    ensures { IfOk result (λ v. AreNamed name.now (R.remaining reader.old) v.items) }
+    ensures bytes { IfOk result (λ v. AreNamed name.now (R.remaining reader.old) v.items) }
+    ensures refused { IfErr result (IsUnread name.now) }
 {
     if name == STANDARD_STREAM {
         return read_whole(alloc, name, reader);
     }
-    let mut file = open_file(rt, alloc, name)?;
-    read_whole(alloc, name, &mut file)
+    match open_file(rt, alloc, name) {
+        Ok(mut file) => read_whole(alloc, name, &mut file),
+        Err(refusal) => Err(refusal),
+    }
 }
 
 // All bytes of what has this name.
 fn read_whole<R: Read>(alloc: Global, name: &str, reader: &mut R) -> Result<Vec<u8>, Refusal>
-    ensures { IfOk result (λ v. IfSome (R.remaining reader.old) (λ xs. xs ≡ v.items)) }
+    ensures bytes { IfOk result (λ v. IfSome (R.remaining reader.old) (λ xs. xs ≡ v.items)) }
+    ensures refused { IfErr result (IsUnread name.now) }
 {
     let mut heard = Heard::new(reader);
     match read_all(alloc, &mut heard) {
@@ -184,10 +189,14 @@ fn without_stale<R: Read>(
 }
 
 /// Opens a file to be read.
-pub fn open_file<T: Files>(rt: &T, alloc: Global, name: &str) -> Result<T::File, Refusal> {
+pub fn open_file<T: Files>(rt: &T, alloc: Global, name: &str) -> Result<T::File, Refusal>
+    ensures { IfErr result (IsUnread name.now) }
+{
     match fs::open(rt, name) {
         Ok(file) => Ok(file),
-        Err(error) if error.kind() == ErrorKind::OutOfMemory => Err(Fault::Memory.into()),
+        Err(error) if error.kind() == ErrorKind::OutOfMemory => {
+            Err(Refusal::Fault(Fault::Memory))
+        }
         Err(error) => Err(unopenable(alloc, name, &error)),
     }
 }

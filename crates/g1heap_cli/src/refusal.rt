@@ -1,7 +1,7 @@
 //! The refusals that name a file.
 ghost use Rattle.std.specs.Prelude.{◌≡◌, ◌⊎◌, ℕ, List, [], ◌++◌, codes, decimal, None, IfOk, IfErr};
 ghost use Rattle.g1_words.specs.Fault.{status_of};
-ghost use Rattle.g1heap_cli.specs.Refusals.{Tells, ended, told_line, file_line, cause_line, IsFileText, RefusesFile, IsLineText, RefusesLine, RefusesOutput, output_line};
+ghost use Rattle.g1heap_cli.specs.Refusals.{Tells, ended, told_line, file_line, cause_line, IsFileText, RefusesFile, IsLineText, RefusesLine, RefusesOutput, output_line, MayHaveTip, RefusesCover};
 ghost use Rattle.g1heap_cli.specs.Lines.{RefusesLines, RefusesNames};
 
 use g1_broken::{Broken, Look, rule_of_bytes, rule_of_cover, rule_of_set, rule_of_stale};
@@ -85,7 +85,9 @@ pub fn of_heap(alloc: Global, name: &str, heap: &Heap, fault: Fault) -> Refusal
 }
 
 /// The fault of an image that lacks cover, and that its graph is the one of the image before.
-pub fn of_cover(alloc: Global, name: &str, heap: &Heap, fault: Fault) -> Refusal {
+pub fn of_cover(alloc: Global, name: &str, heap: &Heap, fault: Fault) -> Refusal
+    ensures { RefusesCover name.now fault result }
+{
     match of_heap(alloc, name, heap, fault) {
         Refusal::Told { status, text } => {
             refusal(
@@ -316,7 +318,9 @@ pub fn is_image(bytes: &[u8]) -> bool {
 }
 
 /// The refusal of a file of which regions are collected. If its name is a set of regions, these may have been meant.
-pub fn with_set_tip(alloc: Global, name: &str, refused: Refusal) -> Refusal {
+pub fn with_set_tip(alloc: Global, name: &str, refused: Refusal) -> Refusal
+    ensures { MayHaveTip refused result }
+{
     match refused {
         Refusal::Told { status: 7, text } if names_regions(name) => {
             with_tip(alloc, text.as_str(), SET_TIP)

@@ -1,5 +1,7 @@
 //! An image on the command line, which can be read a second time: for the rule that it breaks.
-ghost use Rattle.std.specs.Prelude.{IfOk};
+ghost use Rattle.std.specs.Prelude.{◌≡◌, IfOk, IfErr};
+ghost use Rattle.g1_command.specs.declared.refusal.Refusal.{Refusal as RefusalOf};
+ghost use Rattle.g1heap_cli.specs.Refusals.{is_of_machine, IsUnread, MayHaveTip};
 ghost use Rattle.g1heap_cli.specs.Streams.{KeepsNamed};
 
 use crate::files::{is_file, open_file, read_bytes};
@@ -49,7 +51,9 @@ pub fn find_source<'a, T: Files, R: Read>(
     image: &'a ImageFile,
     reader: &mut R,
 ) -> Result<Source<'a>, Refusal>
-    ensures { IfOk result (λ s. KeepsNamed (λ v. v.items) image.now.name.bytes.items (R.remaining reader.old) s.kept) }
+    ensures kept { IfOk result (λ s. KeepsNamed (λ v. v.items) image.now.name.bytes.items (R.remaining reader.old) s.kept) }
+    ensures image { IfOk result (λ s. s.image.now ≡ image.now) }
+    ensures refused { IfErr result (IsUnread image.now.name.bytes.items) }
 {
     let name = image.name.as_str();
     if name != STANDARD_STREAM && is_file(rt, name) {
@@ -71,7 +75,9 @@ pub fn find_collected<'a, T: Files, R: Read>(
     image: &'a ImageFile,
     reader: &mut R,
 ) -> Result<Source<'a>, Refusal>
-    ensures { IfOk result (λ s. KeepsNamed (λ v. v.items) image.now.name.bytes.items (R.remaining reader.old) s.kept) }
+    ensures kept { IfOk result (λ s. KeepsNamed (λ v. v.items) image.now.name.bytes.items (R.remaining reader.old) s.kept) }
+    ensures image { IfOk result (λ s. s.image.now ≡ image.now) }
+    ensures refused { IfErr result (λ r. (why : RefusalOf) × IsUnread image.now.name.bytes.items why × MayHaveTip why r) }
 {
     match find_source(rt, alloc, image, reader) {
         Ok(source) => Ok(source),
@@ -80,22 +86,32 @@ pub fn find_collected<'a, T: Files, R: Read>(
 }
 
 impl<'a> Source<'a> {
-    ghost use Rattle.std.specs.Prelude.{IfOk};
+    ghost use Rattle.std.specs.Prelude.{◌≡◌, ◌⊎◌, IfOk, IfErr};
+    ghost use Rattle.g1_image.specs.Image.{IsTextWithin};
     ghost use Rattle.g1heap_cli.specs.Opened.{GivesKept};
+    ghost use Rattle.g1heap_cli.specs.Streams.{HoldsOfKept};
+    ghost use Rattle.g1heap_cli.specs.Found.{IsFoundIn};
+    ghost use Rattle.g1heap_cli.specs.Reasons.{IsRefusedIn};
+    ghost use Rattle.g1heap_cli.specs.Refusals.{RefusesFile, IsUnread};
 
     /// The name on the command line.
-    pub fn name(&self) -> &'a str {
+    pub fn name(&self) -> &'a str
+        ensures { result.now ≡ self.now.image.now.name.bytes.items }
+    {
         self.image.name.as_str()
     }
 
     /// The limits within which it is read.
-    pub fn limits(&self) -> Limits {
+    pub fn limits(&self) -> Limits
+        ensures { result ≡ self.now.image.now.limits }
+    {
         self.image.limits
     }
 
     /// The source, to be read from its start on.
     pub fn open<T: Files>(&self, rt: &T, alloc: Global) -> Result<Opened<'_, T::File>, Refusal>
-        ensures { IfOk result (GivesKept (λ v. v.items) self.now.kept) }
+        ensures kept { IfOk result (GivesKept (λ v. v.items) self.now.kept) }
+        ensures refused { IfErr result (IsUnread self.now.image.now.name.bytes.items) }
     {
         match &self.kept {
             None => match open_file(rt, alloc, self.name()) {
@@ -107,16 +123,27 @@ impl<'a> Source<'a> {
     }
 
     /// All its bytes.
-    pub fn bytes<T: Files>(&self, rt: &T, alloc: Global) -> Result<Vec<u8>, Refusal> {
+    pub fn bytes<T: Files>(&self, rt: &T, alloc: Global) -> Result<Vec<u8>, Refusal>
+        ensures { IfErr result (IsUnread self.now.image.now.name.bytes.items) }
+    {
         match &self.kept {
             None => read_bytes(rt, alloc, self.name(), &mut [].as_slice()),
-            Some(bytes) => Ok(bytes.as_slice().to_vec(alloc)?),
+            Some(bytes) => match bytes.as_slice().to_vec(alloc) {
+                Ok(bytes) => Ok(bytes),
+                Err(_) => Err(Refusal::Fault(Fault::Memory)),
+            },
         }
     }
 
     /// Its image, or the fault of its bytes.
-    pub fn found<T: Files>(&self, rt: &T, alloc: Global) -> Result<Result<Image, Fault>, Refusal> {
-        let mut opened = self.open(rt, alloc)?;
+    pub fn found<T: Files>(&self, rt: &T, alloc: Global) -> Result<Result<Image, Fault>, Refusal>
+        ensures found { IfOk result (λ r. HoldsOfKept (λ v. v.items) self.now.kept (λ xs. IsFoundIn self.now.image.now.limits xs r)) }
+        ensures refused { IfErr result (IsUnread self.now.image.now.name.bytes.items) }
+    {
+        let mut opened = match self.open(rt, alloc) {
+            Ok(opened) => opened,
+            Err(refusal) => return Err(refusal),
+        };
         let mut heard = Heard::new(&mut opened);
         match read_within(alloc, self.limits(), &mut FromReader::new(&mut heard)) {
             Ok(image) => Ok(Ok(image)),
@@ -128,52 +155,53 @@ impl<'a> Source<'a> {
     }
 
     /// Its image.
-    pub fn image<T: Files>(&self, rt: &T, alloc: Global) -> Result<Image, Refusal> {
-        match self.found(rt, alloc)? {
-            Ok(image) => Ok(image),
-            Err(fault) => Err(self.refuse(rt, alloc, fault)),
+    pub fn image<T: Files>(&self, rt: &T, alloc: Global) -> Result<Image, Refusal>
+        ensures image { IfOk result (λ i. HoldsOfKept (λ v. v.items) self.now.kept (λ xs. IsTextWithin self.now.image.now.limits xs i)) }
+        ensures refused { IfErr result (IsRefusedIn (λ v. v.items) self.now.kept self.now.image.now) }
+    {
+        match self.found(rt, alloc) {
+            Ok(Ok(image)) => Ok(image),
+            Ok(Err(fault)) => Err(self.refuse(rt, alloc, fault)),
+            Err(refusal) => Err(refusal),
         }
     }
 
     /// The refusal of its image for a fault that was found in its bytes, or by a pause. It is read once more, for the rule
     /// that is broken.
-    pub fn refuse<T: Files>(&self, rt: &T, alloc: Global, fault: Fault) -> Refusal {
-        let refused = match fault {
+    pub fn refuse<T: Files>(&self, rt: &T, alloc: Global, fault: Fault) -> Refusal
+        ensures { RefusesFile self.now.image.now.name.bytes.items fault result ⊎ IsRefusedIn (λ v. v.items) self.now.kept self.now.image.now result }
+    {
+        match fault {
             Fault::Uncovered(_) | Fault::Set(_) => self.refuse_heap(rt, alloc, fault),
-            Fault::Room { .. } | Fault::Settings(_) => Ok(of_file(alloc, self.name(), fault)),
-            _ if is_of_machine(fault) => Ok(of_file(alloc, self.name(), fault)),
+            Fault::Room { .. } | Fault::Settings(_) => of_file(alloc, self.name(), fault),
+            Fault::Memory | Fault::Device(_) => of_file(alloc, self.name(), fault),
             _ => self.refuse_bytes(rt, alloc, fault),
-        };
-        match refused {
-            Ok(refusal) => refusal,
+        }
+    }
+
+    fn refuse_heap<T: Files>(&self, rt: &T, alloc: Global, fault: Fault) -> Refusal
+        ensures { RefusesFile self.now.image.now.name.bytes.items fault result ⊎ IsRefusedIn (λ v. v.items) self.now.kept self.now.image.now result }
+    {
+        match self.found(rt, alloc) {
+            Ok(Ok(image)) => of_heap(alloc, self.name(), image.heap(), fault),
+            Ok(Err(other)) => self.refuse_bytes(rt, alloc, other),
             Err(refusal) => refusal,
         }
     }
 
-    fn refuse_heap<T: Files>(
-        &self,
-        rt: &T,
-        alloc: Global,
-        fault: Fault,
-    ) -> Result<Refusal, Refusal> {
-        match self.found(rt, alloc)? {
-            Ok(image) => Ok(of_heap(alloc, self.name(), image.heap(), fault)),
-            Err(other) => self.refuse_bytes(rt, alloc, other),
+    fn refuse_bytes<T: Files>(&self, rt: &T, alloc: Global, fault: Fault) -> Refusal
+        ensures { RefusesFile self.now.image.now.name.bytes.items fault result ⊎ IsUnread self.now.image.now.name.bytes.items result }
+    {
+        match self.bytes(rt, alloc) {
+            Ok(bytes) => of_bytes(alloc, self.name(), self.limits(), bytes.as_slice(), fault),
+            Err(refusal) => refusal,
         }
-    }
-
-    fn refuse_bytes<T: Files>(
-        &self,
-        rt: &T,
-        alloc: Global,
-        fault: Fault,
-    ) -> Result<Refusal, Refusal> {
-        let bytes = self.bytes(rt, alloc)?;
-        Ok(of_bytes(alloc, self.name(), self.limits(), bytes.as_slice(), fault))
     }
 }
 
 // Whether a fault is none of the bytes that are read.
-fn is_of_machine(fault: Fault) -> bool {
+fn is_of_machine(fault: Fault) -> bool
+    ensures { result ≡ is_of_machine fault }
+{
     matches!(fault, Fault::Memory | Fault::Device(_))
 }

@@ -1,10 +1,15 @@
-use Rattle.g1heap_cli.specs.Leaving.{Just}
-use Rattle.g1heap_cli.specs.Replies.{IsSomeText}
-use Rattle.g1heap_cli.proofs.Left.{print_withheld}
+use Rattle.std.proofs.Common.{sym, subst}
+use Rattle.g1heap_cli.specs.Leaving.{Just, HandsPrint}
+use Rattle.g1heap_cli.specs.Printed.{reply_of}
+use Rattle.g1heap_cli.proofs.Left.{is_printed}
 use Rattle.g1heap_cli.proofs.commands.hand_over_print.Goals as goal
 
--- the lines were not handed over
-pub returns-in-Err : goal.returns-in-Err
-returns-in-Err g c =
-    print_withheld (Just 0 c.as_bytes.result.now) IsSomeText (g.W.Write.contents c.args.writer.now) (g.W.Write.contents c.hand_over_text.new.writer)
-    c.args.output.now c.in-Err.refusal c.in-Err.ensures
+-- the lines of an image
+pub returns-in-Lines : goal.returns-in-Lines
+returns-in-Lines g c =
+    let old = g.W.Write.contents c.args.writer.now in
+    let new = g.W.Write.contents c.hand_over_text.new.writer in
+    let out = c.args.output.now in
+    let r = c.hand_over_text.result in
+    subst (λ p. HandsPrint out (reply_of p) old new r) (sym c.in-Lines.is)
+    (subst (λ t. HandsPrint out (Just 0 t) old new r) c.as_bytes.ensures.value (is_printed (Just 0 c.as_bytes.result.now) old new out r c.hand_over_text.ensures))

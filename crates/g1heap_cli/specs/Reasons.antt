@@ -1,0 +1,55 @@
+-- Why g1heap refuses a request: the refusal of the file that it names.
+use Rattle.std.specs.Prelude.{◌≡◌, ◌⊎◌, ◌≤◌, ℕ, List, ◌++◌, codes, decimal, Contains, Option, Err}
+use Rattle.g1_words.specs.Heap.{objects, object_at}
+use Rattle.g1_words.specs.declared.fault.Fault.{Fault}
+use Rattle.g1_words.specs.declared.fault.Fault.TheVariants as fault
+use Rattle.g1_image.specs.Image.{Image}
+use Rattle.g1_command.specs.declared.refusal.Refusal.{Refusal}
+use Rattle.g1_command.specs.declared.refusal.Refusal.TheVariants as refusal
+use Rattle.g1_answers.specs.Questions.{IsReply}
+use Rattle.g1_text.specs.Reading.{AreGraphLines, parts_of}
+use Rattle.g1_text.specs.Reported.{Reports}
+use Rattle.g1_text.specs.declared.expected.Wrong.{Wrong}
+use Rattle.g1heap_request.specs.declared.image_file.ImageFile.{ImageFile}
+use Rattle.g1heap_request.specs.declared.options.Part.{Part}
+use Rattle.g1heap_request.specs.declared.options.Part.TheVariants as part
+use Rattle.g1heap_request.specs.declared.asking.Ask.{Ask}
+use Rattle.g1heap_cli.specs.Refusals.{Tells, told_line, ended, RefusesFile, IsUnread}
+use Rattle.g1heap_cli.specs.Lines.{RefusesLines}
+use Rattle.g1heap_cli.specs.Streams.{HoldsOfNamed, HoldsOfKept}
+use Rattle.g1heap_cli.specs.Found.{RefusesBytes}
+use Rattle.g1heap_cli.specs.Texts.{HoldsOfImage}
+
+-- the refusal of a file that is to be an image, of which these bytes are kept: it is not read, or its bytes have a fault
+abbrev pub IsRefusedIn : {V : Type 0} → (V → List ℕ) → Option V → ImageFile → Refusal → Type 0
+IsRefusedIn items kept image r = IsUnread image.name.bytes.items r ⊎ HoldsOfKept items kept (λ bytes. RefusesBytes image.limits image.name.bytes.items bytes r)
+
+-- THE REFUSAL OF AN IMAGE that is named: it is not read, or it is the one for its bytes
+abbrev pub RefusesImage : ImageFile → Option (List ℕ) → (List ℕ → Refusal → Type 0) → Refusal → Type 0
+RefusesImage image left Is r = IsUnread image.name.bytes.items r ⊎ HoldsOfNamed image.name.bytes.items left (λ bytes. Is bytes r)
+
+-- for the fault that is the reply to a question of bytes; or, since the file is read once more, for the fault of its bytes
+abbrev pub RefusesAsked : Ask → List ℕ → Refusal → Type 0
+RefusesAsked a bytes r = ((f : Fault) × IsReply a.image.limits a.question bytes (Err f) × RefusesFile a.image.name.bytes.items f r) ⊎ RefusesBytes a.image.limits a.image.name.bytes.items bytes r
+
+-- an image lacks the part: the region, or an object at the address
+abbrev pub LacksPart : List ℕ → Part → Image → Refusal → Type 0
+LacksPart file (part.Region n) i r =
+    (i.heap.geometry.n ≤ n) × Tells 2 (λ t. t ≡ told_line file (codes "no region " ++ (decimal n ++ (codes ": the image has " ++ ended (decimal i.heap.geometry.n))))) r
+LacksPart file (part.Object a) i r =
+    (Contains (objects i.heap) (object_at i.heap a) → ⊥)
+    × Tells 2 (λ t. (what : List ℕ) × (t ≡ told_line file (codes "no object starts at " ++ (decimal a ++ (codes ": " ++ ended what))))) r
+LacksPart file p i r = ⊥
+
+-- it lacks the part, or memory was wanted
+abbrev pub MayLack : List ℕ → Part → Image → Refusal → Type 0
+MayLack file p i r = (r ≡ refusal.Fault fault.Memory) ⊎ LacksPart file p i r
+
+-- of `print`: for the fault of bytes, or since the image lacks the part
+abbrev pub RefusesPrint : ImageFile → Part → List ℕ → Refusal → Type 0
+RefusesPrint image p bytes r =
+    RefusesBytes image.limits image.name.bytes.items bytes r ⊎ HoldsOfImage image.limits (λ i. LacksPart image.name.bytes.items p i r) bytes
+
+-- of `make`: for the line that lines report, which is the first wrong one of lines of an image
+abbrev pub RefusesMake : List ℕ → List ℕ → Refusal → Type 0
+RefusesMake file lines r = (wrong : Wrong) × ((AreGraphLines (parts_of lines) → ⊥) → Reports lines wrong) × RefusesLines file wrong r
