@@ -21,8 +21,12 @@ pub enum Refusal {
 }
 
 impl Refusal {
+    ghost use Rattle.std.specs.Prelude.{◌≡◌};
+
     /// Words that are no request, as this text says.
-    pub fn usage(text: String) -> Refusal {
+    pub fn usage(text: String) -> Refusal
+        ensures { result ≡ Refusal.Told 2 text }
+    {
         Refusal::Told { status: 2, text }
     }
 }

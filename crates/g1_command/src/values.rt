@@ -81,7 +81,7 @@ impl Misuse {
     {
         match self {
             Misuse::Value(message) => match with_usage(alloc, program, usage, message.as_str()) {
-                Ok(text) => Refusal::Told { status: 2, text },
+                Ok(text) => Refusal::usage(text),
                 Err(_) => Refusal::Fault(Fault::Memory),
             },
             Misuse::Memory => Refusal::Fault(Fault::Memory),
@@ -128,7 +128,7 @@ pub fn read_request<Q: Drop, F: Fn(Global, &str, &ArgMatches<'_>) -> Result<Q, M
         };
     }
     match String::from_str(alloc, "error: a command is required\n") {
-        Ok(text) => Err(Refusal::Told { status: 2, text }),
+        Ok(text) => Err(Refusal::usage(text)),
         Err(_) => Err(Refusal::Fault(Fault::Memory)),
     }
 }
@@ -144,7 +144,7 @@ pub fn help_or_refusal(alloc: Global, error: &Error) -> Result<String, Refusal>
         return Err(Refusal::Fault(Fault::Memory));
     };
     if error.use_stderr() {
-        Err(Refusal::Told { status: 2, text })
+        Err(Refusal::usage(text))
     } else {
         Ok(text)
     }
