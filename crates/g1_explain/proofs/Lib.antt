@@ -17,3 +17,8 @@ pub mod NoSlots
 pub mod Kept
 pub mod SurvivorLines
 pub mod Reasons
+pub mod StepLines
+pub mod Joined
+pub mod Gained
+pub mod DirtyLines
+pub mod HumongousLines

@@ -8,3 +8,6 @@ pub mod Choosing
 pub mod Places
 pub mod Changes
 pub mod Totals
+pub mod Remembered
+pub mod Humongous
+pub mod Steps

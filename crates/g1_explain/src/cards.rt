@@ -1,4 +1,4 @@
-//! Cards: what the dirty ones add, and which slots lead into a set.
+//! The cards that lead into a set, and which slots on them do.
 ghost use Rattle.std.specs.Prelude.{◌≡◌, ◌<◌, ◌++◌, ℕ, false, map, filter, slice_index_or, string_bytes, All, OnOk, IfOk};
 ghost use Rattle.std.specs.List.{list_any};
 ghost use Rattle.g1_words.specs.Heap.{word, region_of};
@@ -8,95 +8,8 @@ ghost use Rattle.g1_text.specs.Lines.{line_text, further, text_of};
 ghost use Rattle.g1_explain.specs.Cards.{number_words, entry_line, set_lines};
 
 use crate::walkable::Walkable;
-use g1_image::Image;
 use g1_words::{Heap, Marks, region_of};
 use std::alloc::{AllocError, Global};
-
-/// Adds a line for each dirty card, in the log's order: the regions whose refined set gains it.
-pub(crate) fn push_dirty(
-    alloc: Global,
-    text: &mut String,
-    image: &Image,
-    refined: &[Vec<u32>],
-) -> Result<(), AllocError> {
-    if image.log().is_empty() {
-        return Ok(());
-    }
-    let gained = gained_cards(alloc, image.remembered(), refined)?;
-    for card in image.log().as_slice() {
-        push_dirty_card(text, *card, gained.as_slice())?;
-    }
-    Ok(())
-}
-
-// The cards that sets gain, each with the region's number, by card and then by region.
-fn gained_cards(
-    alloc: Global,
-    before: &[Vec<u32>],
-    after: &[Vec<u32>],
-) -> Result<Vec<(u32, usize)>, AllocError> {
-    let mut gained = Vec::new(alloc);
-    for (region, (old, new)) in before.iter().zip(after.iter()).enumerate() {
-        add_gained(alloc, &mut gained, region, old.as_slice(), new.as_slice())?;
-    }
-    gained.sort_unstable();
-    Ok(gained)
-}
-
-// Adds the cards that the set of a region gains.
-fn add_gained(
-    alloc: Global,
-    gained: &mut Vec<(u32, usize)>,
-    region: usize,
-    before: &[u32],
-    after: &[u32],
-) -> Result<(), AllocError> {
-    for card in joined_cards(alloc, before, after)?.as_slice() {
-        gained.push((*card, region))?;
-    }
-    Ok(())
-}
-
-/// The cards of the second set that aren't in the first. Both rise.
-pub(crate) fn joined_cards(
-    alloc: Global,
-    before: &[u32],
-    after: &[u32],
-) -> Result<Vec<u32>, AllocError> {
-    let mut joined = Vec::new(alloc);
-    if before == after {
-        return Ok(joined);
-    }
-    for card in after {
-        if before.binary_search(card).is_err() {
-            joined.push(*card)?;
-        }
-    }
-    Ok(joined)
-}
-
-fn push_dirty_card(
-    text: &mut String,
-    card: u32,
-    gained: &[(u32, usize)],
-) -> Result<(), AllocError> {
-    write!(text, "dirty {card} adds")?;
-    let first = gained.partition_point(|pair| pair.0 < card);
-    let mut some = false;
-    for (gained_card, region) in &gained[first..] {
-        if *gained_card != card {
-            break;
-        }
-        write!(text, " {region}")?;
-        some = true;
-    }
-    end_list(text, some)
-}
-
-// Ends a line with a list, which is a dash if there is nothing in it.
-fn end_list(text: &mut String, some: bool) -> Result<(), AllocError> {
-    text.push_str(if some { "\n" } else { " -\n" })
-}
 
 /// Ends a line with these numbers, or with a dash if there are none.
 pub(crate) fn push_numbers(text: &mut String, numbers: &[u32]) -> Result<(), AllocError>

@@ -5,7 +5,6 @@ ghost use Rattle.g1_words.specs.Heap.{region_of, free_region, is_free};
 ghost use Rattle.g1_text.specs.Lines.{text_of};
 ghost use Rattle.g1_explain.specs.Changes.{move_lines, root_moves, patch_moves, region_change, region_changes, log_change, current_change, heading_changes};
 
-use crate::cards::{joined_cards, push_numbers};
 use g1_copy::Prepared;
 use g1_image::Image;
 use g1_words::{Heap, Region, region_of};
@@ -87,37 +86,6 @@ fn is_used(regions: &[Region], number: u64) -> bool
         Some(region) => region.kind.is_used(),
         None => false,
     }
-}
-
-/// Adds the lines of each remembered set that changes: the cards that join it, and those that leave it.
-pub(crate) fn push_remembered(
-    alloc: Global,
-    text: &mut String,
-    refined: &[Vec<u32>],
-    after: &[Vec<u32>],
-) -> Result<(), AllocError> {
-    for (region, (old, new)) in refined.iter().zip(after.iter()).enumerate() {
-        push_set_change(alloc, text, region, "gains", old, new)?;
-        push_set_change(alloc, text, region, "loses", new, old)?;
-    }
-    Ok(())
-}
-
-// Adds the line of the cards of the second set that aren't in the first, if there are any.
-fn push_set_change(
-    alloc: Global,
-    text: &mut String,
-    region: usize,
-    word: &str,
-    before: &[u32],
-    after: &[u32],
-) -> Result<(), AllocError> {
-    let cards = joined_cards(alloc, before, after)?;
-    if cards.is_empty() {
-        return Ok(());
-    }
-    write!(text, "remembered {region} {word}")?;
-    push_numbers(text, cards.as_slice())
 }
 
 /// Adds a line for each region whose line in the table changes.

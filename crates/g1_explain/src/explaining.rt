@@ -1,8 +1,12 @@
 //! The lines of a pause.
-use crate::cards::push_dirty;
+ghost use Rattle.std.specs.Prelude.{◌≡◌, ◌++◌, string_bytes, OnOk, IfOk};
+ghost use Rattle.g1_text.specs.Lines.{text_of};
+ghost use Rattle.g1_explain.specs.Steps.{AreTaken, IsTextOfSteps, covered_lines, refusal_of};
+
 use crate::failure::Failure;
 use crate::form::Form;
 use crate::places::push_map;
+use crate::remembering::push_dirty;
 use crate::steps::push_steps;
 use crate::totals::push_refusal;
 use g1_image::Image;
@@ -11,7 +15,7 @@ use g1_rem::{Tracked, verify};
 use g1_text::push_heading;
 use g1_words::Fault;
 use g1_work::Open;
-use std::alloc::Global;
+use std::alloc::{AllocError, Global};
 use std::thread::Threads;
 
 /// The lines of a pause, and the fault for which it is refused, if it is.
@@ -52,7 +56,10 @@ pub fn explain_steps(
     before: &Before<'_>,
     settings: &Settings,
     steps: &Steps,
-) -> Result<Explanation, Failure> {
+) -> Result<Explanation, Failure>
+    ensures lines { AreTaken settings.now.cost settings.now.choice before.now steps.now → IfOk result (λ x. IsTextOfSteps settings.now.cost before.now steps.now (string_bytes x.text)) }
+    ensures refused { IfOk result (λ x. x.refused ≡ refusal_of steps.now.outcome) }
+{
     let mut text = String::new(alloc);
     push_heading(&mut text, before.image())?;
     push_covered(alloc, &mut text, before)?;
@@ -91,10 +98,11 @@ fn push_tracked<R: Threads + Sync>(
 }
 
 // Adds the line that the image is covered, and those of the dirty cards.
-fn push_covered(alloc: Global, text: &mut String, before: &Before<'_>) -> Result<(), Failure> {
+fn push_covered(alloc: Global, text: &mut String, before: &Before<'_>) -> Result<(), AllocError>
+    ensures { OnOk result (string_bytes text.new ≡ string_bytes text.old ++ text_of (covered_lines before.now)) }
+{
     text.push_str("covered\n")?;
-    push_dirty(alloc, text, before.image(), before.remembered())?;
-    Ok(())
+    push_dirty(alloc, text, before.image(), before.remembered())
 }
 
 // Adds the lines of a map, unless the pause is refused.

@@ -1,4 +1,10 @@
 //! Humongous objects: what keeps each, and which are freed.
+ghost use Rattle.std.specs.Prelude.{◌≡◌, ◌++◌, ◌∷◌, ◌-◌, [], map, flat_map, decimal, slice_index_or, string_bytes, OnOk};
+ghost use Rattle.std.specs.List.{range_with_len};
+ghost use Rattle.g1_text.specs.Lines.{further, text_of};
+ghost use Rattle.g1_explain.specs.declared.humongous.Keeper.TheVariants.{NoObject as NoKeeper};
+ghost use Rattle.g1_explain.specs.Humongous.{run_end, kept_line, freed_line, fate_lines, humongous_lines};
+
 use crate::failure::Failure;
 use crate::finder::{Finder, push_found};
 use crate::objects::slots_at;
@@ -117,7 +123,9 @@ pub(crate) fn card_keeper(
 }
 
 // The number behind the last region of the humongous object that begins in a region.
-fn run_end(heap: &Heap, region: u32) -> u64 {
+fn run_end(heap: &Heap, region: u32) -> u64
+    ensures { result ≡ run_end heap.now region }
+{
     let geometry = heap.geometry();
     let size = heap.words().header(geometry.start(region)).size;
     u64::from(region).saturating_add(geometry.regions_for(size))
@@ -155,18 +163,38 @@ pub(crate) fn push_humongous(
     heap: &Heap,
     keepers: &[Keeper],
     freed: &[u32],
-) -> Result<(), Failure> {
-    let numbers = 0..heap.geometry().regions() as u32;
-    for (region, keeper) in numbers.zip(keepers.iter()) {
-        push_fate(
-            text,
-            heap,
-            region,
-            *keeper,
-            freed.binary_search(&region).is_ok(),
-        )?;
+) -> Result<(), Failure>
+    ensures { OnOk result (string_bytes text.new ≡ string_bytes text.old ++ text_of (humongous_lines heap.now keepers.now)) }
+{
+    push_fates(text, heap, heap.geometry().regions() as u32, keepers, freed)
+}
+
+// The lines of the objects that begin in the first regions.
+fn push_fates(
+    text: &mut String,
+    heap: &Heap,
+    count: u32,
+    keepers: &[Keeper],
+    freed: &[u32],
+) -> Result<(), Failure>
+    ensures { OnOk result (string_bytes text.new ≡ string_bytes text.old ++ text_of (flat_map (λ r. fate_lines heap.now r (slice_index_or keepers.now r NoKeeper)) (range_with_len 0 count))) }
+{
+    for region in 0..count {
+        let keeper = keeper_of(keepers, region);
+        let is_freed = freed.binary_search(&region).is_ok();
+        push_fate(text, heap, region, keeper, is_freed)?;
     }
     Ok(())
+}
+
+// What keeps the object that begins in a region.
+fn keeper_of(keepers: &[Keeper], region: u32) -> Keeper
+    ensures { result ≡ slice_index_or keepers.now region NoKeeper }
+{
+    match keepers.get(region as usize) {
+        Some(keeper) => *keeper,
+        None => Keeper::NoObject,
+    }
 }
 
 // The line of the humongous object of a region, if one begins there.
@@ -176,7 +204,9 @@ fn push_fate(
     region: u32,
     keeper: Keeper,
     is_freed: bool,
-) -> Result<(), Failure> {
+) -> Result<(), Failure>
+    ensures { OnOk result (string_bytes text.new ≡ string_bytes text.old ++ text_of (fate_lines heap.now region keeper)) }
+{
     let at = heap.geometry().start(region);
     match keeper {
         Keeper::NoObject => Ok(()),
@@ -187,16 +217,27 @@ fn push_fate(
 }
 
 // The line of the object at an address, with what keeps it.
-fn push_kept(text: &mut String, at: u64, finder: Finder) -> Result<(), AllocError> {
+fn push_kept(text: &mut String, at: u64, finder: Finder) -> Result<(), AllocError>
+    ensures { OnOk result (string_bytes text.new ≡ string_bytes text.old ++ text_of (kept_line at finder ∷ [])) }
+{
     write!(text, "humongous {at} kept")?;
     push_found(text, finder)
 }
 
 // The line of the object at an address, with its regions.
-fn push_freed(text: &mut String, heap: &Heap, region: u32, at: u64) -> Result<(), AllocError> {
+fn push_freed(text: &mut String, heap: &Heap, region: u32, at: u64) -> Result<(), AllocError>
+    ensures { OnOk result (string_bytes text.new ≡ string_bytes text.old ++ text_of (freed_line heap.now region at ∷ [])) }
+{
     write!(text, "humongous {at} freed")?;
-    for number in u64::from(region)..run_end(heap, region) {
+    push_range(text, region as u64, run_end(heap, region))
+}
+
+// Ends a line with the numbers from the first up to the last.
+fn push_range(text: &mut String, first: u64, last: u64) -> Result<(), AllocError>
+    ensures { OnOk result (string_bytes text.new ≡ string_bytes text.old ++ further (map decimal (range_with_len first (last - first)))) }
+{
+    for number in first..last {
         write!(text, " {number}")?;
     }
-    text.push('\n')
+    text.push_str("\n")
 }

@@ -27,6 +27,7 @@ mod keeping;
 mod objects;
 mod paths;
 mod places;
+mod remembering;
 mod steps;
 mod totals;
 mod walkable;
