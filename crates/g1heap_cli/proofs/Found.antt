@@ -1,5 +1,5 @@
 -- What is found in the bytes of a file that is to be an image.
-use Rattle.std.proofs.Common.{◌≡◌, ◌⊎◌, inl, inr, refl, ℕ, false, true≢false, List, Option}
+use Rattle.std.proofs.Common.{◌≡◌, ◌⊎◌, inl, inr, subst, ℕ, false, true≢false, List, Option}
 use Rattle.g1_words.specs.declared.limits.Limits.{Limits}
 use Rattle.g1_words.specs.declared.fault.Fault.{Fault}
 use Rattle.g1_words.specs.declared.fault.Fault.TheVariants as fault
@@ -12,12 +12,6 @@ module _ (limits : Limits) (left : Option (List ℕ)) where
   -- a fault that is not the machine's is one of the bytes
   pub of_bytes : (e : Fault) → is_of_machine e ≡ false → (e ≡ fault.Device device.Input) ⊎ HoldsOfLeft left (λ xs. MayFailWithin limits xs e)
       → HoldsOfLeft left (λ xs. FaultWithin limits xs e)
-  of_bytes e own (inl is) = absurd (device_is e is own)
-    where
-      device_is : (e : Fault) → e ≡ fault.Device device.Input → is_of_machine e ≡ false → ⊥
-      device_is e refl own = true≢false own
-  of_bytes e own (inr (bytes, inl is, same)) = absurd (memory_is e is own)
-    where
-      memory_is : (e : Fault) → e ≡ fault.Memory → is_of_machine e ≡ false → ⊥
-      memory_is e refl own = true≢false own
+  of_bytes e own (inl is) = absurd (true≢false (subst (λ x. is_of_machine x ≡ false) is own))
+  of_bytes e own (inr (bytes, inl is, same)) = absurd (true≢false (subst (λ x. is_of_machine x ≡ false) is own))
   of_bytes e own (inr (bytes, inr is, same)) = (bytes, is, same)

@@ -1,12 +1,12 @@
 -- What is reported, from the text that was made for it.
-use Rattle.std.proofs.Common.{◌≡◌, ◌++◌, inr, ℕ, List, Result, Ok, Err, refl, sym, subst}
+use Rattle.std.proofs.Common.{◌≡◌, ◌++◌, ℕ, List, Result, Ok, Err, refl, sym, subst}
 use Rattle.std.specs.Prelude.{IfOk, IfErr}
 use Rattle.g1_words.specs.Fault.{status_of}
 use Rattle.g1_words.specs.declared.fault.Fault.{Fault}
 use Rattle.g1_words.specs.declared.fault.Fault.TheVariants as fault
 use Rattle.g1_command.specs.declared.refusal.Refusal.{Refusal}
 use Rattle.g1_command.specs.declared.refusal.Refusal.TheVariants as refusal
-use Rattle.g1heap_cli.specs.Refusals.{Tells, MayBeCause, cause_line, wrong_line, IsFileText, IsLineText, MayHaveTip}
+use Rattle.g1heap_cli.specs.Refusals.{MayBeCause, wrong_line, IsFileText, IsLineText}
 
 module _ {X E : Type 0} (r : Result X E) (items : X → List ℕ) where
   -- the line with this part is a line with some part
@@ -35,22 +35,6 @@ reported Is (Err e) told out m h p q = subst Is (sym q) m
 pub beside : {X E : Type 0} (r : Result X E) (status : ℕ) (P : X → Type 0) → IfOk r P → IfOk r (λ x. (status ≡ status) × P x)
 beside (Ok x) status P h = (refl, h)
 beside (Err e) status P h = tt
-
--- what is told says less
-pub tells_so : (status : ℕ) (P Q : List ℕ → Type 0) → ((t : List ℕ) → P t → Q t) → (r : Refusal) → Tells status P r → Tells status Q r
-tells_so status P Q so (refusal.Told s text) h = (h.0, so text.bytes.items h.1)
-tells_so status P Q so (refusal.Fault f) h = h
-
--- a tip behind the text of a file that can't be opened
-pub tipped : (refused r : Refusal) (text : _) (front tip : List ℕ) → refused ≡ refusal.Told 7 text → front ≡ text.bytes.items → Tells 7 (λ t. t ≡ front ++ cause_line tip) r
-    → MayHaveTip refused r
-tipped refused r text front tip is same told =
-    subst (λ q. MayHaveTip q r) (sym is)
-    (inr (
-      refl,
-      tells_so 7 (λ t. t ≡ front ++ cause_line tip) (λ t. (some : List ℕ) × (t ≡ text.bytes.items ++ cause_line some))
-          (λ t e. (tip, subst (λ l. t ≡ l ++ cause_line tip) same e)) r told,
-    ))
 
 -- a line behind the text of a file's fault
 pub with_graph : {X E : Type 0} (r : Result X E) (items : X → List ℕ) (status : ℕ) (file : List ℕ) (f : Fault) (text line : List ℕ) → (status ≡ status_of f) × IsFileText file f text

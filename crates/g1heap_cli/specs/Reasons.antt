@@ -1,20 +1,17 @@
 -- Why g1heap refuses a request: the refusal of the file that it names.
-use Rattle.std.specs.Prelude.{◌≡◌, ◌⊎◌, ◌≤◌, ℕ, List, ◌++◌, codes, decimal, Contains, Option, Err}
+use Rattle.std.specs.Prelude.{◌≡◌, ◌⊎◌, ◌≤◌, ℕ, List, ◌++◌, codes, decimal, Contains, Option}
 use Rattle.g1_words.specs.Heap.{objects, object_at}
-use Rattle.g1_words.specs.declared.fault.Fault.{Fault}
 use Rattle.g1_words.specs.declared.fault.Fault.TheVariants as fault
 use Rattle.g1_image.specs.Image.{Image}
 use Rattle.g1_command.specs.declared.refusal.Refusal.{Refusal}
 use Rattle.g1_command.specs.declared.refusal.Refusal.TheVariants as refusal
-use Rattle.g1_answers.specs.Questions.{IsReply}
 use Rattle.g1_text.specs.Reading.{AreGraphLines, parts_of}
 use Rattle.g1_text.specs.Reported.{Reports}
 use Rattle.g1_text.specs.declared.expected.Wrong.{Wrong}
 use Rattle.g1heap_request.specs.declared.image_file.ImageFile.{ImageFile}
 use Rattle.g1heap_request.specs.declared.options.Part.{Part}
 use Rattle.g1heap_request.specs.declared.options.Part.TheVariants as part
-use Rattle.g1heap_request.specs.declared.asking.Ask.{Ask}
-use Rattle.g1heap_cli.specs.Refusals.{Tells, told_line, ended, RefusesFile, IsUnread}
+use Rattle.g1heap_cli.specs.Refusals.{Tells, told_line, ended, IsUnread}
 use Rattle.g1heap_cli.specs.Lines.{RefusesLines}
 use Rattle.g1heap_cli.specs.Streams.{HoldsOfNamed, HoldsOfKept}
 use Rattle.g1heap_cli.specs.Found.{RefusesBytes}
@@ -27,10 +24,6 @@ IsRefusedIn items kept image r = IsUnread image.name.bytes.items r ⊎ HoldsOfKe
 -- THE REFUSAL OF AN IMAGE that is named: it is not read, or it is the one for its bytes
 abbrev pub RefusesImage : ImageFile → Option (List ℕ) → (List ℕ → Refusal → Type 0) → Refusal → Type 0
 RefusesImage image left Is r = IsUnread image.name.bytes.items r ⊎ HoldsOfNamed image.name.bytes.items left (λ bytes. Is bytes r)
-
--- for the fault that is the reply to a question of bytes; or, since the file is read once more, for the fault of its bytes
-abbrev pub RefusesAsked : Ask → List ℕ → Refusal → Type 0
-RefusesAsked a bytes r = ((f : Fault) × IsReply a.image.limits a.question bytes (Err f) × RefusesFile a.image.name.bytes.items f r) ⊎ RefusesBytes a.image.limits a.image.name.bytes.items bytes r
 
 -- an image lacks the part: the region, or an object at the address
 abbrev pub LacksPart : List ℕ → Part → Image → Refusal → Type 0

@@ -55,11 +55,6 @@ is_of_machine _ = false
 abbrev pub IsUnread : List ℕ → Refusal → Type 0
 IsUnread file r = CantOpen file r ⊎ ((f : Fault) × (is_of_machine f ≡ true) × RefusesFile file f r)
 
--- a refusal as it is, or with a tip behind the text of a file that can't be opened
-abbrev pub MayHaveTip : Refusal → Refusal → Type 0
-MayHaveTip (refusal.Told s text) r = (r ≡ refusal.Told s text) ⊎ ((s ≡ 7) × Tells 7 (λ t. (tip : List ℕ) × (t ≡ text.bytes.items ++ cause_line tip)) r)
-MayHaveTip (refusal.Fault f) r = r ≡ refusal.Fault f
-
 -- the refusal for a want of cover, of an image that has the graph of another one
 abbrev pub RefusesCover : List ℕ → Fault → Refusal → Type 0
 RefusesCover file f r = Tells (status_of f) (λ t. (text : List ℕ) × IsFileText file f text × (t ≡ text ++ cause_line (codes "the graph is the same"))) r

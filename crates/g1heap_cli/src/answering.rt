@@ -1,8 +1,7 @@
 //! The answers to `show`, `check`, `live`, `choose` and `pause`, of an image in a file.
-ghost use Rattle.std.specs.Prelude.{◌≡◌, ℕ, List, IfOk, IfErr};
+ghost use Rattle.std.specs.Prelude.{◌≡◌, ℕ, List, IfOk};
 ghost use Rattle.g1heap_cli.specs.Leaving.{MakesImage, SendsBytes, HandsBytes};
 ghost use Rattle.g1heap_cli.specs.Replies.{IsAsked, IsRewritten};
-ghost use Rattle.g1heap_cli.specs.Reasons.{RefusesImage, RefusesAsked};
 
 use crate::heard::Heard;
 use crate::output::write_file;
@@ -25,8 +24,7 @@ pub fn answer_file<T: Threads + Sync + Files, R: Read>(
     ask: &Ask,
     reader: &mut R,
 ) -> Result<Vec<u8>, Refusal>
-    ensures text { IfOk result (λ v. IsAsked ask.now (R.remaining reader.old) 0 v.items) }
-    ensures refused { IfErr result (RefusesImage ask.now.image (R.remaining reader.old) (RefusesAsked ask.now)) }
+    ensures { IfOk result (λ v. IsAsked ask.now (R.remaining reader.old) 0 v.items) }
 {
     let source = match find_source(rt, alloc, &ask.image, reader) {
         Ok(source) => source,

@@ -1,7 +1,7 @@
 //! The refusals that name a file.
 ghost use Rattle.std.specs.Prelude.{◌≡◌, ◌⊎◌, ℕ, List, [], ◌++◌, codes, decimal, None, IfOk, IfErr};
 ghost use Rattle.g1_words.specs.Fault.{status_of};
-ghost use Rattle.g1heap_cli.specs.Refusals.{Tells, ended, told_line, file_line, cause_line, IsFileText, RefusesFile, IsLineText, RefusesLine, RefusesOutput, output_line, MayHaveTip, RefusesCover};
+ghost use Rattle.g1heap_cli.specs.Refusals.{Tells, ended, told_line, file_line, cause_line, IsFileText, RefusesFile, IsLineText, RefusesLine, RefusesOutput, output_line, RefusesCover};
 ghost use Rattle.g1heap_cli.specs.Lines.{RefusesLines, RefusesNames};
 
 use g1_broken::{Broken, Look, rule_of_bytes, rule_of_cover, rule_of_set, rule_of_stale};
@@ -318,9 +318,7 @@ pub fn is_image(bytes: &[u8]) -> bool {
 }
 
 /// The refusal of a file of which regions are collected. If its name is a set of regions, these may have been meant.
-pub fn with_set_tip(alloc: Global, name: &str, refused: Refusal) -> Refusal
-    ensures { MayHaveTip refused result }
-{
+pub fn with_set_tip(alloc: Global, name: &str, refused: Refusal) -> Refusal {
     match refused {
         Refusal::Told { status: 7, text } if names_regions(name) => {
             with_tip(alloc, text.as_str(), SET_TIP)

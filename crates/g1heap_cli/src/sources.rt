@@ -1,7 +1,6 @@
 //! An image on the command line, which can be read a second time: for the rule that it breaks.
 ghost use Rattle.std.specs.Prelude.{◌≡◌, IfOk, IfErr};
-ghost use Rattle.g1_command.specs.declared.refusal.Refusal.{Refusal as RefusalOf};
-ghost use Rattle.g1heap_cli.specs.Refusals.{is_of_machine, IsUnread, MayHaveTip};
+ghost use Rattle.g1heap_cli.specs.Refusals.{is_of_machine, IsUnread};
 ghost use Rattle.g1heap_cli.specs.Streams.{KeepsNamed};
 
 use crate::files::{is_file, open_file, read_bytes};
@@ -77,7 +76,6 @@ pub fn find_collected<'a, T: Files, R: Read>(
 ) -> Result<Source<'a>, Refusal>
     ensures kept { IfOk result (λ s. KeepsNamed (λ v. v.items) image.now.name.bytes.items (R.remaining reader.old) s.kept) }
     ensures image { IfOk result (λ s. s.image.now ≡ image.now) }
-    ensures refused { IfErr result (λ r. (why : RefusalOf) × IsUnread image.now.name.bytes.items why × MayHaveTip why r) }
 {
     match find_source(rt, alloc, image, reader) {
         Ok(source) => Ok(source),

@@ -71,5 +71,5 @@ returns-in-Ok-answer_file g c =
     let lines = c.as_slice-in-Ok-answer_file in
     subst (λ q. Leaves q (IsReplyTo q left) old new r) (sym c.in-Ask.is)
     (hands_text_so (Just 0 lines.result.now) (IsAsked c.in-Ask.ask left)
-    (λ s t is. subst (λ n. IsAsked c.in-Ask.ask left n t) (sym is.0) (subst (IsAsked c.in-Ask.ask left 0) (sym (is.1 ∙ lines.ensures.value)) c.in-Ok-answer_file.ensures.text))
+    (λ s t is. subst (λ n. IsAsked c.in-Ask.ask left n t) (sym is.0) (subst (IsAsked c.in-Ask.ask left 0) (sym (is.1 ∙ lines.ensures.value)) c.in-Ok-answer_file.ensures))
     old new c.in-Ask.ask.output r c.hand_over_text-in-Ok-answer_file.ensures)
