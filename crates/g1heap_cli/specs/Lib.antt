@@ -7,5 +7,6 @@ pub mod Texts
 pub mod Reasons
 pub mod Leaving
 pub mod Printed
+pub mod Compared
 pub mod Replies
 pub mod Endings

@@ -1,7 +1,9 @@
 //! Files on the command line.
-ghost use Rattle.std.specs.Prelude.{◌≡◌, IfOk, IfErr, IfSome};
-ghost use Rattle.g1heap_cli.specs.Streams.{AreNamed};
+ghost use Rattle.std.specs.Prelude.{◌≡◌, ◌≢◌, ℕ, List, codes, IfOk, IfErr, IfSome};
+ghost use Rattle.g1_image.specs.Source.{HoldsOfLeft};
+ghost use Rattle.g1heap_cli.specs.Streams.{AreNamed, HoldsOfNamed};
 ghost use Rattle.g1heap_cli.specs.Refusals.{IsUnread};
+ghost use Rattle.g1heap_cli.specs.Compared.{IsContent};
 
 use crate::heard::Heard;
 use crate::refusal::{of_bytes, of_device, unopenable};
@@ -70,22 +72,50 @@ pub fn read_side<T: Files, R: Read>(
     name: &str,
     limits: Limits,
     reader: &mut R,
-) -> Result<SideContent, Refusal> {
-    if name == STANDARD_STREAM || !is_file(rt, name) {
-        let bytes = read_bytes(rt, alloc, name, reader)?;
+) -> Result<SideContent, Refusal>
+    ensures content { IfOk result (λ c. HoldsOfNamed name.now (R.remaining reader.old) (λ bytes. IsContent limits bytes c)) }
+    ensures left { name.now ≢ codes "-" → R.remaining reader.new ≡ R.remaining reader.old }
+{
+    if name == STANDARD_STREAM {
+        let bytes = read_whole(alloc, name, reader)?;
         return found_in(alloc, name, limits, bytes);
     }
-    match read_once(rt, alloc, name, limits)? {
-        Ok(content) => Ok(content),
-        Err(Fault::Reference(place)) => {
+    read_file_side(rt, alloc, name, limits)
+}
+
+// What is in a file of this name. What is no file is read to its end.
+fn read_file_side<T: Files>(
+    rt: &T,
+    alloc: Global,
+    name: &str,
+    limits: Limits,
+) -> Result<SideContent, Refusal>
+    ensures { IfOk result (λ c. (bytes : List ℕ) × IsContent limits bytes c) }
+{
+    if !is_file(rt, name) {
+        return read_whole_side(rt, alloc, name, limits);
+    }
+    match read_once(rt, alloc, name, limits) {
+        Ok(Ok(content)) => Ok(content),
+        Ok(Err(Fault::Reference(place))) => {
             read_stale_side(rt, alloc, name, limits, Fault::Reference(place))
         }
         // Lines may begin behind the bytes that were looked at, and the rule that is broken is found in all bytes.
-        Err(_) => {
-            let bytes = read_bytes(rt, alloc, name, reader)?;
-            found_in(alloc, name, limits, bytes)
-        }
+        Ok(Err(_)) => read_whole_side(rt, alloc, name, limits),
+        Err(refusal) => Err(refusal),
     }
+}
+
+fn read_whole_side<T: Files>(
+    rt: &T,
+    alloc: Global,
+    name: &str,
+    limits: Limits,
+) -> Result<SideContent, Refusal>
+    ensures { IfOk result (λ c. (bytes : List ℕ) × IsContent limits bytes c) }
+{
+    let bytes = read_bytes(rt, alloc, name, &mut [].as_slice())?;
+    found_in(alloc, name, limits, bytes)
 }
 
 // What is in a file whose fault is a reference. The rule that is broken is found in all bytes.
@@ -95,7 +125,9 @@ fn read_stale_side<T: Files>(
     name: &str,
     limits: Limits,
     fault: Fault,
-) -> Result<SideContent, Refusal> {
+) -> Result<SideContent, Refusal>
+    ensures { IfOk result (λ c. (bytes : List ℕ) × IsContent limits bytes c) }
+{
     let mut file = open_file(rt, alloc, name)?;
     match without_stale(alloc, name, limits, &mut file, fault)? {
         Some(content) => Ok(content),
@@ -115,14 +147,17 @@ fn read_once<T: Files>(
     alloc: Global,
     name: &str,
     limits: Limits,
-) -> Result<Result<SideContent, Fault>, Refusal> {
+) -> Result<Result<SideContent, Fault>, Refusal>
+    ensures { IfOk result (λ r. IfOk r (λ c. (bytes : List ℕ) × IsContent limits bytes c)) }
+{
     let mut file = open_file(rt, alloc, name)?;
     let head = read_whole(alloc, name, &mut file.by_ref().take(HEAD))?;
     let mut heard = Heard::new(&mut file);
     let mut whole = head.as_slice().chain(&mut heard);
     if is_graph(head.as_slice()) {
         let bytes = read_whole(alloc, name, &mut whole)?;
-        return Ok(Ok(found_in(alloc, name, limits, bytes)?));
+        let content = found_in(alloc, name, limits, bytes)?;
+        return Ok(Ok(content));
     }
     match read_within(alloc, limits, &mut FromReader::new(whole)) {
         Ok(image) => Ok(Ok(SideContent::Image(image))),
@@ -148,7 +183,9 @@ fn found_in(
     name: &str,
     limits: Limits,
     bytes: Vec<u8>,
-) -> Result<SideContent, Refusal> {
+) -> Result<SideContent, Refusal>
+    ensures { IfOk result (IsContent limits bytes.items) }
+{
     if is_graph(bytes.as_slice()) {
         return Ok(SideContent::Lines(bytes));
     }
@@ -172,7 +209,9 @@ fn without_stale<R: Read>(
     limits: Limits,
     reader: &mut R,
     fault: Fault,
-) -> Result<Option<SideContent>, Refusal> {
+) -> Result<Option<SideContent>, Refusal>
+    ensures { IfOk result (λ o. IfSome o (λ c. HoldsOfLeft (R.remaining reader.old) (λ bytes. IsContent limits bytes c))) }
+{
     let mut heard = Heard::new(reader);
     match read_stale(alloc, limits, &mut FromReader::new(&mut heard)) {
         Ok((image, stale)) => Ok(Some(SideContent::Stale {
