@@ -1,5 +1,5 @@
 -- The texts that `print`, `make` and `why` reply, by the bytes that they read.
-use Rattle.std.specs.Prelude.{◌≡◌, ◌<◌, ◌⊎◌, ℕ, Bool, true, false, List, Contains, ⊤}
+use Rattle.std.specs.Prelude.{◌≡◌, ◌<◌, ◌⊎◌, ℕ, Bool, true, false, List, Contains, Some, None, ⊤}
 use Rattle.g1_words.specs.Heap.{objects, object_at}
 use Rattle.g1_words.specs.declared.limits.Limits.{Limits}
 use Rattle.g1_words.specs.declared.limits.Limits.TheVariants.{Wide}
