@@ -13,17 +13,12 @@ use Rattle.g1heap_request.specs.declared.options.Part.{Part}
 use Rattle.g1heap_request.specs.declared.options.Part.TheVariants as part
 use Rattle.g1heap_cli.specs.Refusals.{Tells, told_line, ended, IsUnread}
 use Rattle.g1heap_cli.specs.Lines.{RefusesLines}
-use Rattle.g1heap_cli.specs.Streams.{HoldsOfNamed, HoldsOfKept}
+use Rattle.g1heap_cli.specs.Streams.{HoldsOfKept}
 use Rattle.g1heap_cli.specs.Found.{RefusesBytes}
-use Rattle.g1heap_cli.specs.Texts.{HoldsOfImage}
 
 -- the refusal of a file that is to be an image, of which these bytes are kept: it is not read, or its bytes have a fault
 abbrev pub IsRefusedIn : {V : Type 0} → (V → List ℕ) → Option V → ImageFile → Refusal → Type 0
 IsRefusedIn items kept image r = IsUnread image.name.bytes.items r ⊎ HoldsOfKept items kept (λ bytes. RefusesBytes image.limits image.name.bytes.items bytes r)
-
--- THE REFUSAL OF AN IMAGE that is named: it is not read, or it is the one for its bytes
-abbrev pub RefusesImage : ImageFile → Option (List ℕ) → (List ℕ → Refusal → Type 0) → Refusal → Type 0
-RefusesImage image left Is r = IsUnread image.name.bytes.items r ⊎ HoldsOfNamed image.name.bytes.items left (λ bytes. Is bytes r)
 
 -- an image lacks the part: the region, or an object at the address
 abbrev pub LacksPart : List ℕ → Part → Image → Refusal → Type 0
@@ -37,11 +32,6 @@ LacksPart file p i r = ⊥
 -- it lacks the part, or memory was wanted
 abbrev pub MayLack : List ℕ → Part → Image → Refusal → Type 0
 MayLack file p i r = (r ≡ refusal.Fault fault.Memory) ⊎ LacksPart file p i r
-
--- of `print`: for the fault of bytes, or since the image lacks the part
-abbrev pub RefusesPrint : ImageFile → Part → List ℕ → Refusal → Type 0
-RefusesPrint image p bytes r =
-    RefusesBytes image.limits image.name.bytes.items bytes r ⊎ HoldsOfImage image.limits (λ i. LacksPart image.name.bytes.items p i r) bytes
 
 -- of `make`: for the line that lines report, which is the first wrong one of lines of an image
 abbrev pub RefusesMake : List ℕ → List ℕ → Refusal → Type 0

@@ -3,10 +3,10 @@ ghost use Rattle.std.specs.Prelude.{◌≡◌, ◌⊎◌, ℕ, List, Ok, Err, If
 ghost use Rattle.std.specs.Io.KnownBytes.{Keeps};
 ghost use Rattle.g1heap_request.specs.declared.options.Part.TheVariants as asked;
 ghost use Rattle.g1heap_cli.specs.Leaving.{Just, SendsText, HandsText, HandsBytes, HandsPrint, GoesBefore};
-ghost use Rattle.g1heap_cli.specs.Printed.{IfLines, IfBroken, reply_of};
+ghost use Rattle.g1heap_cli.specs.Printed.{IfLines, reply_of};
 ghost use Rattle.g1heap_cli.specs.Refusals.{RefusesFile, IsUnread};
 ghost use Rattle.g1heap_cli.specs.Streams.{HoldsOfNamed};
-ghost use Rattle.g1heap_cli.specs.Reasons.{RefusesImage, RefusesPrint, RefusesMake, MayLack};
+ghost use Rattle.g1heap_cli.specs.Reasons.{RefusesMake, MayLack};
 ghost use Rattle.g1heap_cli.specs.Texts.{IsPartText, MayChange, IsMade};
 ghost use Rattle.g1heap_cli.specs.Replies.{IsReplyTo, IsPrintReply, IsMakeReply, IsAsked};
 ghost use Rattle.g1heap_cli.specs.Endings.{Leaves, IsReported, EndsByRequest, Ends};
@@ -186,8 +186,6 @@ fn print_part<T: Threads + Sync + Files, R: Read>(
     reader: &mut R,
 ) -> Result<Printed, Refusal>
     ensures lines { IfOk result (IfLines (IsPrintReply image.now part hex (R.remaining reader.old) 0)) }
-    ensures broken { IfOk result (IfBroken (RefusesImage image.now (R.remaining reader.old) (RefusesPrint image.now part))) }
-    ensures refused { IfErr result (RefusesImage image.now (R.remaining reader.old) (RefusesPrint image.now part)) }
 {
     let source = match find_source(rt, alloc, image, reader) {
         Ok(source) => source,
