@@ -22,3 +22,4 @@ pub mod Joined
 pub mod Gained
 pub mod DirtyLines
 pub mod HumongousLines
+pub mod Explained

@@ -11,3 +11,4 @@ pub mod Totals
 pub mod Remembered
 pub mod Humongous
 pub mod Steps
+pub mod Explained
