@@ -1,1 +1,3 @@
 pub mod Got
+pub mod Tabled
+pub mod Read

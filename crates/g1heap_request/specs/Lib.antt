@@ -1,2 +1,4 @@
 pub mod Values
 pub mod Asks
+pub mod Options
+pub mod Words

@@ -4,7 +4,7 @@ ghost use Rattle.clap.specs.Words.{found_of, rows_of};
 ghost use Rattle.g1heap_request.specs.Asks.{Asks, IsNoneAsked, MakesImage, MakesNoImage};
 
 use crate::image_file::ImageFile;
-use crate::options::{Request, image_of, output_of, set_of};
+use crate::options::{Request, check_choice, image_of, output_of, set_of};
 use crate::output::Output;
 use clap::ArgMatches;
 use g1_answers::{
@@ -65,6 +65,7 @@ fn wanted_of(alloc: Global, name: &str, values: &ArgMatches<'_>) -> Result<Optio
     ensures { IfOk result (λ o. MatchOption o (MakesNoImage name.now (rows_of (found_of values.now))) (MakesImage name.now (rows_of (found_of values.now)))) }
 {
     if name == "pause" {
+        check_choice(alloc, values)?;
         let mut pause = pause_of(alloc, values)?;
         pause.regions = set_of(alloc, values)?;
         return Ok(Some(NewImage::Paused(pause)));

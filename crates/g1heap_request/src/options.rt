@@ -1,10 +1,11 @@
 //! The command line.
-ghost use Rattle.std.specs.Prelude.{IfOk, codes, option_to_list};
+ghost use Rattle.std.specs.Prelude.{map, IfOk, codes, option_to_list};
 ghost use Rattle.clap.specs.Words.{Text, first_of, found_of, rows_of};
 ghost use Rattle.g1_command.specs.Values.{IfGiven, texts_of};
 ghost use Rattle.g1_command.specs.Lists.{AreRegionsIn};
 ghost use Rattle.g1heap_request.specs.Values.{AreLimitsOf, IsCount, IsFlag, IsImageOf, IsNameIfGiven, IsNameOf, IsOutputOf};
 ghost use Rattle.g1heap_request.specs.Asks.{Asks, IsImageAfter, IsNoOther, IsPartOf};
+ghost use Rattle.g1heap_request.specs.Words.{IsReadOf};
 
 use crate::asking::{Ask, Rewrite, asked_of};
 use crate::dump::{Convert, convert_of};
@@ -16,8 +17,8 @@ use crate::usage::{commands, program};
 use clap::ArgMatches;
 use g1_choose::Cost;
 use g1_command::{
-    Argument, Misuse, Refusal, cost_of, help_or_refusal, match_words, number, number_in,
-    read_request, region, regions_in, required_number, tie,
+    Argument, BUDGET as BUDGET_OPTION, Misuse, Refusal, cost_of, help_or_refusal, match_words,
+    number, number_in, read_request, region, regions_in, required_number, tie,
 };
 use g1_words::Limits;
 use std::alloc::{AllocError, Global};
@@ -146,7 +147,7 @@ static ALL: Argument = table::ALL;
 
 static BEFORE: Argument = table::BEFORE;
 
-static BUDGET: Argument = table::BUDGET;
+static BUDGET: Argument = BUDGET_OPTION;
 
 static COVERED: Argument = table::COVERED;
 
@@ -190,9 +191,45 @@ static TRACED: Argument = table::TRACED;
 
 static YOUNG: Argument = table::YOUNG;
 
+// Refuses to print two parts at once, and to print the numbers alone in hexadecimal.
+fn check_parts(alloc: Global, values: &ArgMatches<'_>) -> Result<(), Misuse> {
+    let (region, object) = (given(values, &REGION), given(values, &OBJECT));
+    let (summary, hex) = (values.get_flag(SUMMARY.id), values.get_flag(HEX.id));
+    exclude(alloc, hex & summary, &HEX, &SUMMARY)?;
+    exclude(alloc, object & region, &OBJECT, &REGION)?;
+    exclude(alloc, summary & region, &SUMMARY, &REGION)?;
+    exclude(alloc, summary & object, &SUMMARY, &OBJECT)
+}
+
+// Refuses a budget beside a set.
+pub(crate) fn check_choice(alloc: Global, values: &ArgMatches<'_>) -> Result<(), Misuse> {
+    let are_both = given(values, &BUDGET) & given(values, &SET);
+    exclude(alloc, are_both, &BUDGET, &SET)
+}
+
+// Refuses two options that exclude one another, if both are given.
+fn exclude(
+    alloc: Global,
+    are_both: bool,
+    argument: &Argument,
+    other: &Argument,
+) -> Result<(), Misuse> {
+    if !are_both {
+        return Ok(());
+    }
+    let shown = argument.shown(alloc)?;
+    let other = other.shown(alloc)?;
+    Err(Misuse::Value(format!(in alloc; "the argument '{shown}' cannot be used with '{other}'")?))
+}
+
+fn given(values: &ArgMatches<'_>, argument: &Argument) -> bool {
+    values.get_str(argument.id).is_some()
+}
+
 fn part_of(alloc: Global, values: &ArgMatches<'_>) -> Result<Part, Misuse>
     ensures { IfOk result (IsPartOf (rows_of (found_of values.now))) }
 {
+    check_parts(alloc, values)?;
     if values.get_flag(SUMMARY.id) {
         return Ok(Part::Summary);
     }
@@ -367,12 +404,15 @@ fn same_of(alloc: Global, values: &ArgMatches<'_>) -> Result<Request, Misuse>
 fn explain_of(alloc: Global, values: &ArgMatches<'_>) -> Result<Request, Misuse>
     ensures { IfOk result (Asks (codes "explain") (rows_of (found_of values.now))) }
 {
+    let map = values.get_flag(MAP.id);
+    check_choice(alloc, values)?;
+    exclude(alloc, map & given(values, &NAMES), &MAP, &NAMES)?;
     Ok(Request::Explain(Explain {
         image: image_of(alloc, values)?,
         cost: cost_of(alloc, values)?,
         budget: number(alloc, values, &BUDGET)?,
         set: set_of(alloc, values)?,
-        map: values.get_flag(MAP.id),
+        map,
         names: names_beside(alloc, values)?,
         output: output_of(alloc, values)?,
     }))
@@ -466,13 +506,20 @@ fn request_of(alloc: Global, name: &str, values: &ArgMatches<'_>) -> Result<Requ
 /// Reads the words after the program's name.
 pub fn parse(alloc: Global, words: &[String]) -> Result<Request, Refusal> {
     let words = tie(alloc, words)?;
+    read(alloc, words.as_slice())
+}
+
+// Reads the words, to each value of `--set` among which the option is tied.
+fn read(alloc: Global, words: &[String]) -> Result<Request, Refusal>
+    ensures { IsReadOf (map (λ w. w.bytes.items) words.now) result }
+{
     let commands = commands();
     let program = program(&commands);
-    match &match_words(alloc, &program, words.as_slice()) {
-        Ok(matches) => read_request(alloc, &program, matches, request_of),
-        Err(error) => match help_or_refusal(alloc, error) {
+    match match_words(alloc, &program, words) {
+        Ok(matches) => read_request(alloc, &program, &matches, request_of),
+        Err(error) => match help_or_refusal(alloc, &error) {
             Ok(text) => Ok(Request::Help(text)),
-            Err(refusal) => Err(with_tip(alloc, refusal, error, words.as_slice(), &commands)),
+            Err(refusal) => Err(with_tip(alloc, refusal, &error, words, &commands)),
         },
     }
 }

@@ -1,4 +1,6 @@
 //! What is said beside a mistake, where the words show what was meant.
+ghost use Rattle.g1heap_request.specs.Words.{IsRetold};
+
 use crate::usage::NAME;
 use clap::Error;
 use clap::error::ErrorKind;
@@ -12,7 +14,9 @@ pub fn with_tip(
     error: &Error,
     words: &[String],
     commands: &[Usage],
-) -> Refusal {
+) -> Refusal
+    ensures { IsRetold refusal result }
+{
     let Refusal::Told { status, text } = refusal else {
         return refusal;
     };

@@ -1,7 +1,14 @@
 //! The commands and their arguments, and what help says of them.
+ghost use Rattle.std.specs.Prelude.{◌≡◌, codes};
+ghost use Rattle.std.specs.List.{fold};
+ghost use Rattle.g1_command.specs.Table.{with_command, no_command};
+ghost use Rattle.g1heap_request.specs.Options.{g1heap};
+
 use crate::output::STANDARD_STREAM;
 use g1_answers::{CHUNK, CHUNK_OF_OBJECTS, CHUNK_OF_REGIONS, NEEDED_BUDGET, REPACK, WORKERS};
-use g1_command::{Argument, BYTE, CARD, DIRTY, FILE, FIXED, FLAG, Form, Program, Usage, VALUE};
+use g1_command::{
+    Argument, BUDGET, BYTE, CARD, DIRTY, FILE, FIXED, FLAG, Form, Program, Usage, VALUE,
+};
 
 // The end of each command's help.
 const AFTER_SAME: &str = "\
@@ -173,7 +180,10 @@ Example: g1heap show IMAGE";
 pub const NAME: &str = "g1heap";
 
 /// The program, whose commands these are.
-pub fn program(commands: &[Usage]) -> Program<'_> {
+pub fn program(commands: &[Usage]) -> Program<'_>
+    ensures name { result.name.now ≡ codes "g1heap" }
+    ensures commands { result.commands ≡ commands.entry }
+{
     Program {
         name: NAME,
         version: "1.0.0",
@@ -184,7 +194,9 @@ pub fn program(commands: &[Usage]) -> Program<'_> {
 }
 
 /// The commands. Each is a static, since the check of all as one takes too many steps.
-pub fn commands() -> [Usage; 12] {
+pub fn commands() -> [Usage; 12]
+    ensures { fold with_command (no_command (codes "g1heap")) result ≡ g1heap }
+{
     [
         SHOW, CHECK, LIVE_BYTES, CHOOSE, PAUSE, SAME, PRINT, MAKE, CONVERT, EXPLAIN, WHY, TRACE,
     ]
@@ -408,7 +420,6 @@ const NAMES_OF_PATH: Argument = Argument {
 
 const NAMES_BEHIND: Argument = Argument {
     help: "Puts the types of this file behind the lines of objects",
-    conflicts: &["map"],
     ..NAMES
 };
 
@@ -466,21 +477,18 @@ pub const OBJECT: Argument = Argument {
     values: &["A"],
     help: "Only the line of the object at this address",
     range: ADDRESS_RANGE,
-    conflicts: &["region"],
     ..VALUE
 };
 
 pub const SUMMARY: Argument = Argument {
     id: "summary",
     help: "Only how many regions, words, cards and roots there are",
-    conflicts: &["region", "object"],
     ..FLAG
 };
 
 pub const HEX: Argument = Argument {
     id: "hex",
     help: "Data words in hexadecimal, as 0x1f",
-    conflicts: &["summary"],
     ..FLAG
 };
 
@@ -554,11 +562,6 @@ pub const OUTPUT: Argument = Argument {
     values: &["FILE"],
     help: "Writes this file, once the answer is whole, or - for standard output",
     ..VALUE
-};
-
-pub const BUDGET: Argument = Argument {
-    conflicts: &["set"],
-    ..g1_command::BUDGET
 };
 
 pub const SET: Argument = Argument {

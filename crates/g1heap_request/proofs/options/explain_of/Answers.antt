@@ -12,7 +12,7 @@ returns c = (
     cost = c.in_ok-cost_of.ensures.cost;
     budget = c.in_ok-number.ensures.number;
     set = c.in_ok-set_of.ensures;
-    map = flag_got (found_of c.args.values.now) (codes "map") c.get_flag.result c.get_flag.ensures.none c.get_flag.ensures.value c.get_flag.ensures.other;
+    map = flag_got (found_of c.args.values.now) (codes "map") c.get_flag-map.result c.get_flag-map.ensures.none c.get_flag-map.ensures.value c.get_flag-map.ensures.other;
     names = c.in_ok-names_beside.ensures;
     output = c.in_ok-output_of.ensures;
   },
