@@ -22,3 +22,5 @@ pub mod Joined
 pub mod Gained
 pub mod DirtyLines
 pub mod HumongousLines
+pub mod Keepers
+pub mod FirstKeepers

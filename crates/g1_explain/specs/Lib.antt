@@ -10,4 +10,5 @@ pub mod Changes
 pub mod Totals
 pub mod Remembered
 pub mod Humongous
+pub mod Keepers
 pub mod Steps
