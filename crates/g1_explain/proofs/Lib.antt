@@ -23,3 +23,5 @@ pub mod Gained
 pub mod DirtyLines
 pub mod HumongousLines
 pub mod Explained
+pub mod Keepers
+pub mod FirstKeepers
