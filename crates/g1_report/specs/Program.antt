@@ -118,11 +118,14 @@ last_name names = slice_index_or names (length names - 1) []
 
 -- the name of all words from the last name on, if that ends with `[]` and word n is one of these
 abbrev pub name_from : List (List ℕ) → ℕ → Option (List ℕ)
-name_from names n = if nat_le (length names) (n + 1) then before_brackets (last_name names) else None
+name_from names n = if nat_le (length names - 1) n then before_brackets (last_name names) else None
+
+abbrev pub alone : List ℕ → WordName
+alone name = record { name = name; number = None }
 
 abbrev pub numbered_name : Option (List ℕ) → List (List ℕ) → ℕ → Option WordName
-numbered_name None names n = option_map (λ name. record { name = name; number = None }) (slice_get names n)
-numbered_name (Some name) names n = Some (record { name = name; number = Some (n + 1 - length names) })
+numbered_name None names n = option_map alone (slice_get names n)
+numbered_name (Some name) names n = Some (record { name = name; number = Some (n - (length names - 1)) })
 
 -- THE NAME OF WORD n by these names: a last name that ends with `[]` is that of its word and of all behind it, which it numbers from 0
 abbrev pub name_of_word : List (List ℕ) → ℕ → Option WordName
@@ -159,8 +162,8 @@ texts words = map (λ word. word.now) words
 abbrev pub text_lines : List (ℕ × Bor (List ℕ)) → List (ℕ × List ℕ)
 text_lines lines = map (λ line. (line.0, line.1.now)) lines
 
-abbrev pub kind_text : Kind → KindOf
-kind_text kind = record { name = kind.name.now; note = kind.note.now }
+abbrev pub kind_said : Kind → KindOf
+kind_said kind = record { name = kind.name.now; note = kind.note.now }
 
 abbrev pub words_text : ObjectWords → WordsOf
 words_text o = record { at = o.at; slots = o.slots.now; data_words = o.«data».now }
@@ -172,16 +175,19 @@ program_of names = record {
   types = map (λ line. (line.0.now, texts line.1.items)) names.types.items;
   labels = text_lines names.labels.items;
   texts = map (λ line. (line.0, texts line.1.items)) names.texts.items;
-  objects = map (λ line. (line.0, kind_text line.1)) names.objects.items;
-  named = map (λ line. (line.0.now, kind_text line.1)) names.named.items;
+  objects = map (λ line. (line.0, kind_said line.1)) names.objects.items;
+  named = map (λ line. (line.0.now, kind_said line.1)) names.named.items;
   labels_before = option_map (λ labels. text_lines labels.now) names.labels_before;
 }
 
 abbrev pub kind_told : Option Kind → Option KindOf
-kind_told kind = option_map kind_text kind
+kind_told kind = option_map kind_said kind
 
 abbrev pub word_told : Option Word → Option WordName
 word_told word = option_map (λ word. record { name = word.name.now; number = word.number }) word
 
 abbrev pub texts_told : Option (Bor (List (Bor (List ℕ)))) → Option (List (List ℕ))
 texts_told words = option_map (λ words. texts words.now) words
+
+abbrev pub text_told : Option (Bor (List ℕ)) → Option (List ℕ)
+text_told text = option_map (λ text. text.now) text
