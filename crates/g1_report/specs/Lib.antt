@@ -1,3 +1,4 @@
+pub mod Program
 pub mod Agreement
 pub mod Finding
 pub mod Taken
