@@ -9,6 +9,7 @@ pub mod Lookups
 pub mod Opening
 pub mod Passed
 pub mod Rising
+pub mod Runs
 pub mod SameTexts
 pub mod Starting
 pub mod Taken
