@@ -12,6 +12,7 @@ pub mod Named
 pub mod Opening
 pub mod Passed
 pub mod Rising
+pub mod Runs
 pub mod SameTexts
 pub mod Starting
 pub mod Taken

@@ -7,3 +7,6 @@ pub mod Answer
 pub mod Listed
 pub mod Given
 pub mod Opened
+pub mod Runs
+pub mod Gathered
+pub mod Steps
