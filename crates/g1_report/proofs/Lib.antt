@@ -7,6 +7,7 @@ pub mod Counting
 pub mod Found
 pub mod InOrder
 pub mod Joined
+pub mod Laid
 pub mod Lookups
 pub mod Named
 pub mod Opening
@@ -15,5 +16,6 @@ pub mod Rising
 pub mod Runs
 pub mod SameTexts
 pub mod Starting
+pub mod Steps
 pub mod Taken
 pub mod Told

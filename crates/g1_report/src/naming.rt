@@ -1,11 +1,13 @@
 //! A difference in the names that a program has for it.
-ghost use Rattle.std.specs.Prelude.{◌≡◌, ◌++◌, string_bytes, OnOk};
-ghost use Rattle.g1_report.specs.Program.{word_told};
-ghost use Rattle.g1_report.specs.Steps.{slot_text};
+ghost use Rattle.std.specs.Prelude.{◌≡◌, ◌++◌, map, slice_index, string_bytes, OnOk, IfOk};
+ghost use Rattle.g1_report.specs.Program.{program_of, word_told, AreInOrder};
+ghost use Rattle.g1_report.specs.Runs.{grouped};
+ghost use Rattle.g1_report.specs.Gathered.{group_of};
+ghost use Rattle.g1_report.specs.Steps.{object_told, word_in, slot_text, step_text, steps_text, named_path_text};
 
 use crate::grouping::{Group, add_step, push_ends, runs_of};
 use crate::names::{Kind, Names, Word};
-use crate::objects::{ObjectWords, Place};
+use crate::objects::{ObjectWords, object_of};
 use g1_words::Heap;
 use std::alloc::{AllocError, Global};
 
@@ -18,7 +20,9 @@ pub fn push_named_slots(
     names: &Names<'_>,
     root: u64,
     slots: &[u64],
-) -> Result<(), AllocError> {
+) -> Result<(), AllocError>
+    ensures { AreInOrder (program_of names.now) → OnOk result (string_bytes text.new ≡ string_bytes text.old ++ named_path_text (program_of names.now) heap.now root slots.now) }
+{
     let groups = groups_of(alloc, heap, names, root, slots)?;
     let runs = runs_of(alloc, groups.as_slice())?;
     push_ends(text, runs.as_slice())
@@ -31,15 +35,19 @@ fn groups_of(
     names: &Names<'_>,
     root: u64,
     slots: &[u64],
-) -> Result<Vec<Group>, AllocError> {
+) -> Result<Vec<Group>, AllocError>
+    ensures { AreInOrder (program_of names.now) → IfOk result (λ groups. map group_of groups.items ≡ grouped (steps_text (program_of names.now) heap.now root slots.now)) }
+{
+    g1_words::laws::valid(heap);
     let mut groups = Vec::new(alloc);
     let mut step = String::new(alloc);
-    let mut place = Place::root(heap, root);
+    let mut word = word_of(heap.roots(), root);
     for slot in slots {
+        let object = object_of(heap, word);
         step.clear();
-        push_step(&mut step, names, place.object(), *slot)?;
+        push_step(&mut step, names, object, *slot)?;
         add_step(alloc, &mut groups, step.as_str())?;
-        place = place.slot(*slot);
+        word = word_in(object, *slot);
     }
     Ok(groups)
 }
@@ -50,7 +58,9 @@ fn push_step(
     names: &Names<'_>,
     object: Option<ObjectWords<'_>>,
     slot: u64,
-) -> Result<(), AllocError> {
+) -> Result<(), AllocError>
+    ensures { AreInOrder (program_of names.now) → OnOk result (string_bytes text.new ≡ string_bytes text.old ++ step_text (program_of names.now) (object_told object.entry) slot) }
+{
     let name = match object {
         Some(object) => names.slot(&object, slot),
         None => None,
@@ -71,6 +81,23 @@ fn push_slot(text: &mut String, name: Option<Word<'_>>, slot: u64) -> Result<(),
     match number {
         Some(number) => write!(text, "[{number}]"),
         None => Ok(()),
+    }
+}
+
+// The word of this number, or null if there is none.
+fn word_of(words: &[u64], number: u64) -> u64
+    ensures { result ≡ slice_index words.now number }
+{
+    words.get(number as usize).copied().unwrap_or(0)
+}
+
+// The reference word in a slot of an object, or null if there is none.
+fn word_in(object: Option<ObjectWords<'_>>, slot: u64) -> u64
+    ensures { result ≡ word_in (object_told object.entry) slot }
+{
+    match object {
+        Some(object) => word_of(object.slots, slot),
+        None => 0,
     }
 }
 
