@@ -21,7 +21,6 @@ use Rattle.g1_pause.specs.Answer as answer
 use Rattle.g1_pause.specs.Bought.{IsListed}
 use Rattle.g1_pause.specs.Steps.{LacksRoom, IsOutcome, AreStepsOf}
 use Rattle.g1_text.specs.Lines.{heading, line_text, text_of}
-use Rattle.g1_explain.specs.declared.humongous.Keeper.{Keeper}
 use Rattle.g1_explain.specs.Explained.{IsTextOfPause, not_covered, bad_set, taken, IsMapOfPause, no_cover, no_pause, placed, map_text}
 use Rattle.g1_explain.specs.Places.{map_line}
 use Rattle.g1_explain.specs.Steps.{AreTaken, covered_lines, step_lines, refusal_of}
@@ -60,11 +59,11 @@ module _ (cost : Cost) (choice : Choice) (i : Image) where
 
   -- the steps are taken
   pub taken_end : {X : Type 0} (r : Result (Option Fault) X) (x : Steps) (a b c : List ℕ) → Covered i → AreTaken cost choice i x → IfNone x.collection.bought (IsListed choice)
-      → a ≡ line_text (heading i) → b ≡ a ++ text_of (covered_lines i) → OnOk r ((keepers : List Keeper) × (c ≡ b ++ text_of (step_lines cost i x keepers)))
+      → a ≡ line_text (heading i) → b ≡ a ++ text_of (covered_lines i) → OnOk r (c ≡ b ++ text_of (step_lines cost i x))
       → IfOk r (λ o. o ≡ refusal_of x.outcome) → IfOk r (λ o. IsTextOfPause cost choice i c o)
   taken_end (Err f) x a b c covered t listed p q s w = tt
   taken_end (Ok o) x a b c covered t listed p q s w =
-      text_so c c (refusal_of x.outcome) o refl w (taken x covered t listed (s.0, pause_end cost i i x s.0 [] a b c refl refl p q s.1))
+      text_so c c (refusal_of x.outcome) o refl w (taken x covered t listed (pause_end cost i i x [] a b c refl refl p q s))
 
   -- ---- the map
 
