@@ -2,6 +2,7 @@
 use Rattle.std.specs.Prelude.{◌≡◌, ℕ, Bool, List, Option, is_some, Ok, ⊤}
 use Rattle.g1_words.specs.declared.limits.Limits.TheVariants.{Wide}
 use Rattle.g1_image.specs.Image.{IsImageTextWithin}
+use Rattle.g1_pause.specs.declared.settings.Choice.{Choice}
 use Rattle.g1_answers.specs.Questions.{IsReply}
 use Rattle.g1_answers.specs.Images.{IsNewImage}
 use Rattle.g1heap_request.specs.declared.asking.Ask.{Ask}
@@ -15,7 +16,7 @@ use Rattle.g1heap_request.specs.declared.options.Explain.{Explain}
 use Rattle.g1heap_request.specs.declared.options.Why.{Why}
 use Rattle.g1heap_request.specs.declared.options.Trace.{Trace}
 use Rattle.g1heap_cli.specs.Streams.{HoldsOfNamed}
-use Rattle.g1heap_cli.specs.Texts.{IsPrinted, IsMade, IsWhyText}
+use Rattle.g1heap_cli.specs.Texts.{IsPrinted, IsMade, IsWhyText, AsksFor, IsExplainText, form_of}
 use Rattle.g1heap_cli.specs.Leaving.{Reply, Just}
 
 -- with status 0 a text, by the bytes of what has this name
@@ -44,13 +45,16 @@ IsMakeReply file left = ByNamed file left IsMade
 abbrev pub IsWhyReply : Why → Option (List ℕ) → Reply
 IsWhyReply why left = ByNamed why.image.name.bytes.items left (IsWhyText why.image.limits why.address (is_some why.names))
 
+-- the explanation of a pause, by a choice that the request asks for
+abbrev pub IsExplainReply : Explain → Option (List ℕ) → Reply
+IsExplainReply e left status text =
+    HoldsOfNamed e.image.name.bytes.items left (λ bytes. (choice : Choice) × AsksFor e.budget e.set.items choice
+    × IsExplainText e.image.limits e.cost choice (form_of e.map) (is_some e.names) bytes status text)
+
 -- of these replies no clause says more yet
 
 abbrev pub IsSameReply : Same → Option (List ℕ) → Reply
 IsSameReply same left status text = ⊤
-
-abbrev pub IsExplainReply : Explain → Option (List ℕ) → Reply
-IsExplainReply explain left status text = ⊤
 
 abbrev pub IsTraceReply : Trace → Option (List ℕ) → Reply
 IsTraceReply trace left status text = status ≡ 0

@@ -1,5 +1,7 @@
--- The texts that `print`, `make` and `why` reply, by the bytes that they read.
-use Rattle.std.specs.Prelude.{◌≡◌, ◌<◌, ◌⊎◌, ℕ, Bool, true, false, List, Contains, Some, None, ⊤}
+-- The texts that `print`, `make`, `why` and `explain` reply, by the bytes that they read.
+use Rattle.std.specs.Prelude.{◌≡◌, ◌<◌, ◌⊎◌, ℕ, Bool, true, false, List, Contains, Option, Some, None, ⊤}
+use Rattle.g1_words.specs.declared.fault.Fault.{Fault}
+use Rattle.g1_words.specs.Fault.{status_of}
 use Rattle.g1_words.specs.Heap.{objects, object_at}
 use Rattle.g1_words.specs.declared.limits.Limits.{Limits}
 use Rattle.g1_words.specs.declared.limits.Limits.TheVariants.{Wide}
@@ -13,6 +15,12 @@ use Rattle.g1_text.specs.Content.{Content, IsClosed, SaysAll, SaysImage, file_wi
 use Rattle.g1_text.specs.Counted.{IsMadeOf}
 use Rattle.g1_text.specs.Graphs.{NamedGraph, SaysGraph}
 use Rattle.g1_text.specs.Carried.{CarryGraph}
+use Rattle.g1_choose.specs.declared.parameters.Cost.{Cost}
+use Rattle.g1_pause.specs.declared.settings.Choice.{Choice}
+use Rattle.g1_pause.specs.declared.settings.Choice.TheVariants.{Budget, Given}
+use Rattle.g1_explain.specs.declared.form.Form.{Form}
+use Rattle.g1_explain.specs.declared.form.Form.TheVariants as form
+use Rattle.g1_explain.specs.Explained.{IsExplained}
 use Rattle.g1_explain.specs.Keeping.{IsReason}
 use Rattle.g1_explain.specs.Lines.{reason_lines}
 use Rattle.g1heap_request.specs.declared.options.Part.{Part}
@@ -61,3 +69,28 @@ IsReasonText a i text = (why : _) × IsReason i a why × (text ≡ text_of (reas
 -- THE TEXT THAT `why` REPLIES to bytes, with names or without
 abbrev pub IsWhyText : Limits → ℕ → Bool → List ℕ → List ℕ → Type 0
 IsWhyText limits a named bytes text = HoldsOfImage limits (λ i. MayChange named (IsReasonText a i) text) bytes
+
+-- the form that is asked for: the new addresses alone, or a line for each fact
+abbrev pub form_of : Bool → Form
+form_of true = form.Map
+form_of false = form.Steps
+
+-- the choice is this budget, or these regions if there is none
+abbrev pub AsksFor : Option ℕ → List ℕ → Choice → Type 0
+AsksFor budget set (Budget b) = budget ≡ Some b
+AsksFor budget set (Given list) = (budget ≡ None) × (list.items ≡ set)
+
+-- how an explanation ends: with status 0, or with that of the fault for which the pause is refused; there is no map then
+abbrev pub EndsWith : Option Fault → Form → ℕ → Type 0
+EndsWith None f status = status ≡ 0
+EndsWith (Some e) form.Steps status = status ≡ status_of e
+EndsWith (Some e) form.Map status = ⊥
+
+-- the status and the text of a pause's explanation, with names or without
+abbrev pub IsExplanation : Cost → Choice → Form → Bool → Image → ℕ → List ℕ → Type 0
+IsExplanation cost choice f named i status text =
+    (lines : List ℕ) × (refused : Option Fault) × IsExplained cost choice f i lines refused × EndsWith refused f status × MayChange named (λ t. t ≡ lines) text
+
+-- THE STATUS AND THE TEXT THAT `explain` REPLIES to bytes: those of the explanation of a pause of the image that they are
+abbrev pub IsExplainText : Limits → Cost → Choice → Form → Bool → List ℕ → ℕ → List ℕ → Type 0
+IsExplainText limits cost choice f named bytes status text = HoldsOfImage limits (λ i. IsExplanation cost choice f named i status text) bytes

@@ -1,7 +1,7 @@
 //! A pause as lines, and what keeps an object.
-ghost use Rattle.std.specs.Prelude.{IfOk, is_some};
-ghost use Rattle.g1heap_cli.specs.Texts.{MayChange, IsReasonText};
-ghost use Rattle.g1heap_cli.specs.Replies.{IsWhyReply};
+ghost use Rattle.std.specs.Prelude.{◌≡◌, true, false, IfOk, is_some};
+ghost use Rattle.g1heap_cli.specs.Texts.{MayChange, IsReasonText, AsksFor, EndsWith, IsExplanation, form_of};
+ghost use Rattle.g1heap_cli.specs.Replies.{IsWhyReply, IsExplainReply};
 
 use crate::alone::{CHUNK, WORKERS};
 use crate::mapping::{copy_for, read_names, with_names};
@@ -25,19 +25,61 @@ pub fn explain_pause<T: Threads + Sync + Files, R: Read>(
     alloc: Global,
     request: &Explain,
     reader: &mut R,
-) -> Result<(u8, String), Refusal> {
-    let settings = settings_of(alloc, request)?;
-    let source = find_collected(rt, alloc, &request.image, reader)?;
-    let image = source.image(rt, alloc)?;
-    let form = if request.map { Form::Map } else { Form::Steps };
-    if request.names.is_none() {
-        return pause_lines(rt, alloc, &source, image, &settings, form);
+) -> Result<(u8, String), Refusal>
+    ensures { IfOk result (λ x. IsExplainReply request.now (R.remaining reader.old) x.0 x.1.bytes.items) }
+{
+    let settings = match settings_of(alloc, request) {
+        Ok(settings) => settings,
+        Err(fault) => return Err(Refusal::Fault(fault)),
+    };
+    let source = match find_collected(rt, alloc, &request.image, reader) {
+        Ok(source) => source,
+        Err(refusal) => return Err(refusal),
+    };
+    match source.image(rt, alloc) {
+        Ok(image) => explain_image(rt, alloc, &source, image, request, &settings, reader),
+        Err(refusal) => Err(refusal),
     }
+}
+
+fn explain_image<T: Threads + Sync + Files, R: Read>(
+    rt: &T,
+    alloc: Global,
+    source: &Source<'_>,
+    image: Image,
+    request: &Explain,
+    settings: &Settings,
+    reader: &mut R,
+) -> Result<(u8, String), Refusal>
+    ensures { IfOk result (λ x. IsExplanation settings.now.cost settings.now.choice (form_of request.now.map) (is_some request.now.names) image x.0 x.1.bytes.items) }
+{
+    match &request.names {
+        None => pause_lines(rt, alloc, source, image, settings, request.map),
+        Some(_) => explain_named(rt, alloc, source, image, request, settings, reader),
+    }
+}
+
+fn explain_named<T: Threads + Sync + Files, R: Read>(
+    rt: &T,
+    alloc: Global,
+    source: &Source<'_>,
+    image: Image,
+    request: &Explain,
+    settings: &Settings,
+    reader: &mut R,
+) -> Result<(u8, String), Refusal>
+    ensures { IfOk result (λ x. IsExplanation settings.now.cost settings.now.choice (form_of request.now.map) true image x.0 x.1.bytes.items) }
+{
     let mut map = Vec::new(alloc);
     let names = read_names(rt, alloc, &request.names, None, reader, &mut map)?;
     let before = copy_for(alloc, &image, &names)?;
-    let (status, text) = pause_lines(rt, alloc, &source, image, &settings, form)?;
-    Ok((status, with_names(alloc, text, &before, &names)?))
+    match pause_lines(rt, alloc, source, image, settings, request.map) {
+        Ok((status, text)) => match with_names(alloc, text, &before, &names) {
+            Ok(text) => Ok((status, text)),
+            Err(_) => Err(Refusal::Fault(Fault::Memory)),
+        },
+        Err(refusal) => Err(refusal),
+    }
 }
 
 // The lines of a pause of an image, and the status.
@@ -47,8 +89,11 @@ fn pause_lines<T: Threads + Sync + Files>(
     source: &Source<'_>,
     image: Image,
     settings: &Settings,
-    form: Form,
-) -> Result<(u8, String), Refusal> {
+    map: bool,
+) -> Result<(u8, String), Refusal>
+    ensures { IfOk result (λ x. IsExplanation settings.now.cost settings.now.choice (form_of map) false image x.0 x.1.bytes.items) }
+{
+    let form = form_of(map);
     match explain(rt, alloc, image, settings, form) {
         Ok(explanation) => answer(rt, alloc, source, explanation, form),
         Err(Failure::Fault(fault)) => Err(source.refuse(rt, alloc, fault)),
@@ -56,13 +101,33 @@ fn pause_lines<T: Threads + Sync + Files>(
     }
 }
 
+fn form_of(map: bool) -> Form
+    ensures { result ≡ form_of map }
+{
+    if map { Form::Map } else { Form::Steps }
+}
+
 // Numbers out of their ranges are found before the image is read.
-fn settings_of(alloc: Global, request: &Explain) -> Result<Settings, Fault> {
-    let choice = match request.budget {
-        Some(budget) => Choice::Budget(budget),
-        None => Choice::Given(request.set.as_slice().to_vec(alloc)?),
-    };
-    Settings::new(WORKERS, CHUNK, request.cost, choice)
+fn settings_of(alloc: Global, request: &Explain) -> Result<Settings, Fault>
+    ensures cost { IfOk result (λ s. s.cost ≡ request.now.cost) }
+    ensures choice { IfOk result (λ s. AsksFor request.now.budget request.now.set.items s.choice) }
+{
+    match choice_of(alloc, request) {
+        Ok(choice) => Settings::new(WORKERS, CHUNK, request.cost, choice),
+        Err(fault) => Err(fault),
+    }
+}
+
+fn choice_of(alloc: Global, request: &Explain) -> Result<Choice, Fault>
+    ensures { IfOk result (AsksFor request.now.budget request.now.set.items) }
+{
+    match request.budget {
+        Some(budget) => Ok(Choice::Budget(budget)),
+        None => match request.set.as_slice().to_vec(alloc) {
+            Ok(set) => Ok(Choice::Given(set)),
+            Err(_) => Err(Fault::Memory),
+        },
+    }
 }
 
 fn answer<T: Files>(
@@ -71,12 +136,15 @@ fn answer<T: Files>(
     source: &Source<'_>,
     explanation: Explanation,
     form: Form,
-) -> Result<(u8, String), Refusal> {
+) -> Result<(u8, String), Refusal>
+    ensures text { IfOk result (λ x. x.1 ≡ explanation.text) }
+    ensures status { IfOk result (λ x. EndsWith explanation.refused form x.0) }
+{
     let Explanation { text, refused } = explanation;
-    match refused {
-        None => Ok((0, text)),
-        Some(fault) if form == Form::Map => Err(source.refuse(rt, alloc, fault)),
-        Some(fault) => Ok((fault.status(), text)),
+    match (refused, form) {
+        (None, _) => Ok((0, text)),
+        (Some(fault), Form::Map) => Err(source.refuse(rt, alloc, fault)),
+        (Some(fault), Form::Steps) => Ok((fault.status(), text)),
     }
 }
 

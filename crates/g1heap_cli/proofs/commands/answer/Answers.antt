@@ -46,9 +46,13 @@ returns-in-Ok-explain_pause g c =
     let left = g.R.Read.remaining c.args.reader.now in
     let old = known_of g.W.Write.contents c.args.writer.now.stream in
     let new = known_of g.W.Write.contents c.hand_over_text.new.writer.stream in
+    let text = c.as_bytes-in-Ok-explain_pause in
+    let status = c.in-Ok-explain_pause.status in
+    let To = IsExplainReply c.in-Explain.explain left in
     subst (λ q. Leaves q (IsReplyTo q left) old new c.hand_over_text.result) (sym c.in-Explain.is)
-    (hands_text_so (Just _ c.as_bytes-in-Ok-explain_pause.result.now) (IsExplainReply c.in-Explain.explain left) (λ s t is. tt) old new c.in-Explain.explain.output
-    c.hand_over_text.result c.hand_over_text.ensures)
+    (hands_text_so (Just status text.result.now) To
+    (λ s t is. subst (λ n. To n t) (sym is.0) (subst (To status) (sym (is.1 ∙ text.ensures.value)) c.in-Ok-explain_pause.ensures))
+    old new c.in-Explain.explain.output c.hand_over_text.result c.hand_over_text.ensures)
 
 pub returns-in-Ok-explain_object : goal.returns-in-Ok-explain_object
 returns-in-Ok-explain_object g c =

@@ -1,0 +1,15 @@
+use Rattle.std.proofs.Common.{sym, ap, subst}
+use Rattle.std.proofs.lemmas.Result.{IfOk-weaker}
+use Rattle.g1_choose.specs.declared.parameters.Cost.{Cost}
+use Rattle.g1_pause.specs.declared.settings.Choice.{Choice}
+use Rattle.g1_pause.specs.Settings.{Settings}
+use Rattle.g1heap_cli.specs.Texts.{AsksFor}
+use Rattle.g1heap_cli.proofs.explaining.settings_of.Goals as goal
+
+pub returns-in-Ok-clause-cost : goal.returns-in-Ok-clause-cost
+returns-in-Ok-clause-cost c = IfOk-weaker c.new.result _ _ (λ s e. ap (λ (t : Settings). t.cost) e) c.new.ensures.ok
+
+pub returns-in-Ok-clause-choice : goal.returns-in-Ok-clause-choice
+returns-in-Ok-clause-choice c =
+    let e = c.args.request.now in
+    IfOk-weaker c.new.result _ _ (λ s q. subst (λ (x : Choice). AsksFor e.budget e.set.items x) (sym (ap (λ (t : Settings). t.choice) q)) c.in-Ok.ensures) c.new.ensures.ok
