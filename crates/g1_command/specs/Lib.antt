@@ -3,4 +3,5 @@ pub mod Refusals
 pub mod Values
 pub mod Table
 pub mod Lists
+pub mod Tied
 pub mod Requests
