@@ -2,3 +2,4 @@ pub mod Told
 pub mod Left
 pub mod Found
 pub mod Made
+pub mod Called
