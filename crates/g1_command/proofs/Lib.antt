@@ -3,4 +3,5 @@ pub mod Numerals
 pub mod Got
 pub mod Tabled
 pub mod Listed
+pub mod ReadLines
 pub mod Tied

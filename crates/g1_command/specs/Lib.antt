@@ -5,3 +5,4 @@ pub mod Table
 pub mod Lists
 pub mod Tied
 pub mod Requests
+pub mod Lines

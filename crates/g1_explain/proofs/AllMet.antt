@@ -36,7 +36,7 @@ module _ (h : Heap) (set cards found : List ℕ) (valid : IsValid h) (rising : A
   same_inner os =
       let p : Lead → Bool = λ l. in_set h set l.target in
       filter_append p (root_leads h) (card_leads h cards ++ os)
-      ∙ ap (λ l. filter p (root_leads h) ++ l) (filter_append p (card_leads h cards) os ∙ ap (λ l. l ++ filter p os) (by_cards h set cards valid rising outside lead_in)
+      ∙ ap (λ l. filter p (root_leads h) ++ l) (filter_append p (card_leads h cards) os ∙ ap (λ l. l ++ filter p os) (by_cards h set cards (in_set h set) valid rising outside lead_in)
       ∙ sym (filter_append p (slot_leads h set) os))
       ∙ sym (filter_append p (root_leads h) (slot_leads h set ++ os))
 

@@ -1,4 +1,4 @@
--- The slots on the cards that lead into a set have the references of the slots outside it.
+-- The slots on some cards have those references of the slots outside a set that are looked for, if these all lie on them.
 use Rattle.std.proofs.Common.{◌≡◌, ◌<◌, ℕ, zero, suc, ◌*◌, ◌/◌, inl, Bool, true, false, not, cond, ◌&&◌, List, [], ◌∷◌, ◌++◌, map, filter, flat_map, Contains, arith, refl}
 use Rattle.std.proofs.Common.{sym, ap, subst, ◌∙◌, eqb, eqb-true, eq-eqb}
 use Rattle.std.proofs.lemmas.Bool.{false≢true}
@@ -15,24 +15,31 @@ use Rattle.g1_words.proofs.Members.{In, In-from_contains, Contains-from_in, In-m
 use Rattle.g1_words.proofs.Ordered.{Ordered, Ordered-from_pairs, same_order}
 use Rattle.g1_words.proofs.Rising.{Ordered-flat_map, Ordered-filter}
 use Rattle.g1_rem.specs.Slots.{all_slots, slots_on}
+use Rattle.g1_rem.specs.Starts.{card_count}
 use Rattle.g1_rem.proofs.Bare.{flat_twice}
-use Rattle.g1_frontier.specs.Window.{AreCards, AreOutside, LeadIn}
+use Rattle.g1_rem.proofs.Rising.{Rises-increasing}
+use Rattle.g1_frontier.specs.Window.{AreCards, AreOutside}
+use Rattle.g1_frontier.proofs.Scopes.{all_from_in}
 use Rattle.g1_frontier.proofs.Seeds.{filter_flat, map_flat, flat_same, slots_ordered, apart}
 use Rattle.g1_explain.specs.declared.finder.Finder.TheVariants.{Card}
 use Rattle.g1_explain.specs.Finders.{Lead, lead, slot_leads}
 use Rattle.g1_explain.specs.Searched.{card_leads}
 
+no_cards : (h : Heap) → AreCards h []
+no_cards h = record { rise = Rises-increasing 0 [] tt; below = all_from_in (λ x. x < card_count h) [] (λ x k. absurd k) }
+
 flat_of_flat : {A B C : Type 0} (f : B → List C) (g : A → List B) (xs : List A) → flat_map (λ x. flat_map f (g x)) xs ≡ flat_map f (flat_map g xs)
 flat_of_flat f g [] = refl
 flat_of_flat f g (x ∷ xs) = ap (λ l. flat_map f (g x) ++ l) (flat_of_flat f g xs) ∙ sym (flat_map-append f (g x) (flat_map g xs))
 
-flat_of_filter : {A B : Type 0} (f : A → List B) (p : A → Bool) (xs : List A) → flat_map f (filter p xs) ≡ flat_map (λ x. cond (p x) (f x) []) xs
+pub flat_of_filter : {A B : Type 0} (f : A → List B) (p : A → Bool) (xs : List A) → flat_map f (filter p xs) ≡ flat_map (λ x. cond (p x) (f x) []) xs
 flat_of_filter f p [] = refl
 flat_of_filter {A} f p (x ∷ xs) =
     let more : flat_map f (filter p xs) ≡ flat_map (λ x. cond (p x) (f x) []) xs = flat_of_filter f p xs in
     elim (p x) as (λ b. flat_map f (cond b (x ∷ filter p xs) (filter p xs)) ≡ cond b (f x) [] ++ flat_map (λ x. cond (p x) (f x) []) xs) [ true ↦ ap (λ l. f x ++ l) more | false ↦ more ]
 
-module _ (h : Heap) (window cards : List ℕ) (valid : IsValid h) (rising : AreCards h cards) (outside : AreOutside h window cards) (lead_in : LeadIn h window cards) where
+module _ (h : Heap) (window cards : List ℕ) (to : ℕ → Bool) (valid : IsValid h) (rising : AreCards h cards) (outside : AreOutside h window cards)
+    (there : (e : Ref) → Contains (refs h) e → to e.target ≡ true → in_set h window e.slot ≡ false → Contains cards (card_of h e.slot)) where
   abbrev on_cards : ℕ → Bool
   on_cards p = has cards (card_of h p)
 
@@ -48,11 +55,11 @@ module _ (h : Heap) (window cards : List ℕ) (valid : IsValid h) (rising : AreC
   -- the cards' slots are those that lie on one of the cards
   card_slots : flat_map (slots_on h) cards ≡ filter on_cards (all_slots h)
   card_slots =
-      let ordered : Ordered (λ x y. x < y) (all_slots h) = slots_ordered h window cards valid rising outside lead_in in
+      let ordered : Ordered (λ x y. x < y) (all_slots h) = slots_ordered h [] [] valid (no_cards h) (λ c k. absurd (In-from_contains [] c k)) (λ e i t f. absurd (false≢true t)) in
       same_order (λ x y. x < y) (λ x y l m. omega (arith, l, m)) (flat_map (slots_on h) cards) (filter on_cards (all_slots h))
       (Ordered-flat_map (λ x y. x < y) (λ x y. x < y) (slots_on h) cards (Ordered-from_pairs (λ x y. x < y) cards (AllPairs-from_increasing cards rising.rise))
       (λ c i. Ordered-filter (λ x y. x < y) (λ p. eqb (card_of h p) c) (all_slots h) ordered)
-      (λ c d p q i j lt a b. apart h window cards valid rising outside lead_in c d p q lt a b))
+      (λ c d p q i j lt a b. apart h [] [] valid (no_cards h) (λ c k. absurd (In-from_contains [] c k)) (λ e i t f. absurd (false≢true t)) c d p q lt a b))
       (Ordered-filter (λ x y. x < y) on_cards (all_slots h) ordered)
       (λ p i.
       let m = flat_map_cases (slots_on h) cards p i in
@@ -78,20 +85,20 @@ module _ (h : Heap) (window cards : List ℕ) (valid : IsValid h) (rising : AreC
       let j : In (flat_map (refs_at h) (all_slots h)) r = In-flat_map (refs_at h) (all_slots h) p r i (In-map (λ a. record { slot = p; target = a }) (named (word h p)) a k) in
       Contains-from_in (refs h) r (subst (λ l. In l r) (sym (flat_twice h (objects h))) j)
 
-  -- a slot that references an object in the window lies on a card where it lies outside
-  tells : (p a : ℕ) (b o : Bool) → has cards (card_of h p) ≡ b → in_set h window p ≡ o → In (all_slots h) p → word h p ≡ suc a → in_set h window a ≡ true → b ≡ not o
+  -- a slot that has such a reference lies on a card if it lies outside
+  tells : (p a : ℕ) (b o : Bool) → has cards (card_of h p) ≡ b → in_set h window p ≡ o → In (all_slots h) p → word h p ≡ suc a → to a ≡ true → b ≡ not o
   tells p a true true e f i w t = absurd (false≢true (sym (on_window p e) ∙ f))
   tells p a true false e f i w t = refl
   tells p a false true e f i w t = refl
   tells p a false false e f i w t =
-      let c : Contains cards (card_of h p) = lead_in (record { slot = p; target = a }) (ref_there p a i w) t f in
+      let c : Contains cards (card_of h p) = there (record { slot = p; target = a }) (ref_there p a i w) t f in
       absurd (false≢true (sym e ∙ has_from_in cards (card_of h p) (In-from_contains cards (card_of h p) c)))
 
   abbrev crosses : Ref → Bool
-  crosses e = not (in_set h window e.slot) && in_set h window e.target
+  crosses e = not (in_set h window e.slot) && to e.target
 
   abbrev enters : Lead → Bool
-  enters l = in_set h window l.target
+  enters l = to l.target
 
   by_slot_in : (p a : ℕ) (b o t : Bool) → (t ≡ true → b ≡ not o)
       → cond b (cond t (of_ref (record { slot = p; target = a }) ∷ []) []) [] ≡ map of_ref (cond (not o && t) (record { slot = p; target = a } ∷ []) [])
@@ -112,7 +119,7 @@ module _ (h : Heap) (window cards : List ℕ) (valid : IsValid h) (rising : AreC
       empty : (b : Bool) → cond b (filter enters []) [] ≡ []
       empty true = refl
       empty false = refl
-  by_slot_at p (suc a) i e = by_slot_in p a (on_cards p) (in_set h window p) (in_set h window a) (tells p a (on_cards p) (in_set h window p) refl refl i e)
+  by_slot_at p (suc a) i e = by_slot_in p a (on_cards p) (in_set h window p) (to a) (tells p a (on_cards p) (in_set h window p) refl refl i e)
 
   -- the references of the slots on the cards, by slot
   by_slots : card_leads h cards ≡ flat_map of_slot (filter on_cards (all_slots h))
@@ -138,5 +145,5 @@ module _ (h : Heap) (window cards : List ℕ) (valid : IsValid h) (rising : AreC
       ∙ flat_same (λ p. cond (on_cards p) (filter enters (of_slot p)) []) (λ p. map of_ref (filter crosses (refs_at h p))) (all_slots h) (λ p i. by_slot_at p (word h p) i refl)
       ∙ sym (map_flat of_ref (λ p. filter crosses (refs_at h p)) (all_slots h))
       ∙ ap (map of_ref) (sym (filter_flat crosses (refs_at h) (all_slots h)) ∙ ap (filter crosses) (sym (flat_twice h (objects h)))
-      ∙ sym (filter_twice (λ (e : Ref). in_set h window e.target) (λ (e : Ref). not (in_set h window e.slot)) (refs h)))
+      ∙ sym (filter_twice (λ (e : Ref). to e.target) (λ (e : Ref). not (in_set h window e.slot)) (refs h)))
       ∙ sym (filter_map enters (filter (λ (e : Ref). not (in_set h window e.slot)) (refs h)))

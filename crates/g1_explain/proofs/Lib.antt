@@ -22,3 +22,6 @@ pub mod Joined
 pub mod Gained
 pub mod DirtyLines
 pub mod HumongousLines
+pub mod Explained
+pub mod Keepers
+pub mod FirstKeepers

@@ -32,15 +32,17 @@ range_more a (suc n) =
     let f : a + 1 + n ≡ a + suc n = omega arith in
     ap (range_with_len a) e ∙ ap (λ ys. a ∷ ys) (range_more (a + 1) n ∙ ap (λ x. range_with_len (a + 1) n ++ x ∷ []) f)
 
+pub flat_more : (f : ℕ → List Lead) (n : ℕ) → flat_map f (range_with_len 0 (n + 1)) ≡ flat_map f (range_with_len 0 n) ++ f n
+flat_more f n =
+    let z : 0 + n ≡ n = omega arith in
+    ap (flat_map f) (range_more 0 n ∙ ap (λ x. range_with_len 0 n ++ x ∷ []) z) ∙ flat_map-append f (range_with_len 0 n) (n ∷ [])
+    ∙ ap (λ l. flat_map f (range_with_len 0 n) ++ l) (append-nil (f n))
+
 -- the references of one number more
 pub met_number_more : (f : ℕ → List Lead) (found : List ℕ) (old now after : List Finder) (n : ℕ) → now ≡ met found old (flat_map f (range_with_len 0 n))
     → after ≡ met found now (f n) → after ≡ met found old (flat_map f (range_with_len 0 (n + 1)))
 met_number_more f found old now after n e p =
-    let z : 0 + n ≡ n = omega arith in
-    let more : flat_map f (range_with_len 0 (n + 1)) ≡ flat_map f (range_with_len 0 n) ++ f n =
-    ap (flat_map f) (range_more 0 n ∙ ap (λ x. range_with_len 0 n ++ x ∷ []) z) ∙ flat_map-append f (range_with_len 0 n) (n ∷ [])
-    ∙ ap (λ l. flat_map f (range_with_len 0 n) ++ l) (append-nil (f n)) in
-    p ∙ ap (λ fs. met found fs (f n)) e ∙ sym (met-append found old (flat_map f (range_with_len 0 n)) (f n)) ∙ ap (met found old) (sym more)
+    p ∙ ap (λ fs. met found fs (f n)) e ∙ sym (met-append found old (flat_map f (range_with_len 0 n)) (f n)) ∙ ap (met found old) (sym (flat_more f n))
 
 -- what was met stays
 pub met_grows : (found : List ℕ) (fs : List Finder) (xs : List Lead) → (tail : List Finder) × (met found fs xs ≡ fs ++ tail)

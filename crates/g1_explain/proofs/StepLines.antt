@@ -29,11 +29,11 @@ use Rattle.g1_pause.specs.declared.steps.Steps.{Steps}
 use Rattle.g1_pause.proofs.CollectionSets.{set_regions}
 use Rattle.g1_pause.proofs.Planning.{cards_there, set_leads}
 use Rattle.g1_text.specs.Lines.{heading, line_text, text_of}
-use Rattle.g1_explain.specs.declared.humongous.Keeper.{Keeper}
 use Rattle.g1_explain.specs.Cards.{set_lines}
 use Rattle.g1_explain.specs.Changes.{root_moves, patch_moves, region_changes, heading_changes}
 use Rattle.g1_explain.specs.Choosing.{bought_lines}
 use Rattle.g1_explain.specs.Humongous.{humongous_lines}
+use Rattle.g1_explain.specs.Keepers.{keepers_of}
 use Rattle.g1_explain.specs.Places.{place_lines_of}
 use Rattle.g1_explain.specs.Remembered.{remembered_changes, dirty_lines}
 use Rattle.g1_explain.specs.Steps.{AreTaken, free_among, lasting_patches, moving_lines, table_changes, totals_of, ready_lines, outcome_lines, step_lines, covered_lines, pause_lines}
@@ -69,16 +69,16 @@ table_end i j q before after old_table new_table old a b c s t u v w x y z =
     (y ∙ (λ k. a ++ text_of (flat_map (region_changes (u k) (v k)) (range_with_len 0 (min (length (u k)) (length (v k)))))))
     (z ∙ ap (λ l. b ++ text_of (heading_changes l)) w)
 
-pub ready_end : (i : Image) (h : Heap) (p : Plan) (q : Prepared) (keepers : List Keeper) (need free cards looked slots : ℕ) (patches : List (ℕ × ℕ)) (old a b c d e : List ℕ)
+pub ready_end : (i : Image) (h : Heap) (p : Plan) (q : Prepared) (need free cards looked slots : ℕ) (patches : List (ℕ × ℕ)) (old a b c d e : List ℕ)
     → h ≡ i.heap → patches ≡ lasting_patches h q → need ≡ length p.to_space → free ≡ free_among h.regions → looked ≡ cards → slots ≡ length patches
-    → a ≡ old ++ line_text (room_line need free) → b ≡ a ++ text_of (moving_lines h p q patches) → c ≡ b ++ text_of (humongous_lines i.heap keepers)
-    → d ≡ c ++ text_of (table_changes i q) → e ≡ d ++ line_text (totals_of h p q looked slots) → e ≡ old ++ text_of (ready_lines i cards p q keepers)
-ready_end i h p q keepers need free cards looked slots patches old a b c d e heap left needs frees looks many x y z v w =
+    → a ≡ old ++ line_text (room_line need free) → b ≡ a ++ text_of (moving_lines h p q patches) → c ≡ b ++ text_of (humongous_lines i.heap (keepers_of i.heap p.set p.survivors))
+    → d ≡ c ++ text_of (table_changes i q) → e ≡ d ++ line_text (totals_of h p q looked slots) → e ≡ old ++ text_of (ready_lines i cards p q)
+ready_end i h p q need free cards looked slots patches old a b c d e heap left needs frees looks many x y z v w =
     let lasting : patches ≡ lasting_patches i.heap q = left ∙ ap (λ (g : Heap). lasting_patches g q) heap in
     let free_before : free ≡ free_among i.heap.regions = frees ∙ ap (λ (g : Heap). free_among g.regions) heap in
     let patched : slots ≡ length (lasting_patches i.heap q) = many ∙ ap length lasting in
     let moving : List (List (List ℕ)) = moving_lines i.heap p q (lasting_patches i.heap q) in
-    let humongous : List (List (List ℕ)) = humongous_lines i.heap keepers in
+    let humongous : List (List (List ℕ)) = humongous_lines i.heap (keepers_of i.heap p.set p.survivors) in
     let totals : List (List ℕ) = totals_of i.heap p q cards (length (lasting_patches i.heap q)) in
     line_then old a e (room_line (length p.to_space) (free_among i.heap.regions)) (moving ++ (humongous ++ (table_changes i q ++ totals ∷ [])))
     (x ∙ (λ k. old ++ line_text (room_line (needs k) (free_before k))))
@@ -149,24 +149,24 @@ leads_there cost choice i x tracked t =
 pub set_below : (cost : Cost) (choice : Choice) (i : Image) (x : Steps) → AreTaken cost choice i x → All (λ r. r < i.heap.geometry.n) x.collection.regions.items
 set_below cost choice i x t = (set_regions cost i choice x.collection.regions.items t.set).below
 
-pub steps_end : (cost : Cost) (i : Image) (x : Steps) (keepers : List Keeper) (h : Heap) (set cards looked old a b c : List ℕ) → h ≡ i.heap → set ≡ x.collection.regions.items → cards ≡ x.cards.items → looked ≡ x.cards.items
+pub steps_end : (cost : Cost) (i : Image) (x : Steps) (h : Heap) (set cards looked old a b c : List ℕ) → h ≡ i.heap → set ≡ x.collection.regions.items → cards ≡ x.cards.items → looked ≡ x.cards.items
     → a ≡ old ++ text_of (bought_lines cost i x.collection.bought) → b ≡ a ++ text_of (set_lines h set cards)
-    → c ≡ b ++ text_of (outcome_lines i x.collection.regions.items (length looked) keepers x.outcome) → c ≡ old ++ text_of (step_lines cost i x keepers)
-steps_end cost i x keepers h set cards looked old a b c e f g k p q r =
+    → c ≡ b ++ text_of (outcome_lines i x.collection.regions.items (length looked) x.outcome) → c ≡ old ++ text_of (step_lines cost i x)
+steps_end cost i x h set cards looked old a b c e f g k p q r =
     three_parts old a b c (bought_lines cost i x.collection.bought) (set_lines i.heap x.collection.regions.items x.cards.items)
-    (outcome_lines i x.collection.regions.items (length x.cards.items) keepers x.outcome) p
+    (outcome_lines i x.collection.regions.items (length x.cards.items) x.outcome) p
     (q ∙ (λ t. a ++ text_of (set_lines (e t) (f t) (g t))))
-    (r ∙ ap (λ (l : List ℕ). b ++ text_of (outcome_lines i x.collection.regions.items (length l) keepers x.outcome)) k)
+    (r ∙ ap (λ (l : List ℕ). b ++ text_of (outcome_lines i x.collection.regions.items (length l) x.outcome)) k)
 
 pub covered_end : (i j : Image) (old a b : List ℕ) → j ≡ i → a ≡ old ++ line_text (codes "covered" ∷ []) → b ≡ a ++ text_of (dirty_lines j) → b ≡ old ++ text_of (covered_lines i)
 covered_end i j old a b e p q = line_then old a b (codes "covered" ∷ []) (dirty_lines i) p (q ∙ ap (λ (k : Image). a ++ text_of (dirty_lines k)) e)
 
-pub pause_end : (cost : Cost) (i j : Image) (x : Steps) (keepers : List Keeper) (none a b c : List ℕ) → j ≡ i → none ≡ [] → a ≡ none ++ line_text (heading j) → b ≡ a ++ text_of (covered_lines i)
-    → c ≡ b ++ text_of (step_lines cost i x keepers) → c ≡ text_of (pause_lines cost i x keepers)
-pause_end cost i j x keepers none a b c e n p q r =
-    line_then none a c (heading i) (covered_lines i ++ step_lines cost i x keepers) (p ∙ ap (λ (k : Image). none ++ line_text (heading k)) e)
-    (lines_then a b c (covered_lines i) (step_lines cost i x keepers) q r)
-    ∙ ap (λ l. l ++ text_of (pause_lines cost i x keepers)) n
+pub pause_end : (cost : Cost) (i j : Image) (x : Steps) (none a b c : List ℕ) → j ≡ i → none ≡ [] → a ≡ none ++ line_text (heading j) → b ≡ a ++ text_of (covered_lines i)
+    → c ≡ b ++ text_of (step_lines cost i x) → c ≡ text_of (pause_lines cost i x)
+pause_end cost i j x none a b c e n p q r =
+    line_then none a c (heading i) (covered_lines i ++ step_lines cost i x) (p ∙ ap (λ (k : Image). none ++ line_text (heading k)) e)
+    (lines_then a b c (covered_lines i) (step_lines cost i x) q r)
+    ∙ ap (λ l. l ++ text_of (pause_lines cost i x)) n
 
 -- ---- what follows the choice of a set
 
@@ -176,20 +176,16 @@ search_there i h set cards found e rising outside lead_in survivors =
     subst (λ (g : Heap). IsSearch g set cards found) (sym e) (record { rising = rising; outside = outside; lead_in = lead_in; survivors = survivors })
 
 pub lacking_end : (i : Image) (set : List ℕ) (n : ℕ) (o : Outcome) (survivors : Vec ℕ Global) (need free : ℕ) (h : Heap) (found old a b : List ℕ) → o ≡ NoRoom survivors need free → h ≡ i.heap → found ≡ survivors.items
-    → a ≡ old ++ text_of (survivor_lines h set found) → b ≡ a ++ text_of (refusal_lines (Room need free)) → (keepers : List Keeper) × (b ≡ old ++ text_of (outcome_lines i set n keepers o))
-lacking_end i set n o survivors need free h found old a b is e f p q = (
-  [],
-  lines_then old a b (survivor_lines i.heap set survivors.items) (refusal_lines (Room need free)) (p ∙ (λ t. old ++ text_of (survivor_lines (e t) set (f t)))) q
-      ∙ ap (λ (x : Outcome). old ++ text_of (outcome_lines i set n [] x)) (sym is),
-)
+    → a ≡ old ++ text_of (survivor_lines h set found) → b ≡ a ++ text_of (refusal_lines (Room need free)) → b ≡ old ++ text_of (outcome_lines i set n o)
+lacking_end i set n o survivors need free h found old a b is e f p q =
+    lines_then old a b (survivor_lines i.heap set survivors.items) (refusal_lines (Room need free)) (p ∙ (λ t. old ++ text_of (survivor_lines (e t) set (f t)))) q
+    ∙ ap (λ (x : Outcome). old ++ text_of (outcome_lines i set n x)) (sym is)
 
-pub made_end : (i : Image) (set : List ℕ) (n : ℕ) (o : Outcome) (p : Plan) (q : Prepared) (h : Heap) (found old a b : List ℕ) (keepers : List Keeper) → o ≡ Ready p q → h ≡ i.heap → found ≡ p.survivors
-    → a ≡ old ++ text_of (survivor_lines h set found) → b ≡ a ++ text_of (ready_lines i n p q keepers) → (ks : List Keeper) × (b ≡ old ++ text_of (outcome_lines i set n ks o))
-made_end i set n o p q h found old a b keepers is e f x y = (
-  keepers,
-  lines_then old a b (survivor_lines i.heap set p.survivors) (ready_lines i n p q keepers) (x ∙ (λ t. old ++ text_of (survivor_lines (e t) set (f t)))) y
-      ∙ ap (λ (z : Outcome). old ++ text_of (outcome_lines i set n keepers z)) (sym is),
-)
+pub made_end : (i : Image) (set : List ℕ) (n : ℕ) (o : Outcome) (p : Plan) (q : Prepared) (h : Heap) (found old a b : List ℕ) → o ≡ Ready p q → h ≡ i.heap → found ≡ p.survivors
+    → a ≡ old ++ text_of (survivor_lines h set found) → b ≡ a ++ text_of (ready_lines i n p q) → b ≡ old ++ text_of (outcome_lines i set n o)
+made_end i set n o p q h found old a b is e f x y =
+    lines_then old a b (survivor_lines i.heap set p.survivors) (ready_lines i n p q) (x ∙ (λ t. old ++ text_of (survivor_lines (e t) set (f t)))) y
+    ∙ ap (λ (z : Outcome). old ++ text_of (outcome_lines i set n z)) (sym is)
 
 -- the remembered sets that are made ready rise
 pub made_rise : (i : Image) (set l : List ℕ) (q : Prepared) → IsMadeFor q i set l → All IsStrictlyIncreasing q.remembered

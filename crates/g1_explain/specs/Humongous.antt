@@ -13,13 +13,17 @@ use Rattle.g1_explain.specs.Places.{within_64}
 abbrev pub run_end : Heap → ℕ → ℕ
 run_end h r = within_64 (r + div_ceil (object_at h (r * h.geometry.w)).size h.geometry.w)
 
+-- the regions of the object that begins in region r
+abbrev pub run : Heap → ℕ → List ℕ
+run h r = range_with_len r (run_end h r - r)
+
 -- humongous A kept by FINDER
 abbrev pub kept_line : ℕ → Finder → List (List ℕ)
 kept_line a f = codes "humongous" ∷ decimal a ∷ codes "kept" ∷ codes "by" ∷ finder_words f
 
 -- humongous A freed REGION ..
 abbrev pub freed_line : Heap → ℕ → ℕ → List (List ℕ)
-freed_line h r a = codes "humongous" ∷ decimal a ∷ codes "freed" ∷ map decimal (range_with_len r (run_end h r - r))
+freed_line h r a = codes "humongous" ∷ decimal a ∷ codes "freed" ∷ map decimal (run h r)
 
 -- the line of the object that begins in region r, by what keeps it
 abbrev pub fate_lines : Heap → ℕ → Keeper → List (List (List ℕ))

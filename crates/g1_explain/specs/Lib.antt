@@ -10,4 +10,6 @@ pub mod Changes
 pub mod Totals
 pub mod Remembered
 pub mod Humongous
+pub mod Keepers
 pub mod Steps
+pub mod Explained

@@ -19,11 +19,11 @@ use Rattle.g1_pause.specs.Answer.{IsSetFor}
 use Rattle.g1_pause.specs.Bought.{IsBought}
 use Rattle.g1_pause.specs.Steps.{IsOutcome}
 use Rattle.g1_text.specs.Lines.{heading, text_of}
-use Rattle.g1_explain.specs.declared.humongous.Keeper.{Keeper}
 use Rattle.g1_explain.specs.Cards.{set_lines}
 use Rattle.g1_explain.specs.Changes.{root_moves, patch_moves, region_changes, heading_changes}
 use Rattle.g1_explain.specs.Choosing.{bought_lines}
 use Rattle.g1_explain.specs.Humongous.{humongous_lines}
+use Rattle.g1_explain.specs.Keepers.{keepers_of}
 use Rattle.g1_explain.specs.Places.{within_64, place_lines_of}
 use Rattle.g1_explain.specs.Remembered.{remembered_changes, dirty_lines}
 use Rattle.g1_explain.specs.Survivors.{survivor_lines}
@@ -63,38 +63,38 @@ abbrev pub totals_of : Heap → Plan → Prepared → ℕ → ℕ → List (List
 totals_of h p q cards slots =
     totals_line (length p.set) (length q.humongous) (length p.survivors) (within_64 (p.words * 8)) (counts_words cards slots (free_among h.regions) (free_among q.regions))
 
--- the lines of a pause that has room, by what keeps its humongous objects
-abbrev pub ready_lines : Image → ℕ → Plan → Prepared → List Keeper → List (List (List ℕ))
-ready_lines i cards p q keepers =
+-- the lines of a pause that has room
+abbrev pub ready_lines : Image → ℕ → Plan → Prepared → List (List (List ℕ))
+ready_lines i cards p q =
     room_line (length p.to_space) (free_among i.heap.regions)
     ∷ (moving_lines i.heap p q (lasting_patches i.heap q)
-    ++ (humongous_lines i.heap keepers
+    ++ (humongous_lines i.heap (keepers_of i.heap p.set p.survivors)
     ++ (table_changes i q
     ++ totals_of i.heap p q cards (length (lasting_patches i.heap q)) ∷ [])))
 
 -- the lines of the survivors, and of what follows
-abbrev pub outcome_lines : Image → List ℕ → ℕ → List Keeper → Outcome → List (List (List ℕ))
-outcome_lines i set cards keepers (Ready p q) = survivor_lines i.heap set p.survivors ++ ready_lines i cards p q keepers
-outcome_lines i set cards keepers (NoRoom survivors need free) = survivor_lines i.heap set survivors.items ++ refusal_lines (Room need free)
+abbrev pub outcome_lines : Image → List ℕ → ℕ → Outcome → List (List (List ℕ))
+outcome_lines i set cards (Ready p q) = survivor_lines i.heap set p.survivors ++ ready_lines i cards p q
+outcome_lines i set cards (NoRoom survivors need free) = survivor_lines i.heap set survivors.items ++ refusal_lines (Room need free)
 
 -- the lines of the steps: what a budget bought, the set and the cards that lead in, the survivors, and what follows
-abbrev pub step_lines : Cost → Image → Steps → List Keeper → List (List (List ℕ))
-step_lines cost i x keepers =
+abbrev pub step_lines : Cost → Image → Steps → List (List (List ℕ))
+step_lines cost i x =
     bought_lines cost i x.collection.bought
     ++ (set_lines i.heap x.collection.regions.items x.cards.items
-    ++ outcome_lines i x.collection.regions.items (length x.cards.items) keepers x.outcome)
+    ++ outcome_lines i x.collection.regions.items (length x.cards.items) x.outcome)
 
 -- that the image is covered, and what its dirty cards add
 abbrev pub covered_lines : Image → List (List (List ℕ))
 covered_lines i = (codes "covered" ∷ []) ∷ dirty_lines i
 
 -- all lines of a pause
-abbrev pub pause_lines : Cost → Image → Steps → List Keeper → List (List (List ℕ))
-pause_lines cost i x keepers = heading i ∷ (covered_lines i ++ step_lines cost i x keepers)
+abbrev pub pause_lines : Cost → Image → Steps → List (List (List ℕ))
+pause_lines cost i x = heading i ∷ (covered_lines i ++ step_lines cost i x)
 
--- THE TEXT OF A PAUSE, by its steps: all its lines; what keeps its humongous objects is left open
+-- THE TEXT OF A PAUSE, by its steps: all its lines
 abbrev pub IsTextOfSteps : Cost → Image → Steps → List ℕ → Type 0
-IsTextOfSteps cost i x text = (keepers : List Keeper) × (text ≡ text_of (pause_lines cost i x keepers))
+IsTextOfSteps cost i x text = text ≡ text_of (pause_lines cost i x)
 
 -- the fault for which a pause is refused, if it has no room
 abbrev pub refusal_of : Outcome → Option Fault

@@ -1,6 +1,10 @@
 //! The lines of a pause.
-ghost use Rattle.std.specs.Prelude.{◌≡◌, ◌++◌, string_bytes, OnOk, IfOk};
-ghost use Rattle.g1_text.specs.Lines.{text_of};
+ghost use Rattle.std.specs.Prelude.{◌≡◌, ◌≢◌, ◌++◌, [], Some, string_bytes, OnOk, IfOk, IfErr};
+ghost use Rattle.g1_image.specs.Cards.{Covered};
+ghost use Rattle.g1_pause.specs.Steps.{AreStepsOf};
+ghost use Rattle.g1_text.specs.Lines.{heading, line_text, text_of};
+ghost use Rattle.g1_explain.specs.declared.failure.Failure.TheVariants.{Fault as OfFault};
+ghost use Rattle.g1_explain.specs.Explained.{IsExplained, IsTextOfPause, IsMapOfPause, IsFailureOf};
 ghost use Rattle.g1_explain.specs.Steps.{AreTaken, IsTextOfSteps, covered_lines, refusal_of};
 
 use crate::failure::Failure;
@@ -37,13 +41,33 @@ pub fn explain<R: Threads + Sync>(
     image: Image,
     settings: &Settings,
     form: Form,
-) -> Result<Explanation, Failure> {
+) -> Result<Explanation, Failure>
+    ensures explained { IfOk result (λ x. IsExplained settings.now.cost settings.now.choice form image (string_bytes x.text) x.refused) }
+    ensures failed { IfErr result (IsFailureOf form) }
+{
     let mut text = String::new(alloc);
-    let refused = match form {
-        Form::Steps => push_lines(rt, alloc, &mut text, image, settings)?,
-        Form::Map => push_map_lines(rt, alloc, &mut text, image, settings)?,
-    };
-    Ok(Explanation { text, refused })
+    match push_explanation(rt, alloc, &mut text, image, settings, form) {
+        Ok(refused) => Ok(Explanation { text, refused }),
+        Err(failure) => Err(failure),
+    }
+}
+
+// Adds what a form has of a pause, and returns the fault for which the pause is refused, if it is.
+fn push_explanation<R: Threads + Sync>(
+    rt: &R,
+    alloc: Global,
+    text: &mut String,
+    image: Image,
+    settings: &Settings,
+    form: Form,
+) -> Result<Option<Fault>, Failure>
+    ensures explained { string_bytes text.old ≡ [] → IfOk result (λ o. IsExplained settings.now.cost settings.now.choice form image (string_bytes text.new) o) }
+    ensures failed { IfErr result (IsFailureOf form) }
+{
+    match form {
+        Form::Steps => push_lines(rt, alloc, text, image, settings),
+        Form::Map => push_map_lines(rt, alloc, text, image, settings),
+    }
 }
 
 /// The lines of a pause of which the steps were taken.
@@ -74,7 +98,9 @@ fn push_lines<R: Threads + Sync>(
     text: &mut String,
     image: Image,
     settings: &Settings,
-) -> Result<Option<Fault>, Failure> {
+) -> Result<Option<Fault>, Failure>
+    ensures { string_bytes text.old ≡ [] → IfOk result (λ o. IsTextOfPause settings.now.cost settings.now.choice image (string_bytes text.new) o) }
+{
     push_heading(text, &image)?;
     match verify(rt, alloc, image) {
         Ok(tracked) => push_tracked(rt, alloc, text, &tracked, settings),
@@ -82,14 +108,19 @@ fn push_lines<R: Threads + Sync>(
     }
 }
 
+// Adds the lines behind the heading.
 fn push_tracked<R: Threads + Sync>(
     rt: &R,
     alloc: Global,
     text: &mut String,
     tracked: &Tracked,
     settings: &Settings,
-) -> Result<Option<Fault>, Failure> {
+) -> Result<Option<Fault>, Failure>
+    ensures { string_bytes text.old ≡ line_text (heading tracked.now) → IfOk result (λ o. IsTextOfPause settings.now.cost settings.now.choice tracked.now (string_bytes text.new) o) }
+{
     let before = Before::new(rt, alloc, tracked, settings.workers())?;
+    // It states to the prover that the image is covered.
+    let _ = before.image();
     push_covered(alloc, text, &before)?;
     match take_steps(rt, alloc, &before, settings, &Open) {
         Ok(steps) => push_steps(alloc, text, &before, settings, &steps),
@@ -112,7 +143,10 @@ fn push_map_lines<R: Threads + Sync>(
     text: &mut String,
     image: Image,
     settings: &Settings,
-) -> Result<Option<Fault>, Failure> {
+) -> Result<Option<Fault>, Failure>
+    ensures map { string_bytes text.old ≡ [] → IfOk result (λ o. IsMapOfPause settings.now.cost settings.now.choice image (string_bytes text.new) o) }
+    ensures memory { IfErr result (λ e. e ≡ OfFault Fault.Memory) }
+{
     match verify(rt, alloc, image) {
         Ok(tracked) => map_tracked(rt, alloc, text, &tracked, settings),
         Err((_, fault)) => refuse(fault),
@@ -125,8 +159,13 @@ fn map_tracked<R: Threads + Sync>(
     text: &mut String,
     tracked: &Tracked,
     settings: &Settings,
-) -> Result<Option<Fault>, Failure> {
+) -> Result<Option<Fault>, Failure>
+    ensures map { string_bytes text.old ≡ [] → IfOk result (λ o. IsMapOfPause settings.now.cost settings.now.choice tracked.now (string_bytes text.new) o) }
+    ensures memory { IfErr result (λ e. e ≡ OfFault Fault.Memory) }
+{
     let before = Before::new(rt, alloc, tracked, settings.workers())?;
+    // It states to the prover that the image is covered.
+    let _ = before.image();
     match take_steps(rt, alloc, &before, settings, &Open) {
         Ok(steps) => map_steps(text, &before, settings, &steps),
         Err(fault) => refuse(fault),
@@ -138,7 +177,10 @@ fn map_steps(
     before: &Before<'_>,
     settings: &Settings,
     steps: &Steps,
-) -> Result<Option<Fault>, Failure> {
+) -> Result<Option<Fault>, Failure>
+    ensures map { string_bytes text.old ≡ [] → Covered before.now → AreStepsOf settings.now.cost settings.now.choice before.now steps.now → IfOk result (λ o. IsMapOfPause settings.now.cost settings.now.choice before.now (string_bytes text.new) o) }
+    ensures memory { IfErr result (λ e. e ≡ OfFault Fault.Memory) }
+{
     match &steps.outcome {
         Outcome::NoRoom { need, free, .. } => {
             refuse(Fault::Room {
@@ -154,7 +196,11 @@ fn map_steps(
 }
 
 // The fault for which a pause is refused. Running out of memory is none.
-fn refuse(fault: Fault) -> Result<Option<Fault>, Failure> {
+fn refuse(fault: Fault) -> Result<Option<Fault>, Failure>
+    ensures fault { IfOk result (λ o. o ≡ Some fault) }
+    ensures no_memory { IfOk result (λ _. fault ≢ Fault.Memory) }
+    ensures memory { IfErr result (λ e. e ≡ OfFault Fault.Memory) }
+{
     match fault {
         Fault::Memory => Err(Failure::Fault(fault)),
         _ => Ok(Some(fault)),

@@ -3,10 +3,11 @@ ghost use Rattle.std.specs.Prelude.{◌≡◌, ◌++◌, List, ℕ, length, stri
 ghost use Rattle.std.specs.List.Sorted.{IsStrictlyIncreasing};
 ghost use Rattle.g1_text.specs.Lines.{text_of};
 ghost use Rattle.g1_frontier.specs.Window.{AreCards, AreOutside, LeadIn};
+ghost use Rattle.g1_copy.specs.Plans.{IsPauseOf};
 ghost use Rattle.g1_pause.specs.declared.steps.Outcome.TheVariants.{Ready, NoRoom};
 ghost use Rattle.g1_pause.specs.Steps.{IsOutcome};
-ghost use Rattle.g1_explain.specs.declared.humongous.Keeper.{Keeper};
 ghost use Rattle.g1_explain.specs.Humongous.{humongous_lines};
+ghost use Rattle.g1_explain.specs.Keepers.{keepers_of};
 ghost use Rattle.g1_explain.specs.Steps.{AreTaken, moving_lines, table_changes, ready_lines, outcome_lines, step_lines, refusal_of};
 
 use crate::cards::{mark_regions, push_cards};
@@ -39,7 +40,7 @@ pub(crate) fn push_steps(
     settings: &Settings,
     steps: &Steps,
 ) -> Result<Option<Fault>, Failure>
-    ensures lines { AreTaken settings.now.cost settings.now.choice before.now steps.now → OnOk result ((keepers : List Keeper) × (string_bytes text.new ≡ string_bytes text.old ++ text_of (step_lines settings.now.cost before.now steps.now keepers))) }
+    ensures lines { AreTaken settings.now.cost settings.now.choice before.now steps.now → OnOk result (string_bytes text.new ≡ string_bytes text.old ++ text_of (step_lines settings.now.cost before.now steps.now)) }
     ensures refused { IfOk result (λ o. o ≡ refusal_of steps.now.outcome) }
 {
     // It states to the prover that the image is tracked.
@@ -64,7 +65,7 @@ fn push_outcome(
     cards: &[u32],
     outcome: &Outcome,
 ) -> Result<Option<Fault>, Failure>
-    ensures lines { (set : List ℕ) → AreCards before.now.heap cards.now → AreOutside before.now.heap set cards.now → LeadIn before.now.heap set cards.now → IsOutcome before.now set outcome.now → OnOk result ((keepers : List Keeper) × (string_bytes text.new ≡ string_bytes text.old ++ text_of (outcome_lines before.now set (length cards.now) keepers outcome.now))) }
+    ensures lines { (set : List ℕ) → AreCards before.now.heap cards.now → AreOutside before.now.heap set cards.now → LeadIn before.now.heap set cards.now → IsOutcome before.now set outcome.now → OnOk result (string_bytes text.new ≡ string_bytes text.old ++ text_of (outcome_lines before.now set (length cards.now) outcome.now)) }
     ensures refused { IfOk result (λ o. o ≡ refusal_of outcome.now) }
 {
     match outcome {
@@ -89,7 +90,7 @@ fn push_lacking(
     need: u64,
     free: u64,
 ) -> Result<Option<Fault>, Failure>
-    ensures lines { (set : List ℕ) → AreCards before.now.heap cards.now → AreOutside before.now.heap set cards.now → LeadIn before.now.heap set cards.now → IsOutcome before.now set (NoRoom survivors.now need free) → OnOk result ((keepers : List Keeper) × (string_bytes text.new ≡ string_bytes text.old ++ text_of (outcome_lines before.now set (length cards.now) keepers (NoRoom survivors.now need free)))) }
+    ensures lines { (set : List ℕ) → AreCards before.now.heap cards.now → AreOutside before.now.heap set cards.now → LeadIn before.now.heap set cards.now → IsOutcome before.now set (NoRoom survivors.now need free) → OnOk result (string_bytes text.new ≡ string_bytes text.old ++ text_of (outcome_lines before.now set (length cards.now) (NoRoom survivors.now need free))) }
     ensures refused { IfOk result (λ o. o ≡ refusal_of (NoRoom survivors.now need free)) }
 {
     let walkable = Walkable::of(before);
@@ -106,7 +107,7 @@ fn push_made(
     plan: &Plan,
     prepared: &Prepared,
 ) -> Result<Option<Fault>, Failure>
-    ensures lines { (set : List ℕ) → AreCards before.now.heap cards.now → AreOutside before.now.heap set cards.now → LeadIn before.now.heap set cards.now → IsOutcome before.now set (Ready plan.now prepared.now) → OnOk result ((keepers : List Keeper) × (string_bytes text.new ≡ string_bytes text.old ++ text_of (outcome_lines before.now set (length cards.now) keepers (Ready plan.now prepared.now)))) }
+    ensures lines { (set : List ℕ) → AreCards before.now.heap cards.now → AreOutside before.now.heap set cards.now → LeadIn before.now.heap set cards.now → IsOutcome before.now set (Ready plan.now prepared.now) → OnOk result (string_bytes text.new ≡ string_bytes text.old ++ text_of (outcome_lines before.now set (length cards.now) (Ready plan.now prepared.now))) }
     ensures refused { IfOk result (λ o. o ≡ refusal_of (Ready plan.now prepared.now)) }
 {
     let walkable = Walkable::of(before);
@@ -124,7 +125,7 @@ fn push_ready(
     plan: &Plan,
     prepared: &Prepared,
 ) -> Result<(), Failure>
-    ensures { All IsStrictlyIncreasing prepared.now.remembered → OnOk result ((keepers : List Keeper) × (string_bytes text.new ≡ string_bytes text.old ++ text_of (ready_lines before.now (length cards.now) plan.now prepared.now keepers))) }
+    ensures { (set : List ℕ) → IsPauseOf before.now.heap set plan.now → All IsStrictlyIncreasing prepared.now.remembered → OnOk result (string_bytes text.new ≡ string_bytes text.old ++ text_of (ready_lines before.now (length cards.now) plan.now prepared.now)) }
 {
     let heap = before.image().heap();
     let patches = kept_patches(alloc, heap, prepared)?;
@@ -180,7 +181,7 @@ fn push_humongous_objects(
     plan: &Plan,
     prepared: &Prepared,
 ) -> Result<(), Failure>
-    ensures { OnOk result ((keepers : List Keeper) × (string_bytes text.new ≡ string_bytes text.old ++ text_of (humongous_lines before.now.heap keepers))) }
+    ensures { (set : List ℕ) → IsPauseOf before.now.heap set plan.now → OnOk result (string_bytes text.new ≡ string_bytes text.old ++ text_of (humongous_lines before.now.heap (keepers_of before.now.heap plan.now.set plan.now.survivors))) }
 {
     let walkable = Walkable::of(before);
     let heap = before.image().heap();

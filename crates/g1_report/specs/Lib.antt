@@ -1,3 +1,4 @@
+pub mod Program
 pub mod Agreement
 pub mod Finding
 pub mod Taken
@@ -6,3 +7,6 @@ pub mod Answer
 pub mod Listed
 pub mod Given
 pub mod Opened
+pub mod Runs
+pub mod Gathered
+pub mod Steps

@@ -19,6 +19,7 @@
 #![tactic(auto)]
 
 mod comparing;
+mod grouping;
 mod lines;
 mod listing;
 mod location;

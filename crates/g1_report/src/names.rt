@@ -1,9 +1,11 @@
 //! What a program calls its roots, its objects and the words in them.
-ghost use Rattle.std.specs.Prelude.{◌≤◌, length};
+ghost use Rattle.std.specs.Prelude.{◌≡◌, ◌≤◌, ◌<◌, [], length, slice_index_or, option_map, IsTrue, None};
+ghost use Rattle.std.specs.List.{position_or_len};
+ghost use Rattle.g1_report.specs.Program.{texts, text_told, kind_told, word_told, type_alone, border, slot_names, data_names, name_of_word, name_from, last_name, before_brackets, is_data, alone};
 
 use crate::comparing::Labels;
 use crate::objects::ObjectWords;
-use crate::places::value_at;
+use crate::places::{entry_at, entry_named, value_at};
 use g1_text::data_word;
 use std::alloc::{AllocError, AllocFailed, Global};
 use std::str;
@@ -74,6 +76,9 @@ impl<T: Drop> From<AllocFailed<T>> for WrongNames {
 }
 
 impl<'a> Names<'a> {
+    ghost use Rattle.std.specs.Prelude.{◌≡◌, option_and_then};
+    ghost use Rattle.g1_report.specs.Program.{program_of, text_told, kind_told, word_told, texts_told, words_text, AreInOrder, at_name, root_name, label_name, text_of_word, kind_by_line, kind_by_label, kind_of_object, type_words, slot_name, data_name};
+
     /// The names in these bytes, of a heap whose objects have these names, if they have names.
     ///
     /// # Errors
@@ -249,98 +254,220 @@ impl<'a> Names<'a> {
     }
 
     /// The name of a root.
-    pub fn root(&self, number: u64) -> Option<&'a str> {
+    pub fn root(&self, number: u64) -> Option<&'a str>
+        ensures { AreInOrder (program_of self.now) → text_told result ≡ root_name (program_of self.now) number }
+    {
         value_at(self.roots.as_slice(), number)
     }
 
     /// The type whose objects have this first data word.
-    pub fn label(&self, word: u64) -> Option<&'a str> {
+    pub fn label(&self, word: u64) -> Option<&'a str>
+        ensures { AreInOrder (program_of self.now) → text_told result ≡ label_name (program_of self.now) word }
+    {
         value_at(self.labels.as_slice(), word)
     }
 
     /// The words of what a data word stands for.
-    pub fn text(&self, word: u64) -> Option<&[&'a str]> {
-        let below = self.texts.partition_point(|(other, _)| *other < word);
-        match self.texts.get(below) {
-            Some((other, text)) if *other == word => Some(text.as_slice()),
-            _ => None,
+    pub fn text(&self, word: u64) -> Option<&[&'a str]>
+        ensures { AreInOrder (program_of self.now) → texts_told result ≡ text_of_word (program_of self.now) word }
+    {
+        match entry_at(self.texts.as_slice(), word) {
+            Some(text) => Some(text.as_slice()),
+            None => None,
         }
     }
 
     // The kind that a line says of the object at an address, by its name if it has one.
-    fn kind_at(&self, address: u64) -> Option<Kind<'a>> {
-        let Some(labels) = self.labels_before else {
-            return value_at(self.objects.as_slice(), address);
-        };
-        let name = value_at(labels, address)?;
-        let below = self.named.partition_point(|(other, _)| *other < name);
-        match self.named.get(below) {
-            Some((other, kind)) if *other == name => Some(*kind),
-            _ => None,
+    fn kind_at(&self, address: u64) -> Option<Kind<'a>>
+        ensures { AreInOrder (program_of self.now) → kind_told result ≡ kind_by_line (program_of self.now).labels_before (program_of self.now) address }
+    {
+        match self.labels_before {
+            Some(labels) => self.kind_named(value_at(labels, address)),
+            None => value_at(self.objects.as_slice(), address),
+        }
+    }
+
+    // The kind of the object of a name, if it has one.
+    fn kind_named(&self, name: Option<&str>) -> Option<Kind<'a>>
+        ensures { AreInOrder (program_of self.now) → kind_told result ≡ option_and_then (at_name (program_of self.now).named) (text_told name.entry) }
+    {
+        match name {
+            Some(name) => entry_named(self.named.as_slice(), name).copied(),
+            None => None,
         }
     }
 
     /// The kind of an object of the heap before: that of its line, or else the type of its first data word.
-    pub fn object(&self, object: &ObjectWords<'_>) -> Option<Kind<'a>> {
-        if let Some(kind) = self.kind_at(object.at) {
-            return Some(kind);
+    pub fn object(&self, object: &ObjectWords<'_>) -> Option<Kind<'a>>
+        ensures { AreInOrder (program_of self.now) → kind_told result ≡ kind_of_object (program_of self.now) (words_text object.now) }
+    {
+        match self.kind_at(object.at) {
+            Some(kind) => Some(kind),
+            None => self.kind_labelled(object.data),
         }
-        let name = self.label(*object.data.first()?)?;
-        Some(Kind { name, note: "" })
+    }
+
+    /// The kind of an object with these data words by the first of them.
+    pub fn kind_labelled(&self, data: &[u64]) -> Option<Kind<'a>>
+        ensures { AreInOrder (program_of self.now) → kind_told result ≡ kind_by_label (program_of self.now) «data».now }
+    {
+        match data {
+            [word, ..] => type_alone(self.label(*word)),
+            [] => None,
+        }
     }
 
     /// The name of a slot of an object of the heap before.
-    pub fn slot(&self, object: &ObjectWords<'_>, slot: u64) -> Option<Word<'a>> {
-        let words = self.words_of(object)?;
-        let (slots, _) = words.split_at(border(words, object.slots.len()));
-        numbered(slots, slot)
+    pub fn slot(&self, object: &ObjectWords<'_>, slot: u64) -> Option<Word<'a>>
+        ensures { AreInOrder (program_of self.now) → word_told result ≡ slot_name (program_of self.now) (words_text object.now) slot }
+    {
+        match self.words_of(object) {
+            Some(words) => numbered(slot_names(words, object.slots.len()), slot),
+            None => None,
+        }
     }
 
     /// The name of a data word of an object of the heap before.
-    pub fn data(&self, object: &ObjectWords<'_>, word: u64) -> Option<Word<'a>> {
-        let words = self.words_of(object)?;
-        let (_, rest) = words.split_at(border(words, object.slots.len()));
-        let (_, data) = rest.split_first()?;
-        numbered(data, word)
+    pub fn data(&self, object: &ObjectWords<'_>, word: u64) -> Option<Word<'a>>
+        ensures { AreInOrder (program_of self.now) → word_told result ≡ data_name (program_of self.now) (words_text object.now) word }
+    {
+        match self.words_of(object) {
+            Some(words) => numbered(data_names(words, object.slots.len()), word),
+            None => None,
+        }
     }
 
     // The words of the line of an object's type, behind `slots`.
-    fn words_of(&self, object: &ObjectWords<'_>) -> Option<&[&'a str]> {
-        let kind = self.object(object)?;
-        let below = self.types.partition_point(|(name, _)| *name < kind.name);
-        match self.types.get(below) {
-            Some((name, words)) if *name == kind.name => Some(words.as_slice()),
-            _ => None,
+    fn words_of(&self, object: &ObjectWords<'_>) -> Option<&[&'a str]>
+        ensures { AreInOrder (program_of self.now) → texts_told result ≡ type_words (program_of self.now) (words_text object.now) }
+    {
+        match self.object(object) {
+            Some(kind) => self.words_of_type(kind.name),
+            None => None,
         }
     }
+
+    // The words of the line of a type, behind `slots`.
+    fn words_of_type(&self, name: &str) -> Option<&[&'a str]>
+        ensures { AreInOrder (program_of self.now) → texts_told result ≡ at_name (program_of self.now).types name.now }
+    {
+        match entry_named(self.types.as_slice(), name) {
+            Some(words) => Some(words.as_slice()),
+            None => None,
+        }
+    }
+}
+
+// A type of which nothing else is said.
+fn type_alone<'a>(name: Option<&'a str>) -> Option<Kind<'a>>
+    ensures { kind_told result ≡ option_map type_alone (text_told name.entry) }
+{
+    match name {
+        Some(name) => Some(Kind { name, note: "" }),
+        None => None,
+    }
+}
+
+// The names of slots among the words of a type.
+fn slot_names<'a, 'b>(words: &'b [&'a str], slots: usize) -> &'b [&'a str]
+    ensures { texts result.now ≡ slot_names (texts words.now) slots }
+{
+    words.split_at(border(words, slots)).0
+}
+
+// The names of data words among the words of a type.
+fn data_names<'a, 'b>(words: &'b [&'a str], slots: usize) -> &'b [&'a str]
+    ensures { texts result.now ≡ data_names (texts words.now) slots }
+{
+    let rest = words.split_at(border(words, slots)).1;
+    rest.split_at(rest.len().min(1)).1
 }
 
 // The place of the word between the names of slots and those of data. A slot may be called `data`, too: so it is the
 // word behind as many names as there are slots, if that is the one.
 fn border(words: &[&str], slots: usize) -> usize
-    ensures { result ≤ length words.now }
+    ensures value { result ≡ border (texts words.now) slots }
+    ensures bound { result ≤ length words.now }
 {
-    if slots < words.len() && words[slots] == "data" {
-        return slots;
-    }
-    match words.iter().position(|word| *word == "data") {
-        Some(place) => place,
-        None => words.len(),
+    if has_data_at(words, slots) {
+        slots
+    } else {
+        first_data(words)
     }
 }
 
-// The name of the word of this number.
-fn numbered<'a>(names: &[&'a str], number: u64) -> Option<Word<'a>> {
-    let (last, before) = names.split_last()?;
-    let count = before.len() as u64;
-    if let (Some(name), Some(number)) = (last.strip_suffix("[]"), number.checked_sub(count)) {
-        return Some(Word {
-            name,
-            number: Some(number),
-        });
+fn has_data_at(words: &[&str], place: usize) -> bool
+    ensures value { result ≡ is_data (slice_index_or (texts words.now) place []) }
+    ensures within { IsTrue result → place < length words.now }
+{
+    match words.get(place) {
+        Some(word) => *word == "data",
+        None => false,
     }
-    let name = names.get(number as usize).copied()?;
-    Some(Word { name, number: None })
+}
+
+// The place of the first `data`, or of the end.
+fn first_data(words: &[&str]) -> usize
+    ensures value { result ≡ position_or_len is_data (texts words.now) }
+    ensures bound { result ≤ length words.now }
+{
+    for place in 0..words.len() {
+        if has_data_at(words, place) {
+            return place;
+        }
+    }
+    words.len()
+}
+
+// The name of the word of this number.
+fn numbered<'a>(names: &[&'a str], number: u64) -> Option<Word<'a>>
+    ensures { word_told result ≡ name_of_word (texts names.now) number }
+{
+    let last = (names.len() as u64).saturating_sub(1);
+    match name_from(names, number) {
+        Some(name) => Some(Word {
+            name,
+            number: Some(number.saturating_sub(last)),
+        }),
+        None => word_alone(names.get(number as usize).copied()),
+    }
+}
+
+fn word_alone<'a>(name: Option<&'a str>) -> Option<Word<'a>>
+    ensures { word_told result ≡ option_map alone (text_told name.entry) }
+{
+    match name {
+        Some(name) => Some(Word { name, number: None }),
+        None => None,
+    }
+}
+
+// The name of all words from the last name on, if the word of this number is one of them.
+fn name_from<'a>(names: &[&'a str], number: u64) -> Option<&'a str>
+    ensures { text_told result ≡ name_from (texts names.now) number }
+{
+    let last = (names.len() as u64).saturating_sub(1);
+    if last <= number {
+        before_brackets(last_name(names))
+    } else {
+        None
+    }
+}
+
+fn last_name<'a>(names: &[&'a str]) -> &'a str
+    ensures { result.now ≡ last_name (texts names.now) }
+{
+    match names.last() {
+        Some(name) => *name,
+        None => "",
+    }
+}
+
+// What stands before `[]` at the end of a name.
+fn before_brackets(name: &str) -> Option<&str>
+    ensures { text_told result ≡ before_brackets name.now }
+{
+    name.strip_suffix("[]")
 }
 
 // A whole number in decimal digits alone. `parse` takes a plus.

@@ -1,14 +1,15 @@
 //! A difference in the names that a program has for it.
+ghost use Rattle.std.specs.Prelude.{◌≡◌, ◌++◌, map, slice_index, string_bytes, OnOk, IfOk};
+ghost use Rattle.g1_report.specs.Program.{program_of, word_told, AreInOrder};
+ghost use Rattle.g1_report.specs.Runs.{grouped};
+ghost use Rattle.g1_report.specs.Gathered.{group_of};
+ghost use Rattle.g1_report.specs.Steps.{object_told, word_in, slot_text, step_text, steps_text, named_path_text};
+
+use crate::grouping::{Group, add_step, push_ends, runs_of};
 use crate::names::{Kind, Names, Word};
-use crate::objects::{ObjectWords, Place};
+use crate::objects::{ObjectWords, object_of};
 use g1_words::Heap;
 use std::alloc::{AllocError, Global};
-
-// From how many equal steps on a path has them once, with their number.
-const RUN: u64 = 3;
-
-// How many steps a path has at each end, if it is cut.
-const END: usize = 20;
 
 /// The steps of a path from a root by the names of the slots: `.first[3].next x 59999 slot 2`. Steps that repeat are
 /// there once, and of many only the first and the last ones.
@@ -19,104 +20,36 @@ pub fn push_named_slots(
     names: &Names<'_>,
     root: u64,
     slots: &[u64],
-) -> Result<(), AllocError> {
-    let mut runs = Vec::new(alloc);
-    add_runs(alloc, &mut runs, heap, names, root, slots)?;
+) -> Result<(), AllocError>
+    ensures { AreInOrder (program_of names.now) → OnOk result (string_bytes text.new ≡ string_bytes text.old ++ named_path_text (program_of names.now) heap.now root slots.now) }
+{
+    let groups = groups_of(alloc, heap, names, root, slots)?;
+    let runs = runs_of(alloc, groups.as_slice())?;
     push_ends(text, runs.as_slice())
 }
 
-// Adds the steps, of many only the first and the last ones.
-fn push_ends(text: &mut String, runs: &[Run]) -> Result<(), AllocError> {
-    let (first, rest) = runs.split_at(runs.len().min(END));
-    let (middle, last) = rest.split_at(rest.len() - rest.len().min(END));
-    let mut apart = push_runs(text, first, false)?;
-    if !middle.is_empty() {
-        let steps = steps_in(middle);
-        write!(text, " .. {steps} steps ..")?;
-        apart = true;
-    }
-    push_runs(text, last, apart)?;
-    Ok(())
-}
-
-fn steps_in(runs: &[Run]) -> u64 {
-    let mut steps = 0u64;
-    for run in runs {
-        steps = steps.saturating_add(run.count);
-    }
-    steps
-}
-
-// A step alone, or one that is repeated at least `RUN` times, and how often it is done.
-#[derive(Drop)]
-struct Run {
-    step: String,
-    count: u64,
-}
-
-fn add_runs(
+// The steps of a path, equal ones in a row once.
+fn groups_of(
     alloc: Global,
-    runs: &mut Vec<Run>,
     heap: &Heap,
     names: &Names<'_>,
     root: u64,
     slots: &[u64],
-) -> Result<(), AllocError> {
-    let mut place = Place::root(heap, root);
+) -> Result<Vec<Group>, AllocError>
+    ensures { AreInOrder (program_of names.now) → IfOk result (λ groups. map group_of groups.items ≡ grouped (steps_text (program_of names.now) heap.now root slots.now)) }
+{
+    g1_words::laws::valid(heap);
+    let mut groups = Vec::new(alloc);
     let mut step = String::new(alloc);
+    let mut word = word_of(heap.roots(), root);
     for slot in slots {
+        let object = object_of(heap, word);
         step.clear();
-        push_step(&mut step, names, place.object(), *slot)?;
-        add_step(alloc, runs, step.as_str())?;
-        place = place.slot(*slot);
+        push_step(&mut step, names, object, *slot)?;
+        add_step(alloc, &mut groups, step.as_str())?;
+        word = word_in(object, *slot);
     }
-    Ok(())
-}
-
-// The third of equal steps makes one run of the two before it, each of which was alone.
-fn add_step(alloc: Global, runs: &mut Vec<Run>, step: &str) -> Result<(), AllocError> {
-    let is_third = is_pair(runs.as_slice(), step);
-    if is_third {
-        runs.pop();
-    }
-    if let Some(run) = runs.last_mut() {
-        if is_third {
-            run.count = RUN;
-            return Ok(());
-        }
-        if run.count >= RUN && run.step.as_str() == step {
-            run.count = run.count.saturating_add(1);
-            return Ok(());
-        }
-    }
-    let step = String::from_str(alloc, step)?;
-    runs.push(Run { step, count: 1 })?;
-    Ok(())
-}
-
-// Whether the last two runs are of this step.
-fn is_pair(runs: &[Run], step: &str) -> bool {
-    match runs {
-        [.., first, second] => first.step.as_str() == step && second.step.as_str() == step,
-        _ => false,
-    }
-}
-
-// Behind a number, or behind dots, a step begins with a space. Returns whether the last run ends with a number.
-fn push_runs(text: &mut String, runs: &[Run], apart: bool) -> Result<bool, AllocError> {
-    let mut apart = apart;
-    for run in runs {
-        let Run { step, count } = run;
-        if apart && !step.starts_with(' ') {
-            text.push(' ')?;
-        }
-        text.push_str(step.as_str())?;
-        apart = *count >= RUN;
-        if apart {
-            write!(text, " x {count}")?;
-        }
-    }
-    Ok(apart)
+    Ok(groups)
 }
 
 // The step from an object by a slot.
@@ -125,11 +58,20 @@ fn push_step(
     names: &Names<'_>,
     object: Option<ObjectWords<'_>>,
     slot: u64,
-) -> Result<(), AllocError> {
+) -> Result<(), AllocError>
+    ensures { AreInOrder (program_of names.now) → OnOk result (string_bytes text.new ≡ string_bytes text.old ++ step_text (program_of names.now) (object_told object.entry) slot) }
+{
     let name = match object {
         Some(object) => names.slot(&object, slot),
         None => None,
     };
+    push_slot(text, name, slot)
+}
+
+// A slot by its name, or by its number if it has none.
+fn push_slot(text: &mut String, name: Option<Word<'_>>, slot: u64) -> Result<(), AllocError>
+    ensures { OnOk result (string_bytes text.new ≡ string_bytes text.old ++ slot_text (word_told name.entry) slot) }
+{
     let Some(Word { name, number }) = name else {
         return write!(text, " slot {slot}");
     };
@@ -139,6 +81,23 @@ fn push_step(
     match number {
         Some(number) => write!(text, "[{number}]"),
         None => Ok(()),
+    }
+}
+
+// The word of this number, or null if there is none.
+fn word_of(words: &[u64], number: u64) -> u64
+    ensures { result ≡ slice_index words.now number }
+{
+    words.get(number as usize).copied().unwrap_or(0)
+}
+
+// The reference word in a slot of an object, or null if there is none.
+fn word_in(object: Option<ObjectWords<'_>>, slot: u64) -> u64
+    ensures { result ≡ word_in (object_told object.entry) slot }
+{
+    match object {
+        Some(object) => word_of(object.slots, slot),
+        None => 0,
     }
 }
 

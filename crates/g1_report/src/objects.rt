@@ -1,5 +1,10 @@
 //! The objects of a heap by the words that reference them.
-use g1_words::{Heap, data, slots};
+ghost use Rattle.std.specs.Prelude.{◌≡◌, ◌<◌, ◌≤◌, ◌+◌, Some, Contains, option_map, IsTrue, IsFalse};
+ghost use Rattle.g1_words.specs.Heap.{objects, object_at};
+ghost use Rattle.g1_words.specs.Valid.{IsReference};
+ghost use Rattle.g1_report.specs.Program.{words_text, words_at, object_of};
+
+use g1_words::{Heap, Object, data, laws, slots};
 
 /// An object, with its slots and its data words.
 #[derive(Clone, Copy)]
@@ -10,12 +15,25 @@ pub struct ObjectWords<'a> {
 }
 
 /// The object that a word references, or none if the word is null.
-pub fn object_of<'a>(heap: &'a Heap, word: u64) -> Option<ObjectWords<'a>> {
-    let at = word.checked_sub(1)?;
-    let laid = heap.words().laid();
-    let length = laid.len() as u64;
-    let object = heap.words().header(at);
-    if at < length && object.refs < object.size && object.size <= length - at {
+pub fn object_of<'a>(heap: &'a Heap, word: u64) -> Option<ObjectWords<'a>>
+    ensures { IsReference heap.now word → option_map words_text result ≡ object_of heap.now word }
+{
+    laws::valid(heap);
+    match word.checked_sub(1) {
+        Some(at) => words_at(heap, at),
+        None => None,
+    }
+}
+
+/// The words of the object at an address, if one is there.
+pub fn words_at<'a>(heap: &'a Heap, at: u64) -> Option<ObjectWords<'a>>
+    ensures { Contains (objects heap.now) (object_at heap.now at) → option_map words_text result ≡ Some (words_at heap.now at) }
+{
+    laws::valid(heap);
+    let words = heap.words();
+    let laid = words.laid();
+    let object = words.header(at);
+    if fits(&object, laid.len() as u64) {
         let (slots, data) = (slots(laid, &object), data(laid, &object));
         Some(ObjectWords { at, slots, data })
     } else {
@@ -23,39 +41,10 @@ pub fn object_of<'a>(heap: &'a Heap, word: u64) -> Option<ObjectWords<'a>> {
     }
 }
 
-/// Where a reference word is: a root, or a slot of an object.
-#[derive(Clone, Copy)]
-pub struct Place<'a> {
-    heap: &'a Heap,
-    words: &'a [u64],
-    number: u64,
-}
-
-impl<'a> Place<'a> {
-    /// The root of this number.
-    pub fn root(heap: &'a Heap, number: u64) -> Place<'a> {
-        Place {
-            heap,
-            words: heap.roots(),
-            number,
-        }
-    }
-
-    /// The slot of this number of the object that is referenced here.
-    pub fn slot(self, number: u64) -> Place<'a> {
-        let words = match self.object() {
-            Some(object) => object.slots,
-            None => &[],
-        };
-        Place {
-            heap: self.heap,
-            words,
-            number,
-        }
-    }
-
-    /// The object that is referenced here, if the word isn't null.
-    pub fn object(self) -> Option<ObjectWords<'a>> {
-        object_of(self.heap, *self.words.get(self.number as usize)?)
-    }
+// Whether all words of an object are among so many.
+fn fits(object: &Object, words: u64) -> bool
+    ensures fits { IsTrue result → (object.now.refs < object.now.size) × (object.now.at + object.now.size ≤ words) }
+    ensures passes { IsFalse result → object.now.refs < object.now.size → object.now.at + object.now.size ≤ words → ⊥ }
+{
+    object.refs < object.size && object.size <= words.saturating_sub(object.at)
 }

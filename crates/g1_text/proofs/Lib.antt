@@ -1,5 +1,6 @@
 pub mod Results
 pub mod Ends
+pub mod Numbered
 pub mod Numbers
 pub mod Windows
 pub mod Taking

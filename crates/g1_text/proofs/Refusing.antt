@@ -15,13 +15,14 @@ use Rattle.g1_text.specs.declared.expected.Refusal.{Refusal}
 use Rattle.g1_text.specs.declared.expected.Refusal.TheVariants.{Expected, Memory}
 use Rattle.g1_text.specs.declared.expected.Wrong.{Wrong}
 use Rattle.g1_text.specs.declared.expected.Wrong.TheVariants.{Line, Fault}
-use Rattle.g1_text.specs.Reading.{words_in, says_something, parts_of, lines_in}
+use Rattle.g1_text.specs.Reading.{words_in, says_something, parts_of, lines_in, HasLines}
 use Rattle.g1_text.specs.Forms.{ImageHeading, ImageLine, HaveForms, HasMeaning}
-use Rattle.g1_text.specs.Content.{Content}
-use Rattle.g1_text.specs.Short.{Tells, TellsAll}
+use Rattle.g1_text.specs.Content.{Content, Agrees}
+use Rattle.g1_text.specs.Short.{Tells, TellsAll, Closes}
 use Rattle.g1_text.specs.Drafts.{form_after, IsTaken, AreTaken}
 use Rattle.g1_text.specs.Refused.{IsLineOrMemory}
-use Rattle.g1_text.specs.Reported.{IsFirstWrongLine, IsLastLine, IsFirstWrong, IsReported, Reports}
+use Rattle.g1_text.specs.Late.{LineNumbers, numbers_in, IsLateLine, IsLate}
+use Rattle.g1_text.specs.Reported.{IsFirstWrongLine, IsLastLine, IsFirstWrong, IsReported, IsReportedLate, Reports}
 use Rattle.g1_text.proofs.Turns.{lines_of, at_err}
 
 -- so many lines were read, and these are left: what the lines above say is said now
@@ -131,13 +132,28 @@ reports_early bytes (Line n e) (inl f) = inl f
 reports_early bytes (Line n e) (inr l) = inr (inl l)
 reports_early bytes (Fault f) m = m
 
-pub reports_late : (bytes : List ℕ) (w : Wrong) → IsLineOrMemory w → HasMeaning ImageHeading ImageLine bytes → Reports bytes w
-reports_late bytes (Line n e) line all = inr (inr all)
-reports_late bytes (Fault f) m all = m
+-- a line or memory is late for what agrees
+pub agreed_late : (lines : LineNumbers) (d : Content) (w : Wrong) → Agrees d → IsLineOrMemory w → IsLate lines d w
+agreed_late lines d (Line n e) agrees line = inr (inr agrees)
+agreed_late lines d (Fault f) agrees m = m
 
-pub all_late : {T : Type 0} (bytes : List ℕ) (r : Result T Wrong) → IfErr r IsLineOrMemory → HasMeaning ImageHeading ImageLine bytes → IfErr r (Reports bytes)
-all_late bytes (Ok x) line all = tt
-all_late bytes (Err w) line all = reports_late bytes w line all
+module _ (bytes : List ℕ) (lines : LineNumbers) (d : Content) (all : HasMeaning ImageHeading ImageLine bytes) (numbered : lines ≡ numbers_in (parts_of bytes))
+    (read : (told c : Content) → HasLines bytes (lines_in bytes) → TellsAll None (lines_in bytes) (Some told) → Closes told c → d ≡ c) where
+  reported_late : (n : ℕ) → (d.covered ≡ false → IsLateLine lines d n) → IsReportedLate bytes n
+  reported_late n late = record {
+    forms = all;
+    late = λ told c tells closes plain.
+        let same = read told c (record { utf8 = all.utf8; same = refl }) tells closes in
+        subst (λ x. IsLateLine x c n) numbered (subst (λ x. IsLateLine lines x n) same (late (ap (λ (x : Content). x.covered) same ∙ plain)));
+  }
+
+  reports_late : (w : Wrong) → IsLineOrMemory w → (d.covered ≡ false → IsLate lines d w) → Reports bytes w
+  reports_late (Line n e) line late = inr (inr (reported_late n late))
+  reports_late (Fault f) m late = m
+
+  pub all_late : {T : Type 0} (r : Result T Wrong) → IfErr r IsLineOrMemory → (d.covered ≡ false → IfErr r (IsLate lines d)) → IfErr r (Reports bytes)
+  all_late (Ok x) line late = tt
+  all_late (Err w) line late = reports_late w line late
 
 -- NO LINE SAYS ANYTHING
 still_taken : (lines : List (List (List ℕ))) → AreTaken ImageHeading ImageLine true lines false → ⊥

@@ -13,5 +13,6 @@ pub mod Carried
 pub mod Filled
 pub mod Renamed
 pub mod RenamedExample
+pub mod Late
 pub mod Reported
 pub mod Short

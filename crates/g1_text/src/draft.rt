@@ -77,7 +77,7 @@ impl Draft {
     ghost use Rattle.g1_words.specs.declared.region.Region.{Region as RegionOf};
     ghost use Rattle.g1_words.specs.declared.region.Kind.TheVariants.{Continuation};
     ghost use Rattle.g1_text.specs.Content.{begun, HasSpace, top_behind, beyond_behind};
-    ghost use Rattle.g1_text.specs.Drafts.{content, Becomes};
+    ghost use Rattle.g1_text.specs.Drafts.{content, numbers, Becomes};
     ghost use Rattle.g1_text.specs.Laid.{AreLaid, IsLaid, IsLaidOut, laid_content};
 
     /// A heap of these sizes with nothing in it.
@@ -87,7 +87,8 @@ impl Draft {
         current: Option<u32>,
         heading: Heading,
     ) -> Result<Draft, Refusal>
-        ensures { MatchResult result (λ d. content d ≡ begun geometry current heading.roots heading.dirty) (λ e. e ≡ Refusal.Memory) }
+        ensures says { MatchResult result (λ d. content d ≡ begun geometry current heading.roots heading.dirty) (λ e. e ≡ Refusal.Memory) }
+        ensures lines { IfOk result (λ d. numbers d ≡ record { headings = heading.line ∷ []; roots = []; regions = []; objects = [] }) }
     {
         let count = geometry.regions() as usize;
         let remembered = empty_remembered(alloc, count)?;
@@ -130,6 +131,7 @@ impl Draft {
     pub(crate) fn fill_up_to(&mut self, region: u64) -> Result<(), AllocError>
         ensures same { region ≤ length (content self.old).regions → OnOk result (content self.new ≡ content self.old) }
         ensures free { length (content self.old).regions ≤ region → OnOk result (content self.new ≡ record (content self.old) { regions = (content self.old).regions ++ replicate (region - length (content self.old).regions) free_region }) }
+        ensures lines { OnOk result (numbers self.new ≡ numbers self.old) }
     {
         for _ in self.regions.len() as u64..region {
             self.add_empty(Kind::Free)?;
@@ -139,7 +141,8 @@ impl Draft {
 
     /// Adds a region of a kind with nothing in it.
     pub(crate) fn add_empty(&mut self, kind: Kind) -> Result<(), AllocError>
-        ensures { OnOk result (content self.new ≡ record (content self.old) { regions = (content self.old).regions ++ record { kind = kind; top = 0; pinned = false } ∷ [] }) }
+        ensures says { OnOk result (content self.new ≡ record (content self.old) { regions = (content self.old).regions ++ record { kind = kind; top = 0; pinned = false } ∷ [] }) }
+        ensures lines { OnOk result (numbers self.new ≡ numbers self.old) }
     {
         self.regions.push(Region {
             kind,
@@ -151,7 +154,8 @@ impl Draft {
 
     /// Adds a region in which the humongous object above it goes on.
     pub(crate) fn continue_run(&mut self) -> Result<(), AllocError>
-        ensures { OnOk result (content self.new ≡ record (content self.old) { regions = (content self.old).regions ++ record { kind = Kind.Continuation; top = min self.old.geometry.w self.old.beyond; pinned = false } ∷ []; beyond = self.old.beyond - min self.old.geometry.w self.old.beyond }) }
+        ensures says { OnOk result (content self.new ≡ record (content self.old) { regions = (content self.old).regions ++ record { kind = Kind.Continuation; top = min self.old.geometry.w self.old.beyond; pinned = false } ∷ []; beyond = self.old.beyond - min self.old.geometry.w self.old.beyond }) }
+        ensures lines { OnOk result (numbers self.new ≡ numbers self.old) }
     {
         let words = self.geometry.region_words().min(self.beyond);
         self.beyond -= words;
@@ -165,7 +169,8 @@ impl Draft {
 
     // The next region, if a humongous object goes on in it.
     fn continue_next(&mut self) -> Result<(), Refusal>
-        ensures { 0 < self.old.beyond → Becomes result (content self.new) (record (content self.old) { regions = (content self.old).regions ++ record { kind = Kind.Continuation; top = min self.old.geometry.w self.old.beyond; pinned = false } ∷ []; beyond = self.old.beyond - min self.old.geometry.w self.old.beyond }) }
+        ensures says { 0 < self.old.beyond → Becomes result (content self.new) (record (content self.old) { regions = (content self.old).regions ++ record { kind = Kind.Continuation; top = min self.old.geometry.w self.old.beyond; pinned = false } ∷ []; beyond = self.old.beyond - min self.old.geometry.w self.old.beyond }) }
+        ensures lines { OnOk result (numbers self.new ≡ numbers self.old) }
     {
         if self.beyond == 0 {
             return Err(Refusal::Expected(Expected::NoContinuation));
@@ -176,7 +181,8 @@ impl Draft {
 
     /// Adds the regions up to this one, in which the humongous object above them goes on.
     pub(crate) fn continue_run_to(&mut self, region: u64) -> Result<(), Refusal>
-        ensures { region ≡ length (content self.old).regions → 0 < self.old.beyond → Becomes result (content self.new) (record (content self.old) { regions = (content self.old).regions ++ record { kind = Kind.Continuation; top = min self.old.geometry.w self.old.beyond; pinned = false } ∷ []; beyond = self.old.beyond - min self.old.geometry.w self.old.beyond }) }
+        ensures says { region ≡ length (content self.old).regions → 0 < self.old.beyond → Becomes result (content self.new) (record (content self.old) { regions = (content self.old).regions ++ record { kind = Kind.Continuation; top = min self.old.geometry.w self.old.beyond; pinned = false } ∷ []; beyond = self.old.beyond - min self.old.geometry.w self.old.beyond }) }
+        ensures lines { OnOk result (numbers self.new ≡ numbers self.old) }
     {
         for _ in self.regions.len() as u64..region {
             self.continue_next()?;
@@ -188,6 +194,7 @@ impl Draft {
     pub(crate) fn close_run(&mut self) -> Result<(), AllocError>
         ensures same { self.old.beyond ≡ 0 → OnOk result (content self.new ≡ content self.old) }
         ensures laid { (g : GeometryOf) (os : List Object) (regions : List RegionOf) (beyond : ℕ) → IsWithinBounds g.w g.k g.n → AreLaid g regions beyond os → content self.old ≡ laid_content g regions beyond → OnOk result (IsLaid g os (content self.new)) }
+        ensures lines { OnOk result (numbers self.new ≡ numbers self.old) }
     {
         for _ in 0..self.geometry.regions() {
             if self.beyond == 0 {
@@ -200,14 +207,16 @@ impl Draft {
 
     /// Adds regions as `close_run` does. A line needs less of its contract than a layout.
     pub(crate) fn end_run(&mut self) -> Result<(), AllocError>
-        ensures { self.old.beyond ≡ 0 → OnOk result (content self.new ≡ content self.old) }
+        ensures says { self.old.beyond ≡ 0 → OnOk result (content self.new ≡ content self.old) }
+        ensures lines { OnOk result (numbers self.new ≡ numbers self.old) }
     {
         self.close_run()
     }
 
     /// Adds regions as `fill_up_to` does. A line needs less of its contract than a layout.
     pub(crate) fn free_up_to(&mut self, region: u64) -> Result<(), AllocError>
-        ensures { region ≤ length (content self.old).regions → OnOk result (content self.new ≡ content self.old) }
+        ensures says { region ≤ length (content self.old).regions → OnOk result (content self.new ≡ content self.old) }
+        ensures lines { OnOk result (numbers self.new ≡ numbers self.old) }
     {
         self.fill_up_to(region)
     }
@@ -217,6 +226,7 @@ impl Draft {
         ensures same { self.old.beyond ≡ 0 → self.old.geometry.n ≤ length (content self.old).regions → OnOk result (content self.new ≡ content self.old) }
         ensures free { self.old.beyond ≡ 0 → length (content self.old).regions ≤ self.old.geometry.n → OnOk result (content self.new ≡ record (content self.old) { regions = (content self.old).regions ++ replicate (self.old.geometry.n - length (content self.old).regions) free_region }) }
         ensures laid { (g : GeometryOf) (os : List Object) → IsLaid g os (content self.old) → OnOk result (IsLaidOut g os (content self.new)) }
+        ensures lines { OnOk result (numbers self.new ≡ numbers self.old) }
     {
         self.close_run()?;
         let regions = self.geometry.regions();
@@ -229,6 +239,7 @@ impl Draft {
         ensures kept { IfErr result (λ _. content self.new ≡ content self.old) }
         ensures taken { length (content self.old).regions ≤ self.old.geometry.n → All (λ q. q.top ≤ self.old.geometry.w) (content self.old).regions → OnOk result ((below : List RegionOf) × (q : RegionOf) × ((content self.old).regions ≡ below ++ q ∷ []) × HasSpace q.kind self.old.geometry (length below) q.top size × (content self.new ≡ record (content self.old) { regions = below ++ record q { top = top_behind q.kind self.old.geometry q.top size } ∷ []; beyond = beyond_behind q.kind self.old.geometry self.old.beyond size })) }
         ensures room { (below : List RegionOf) (q : RegionOf) → (content self.old).regions ≡ below ++ q ∷ [] → length below < self.old.geometry.n → size < 2 ^ 32 → HasSpace q.kind self.old.geometry (length below) q.top size → (result ≡ Ok tt) × (content self.new ≡ record (content self.old) { regions = below ++ record q { top = top_behind q.kind self.old.geometry q.top size } ∷ []; beyond = beyond_behind q.kind self.old.geometry self.old.beyond size }) }
+        ensures lines { OnOk result (numbers self.new ≡ numbers self.old) }
     {
         let Some((last, below)) = self.regions.split_last() else {
             return Err(Expected::NoObject);

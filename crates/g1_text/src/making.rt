@@ -8,7 +8,8 @@ ghost use Rattle.g1_text.specs.Forms.{ImageHeading, ImageLine, HasMeaning};
 ghost use Rattle.g1_text.specs.Content.{Content, IsClosed, IsContentOf, SaysAll, SaysImage, file_with};
 ghost use Rattle.g1_text.specs.Short.{TellsAll, TellsImage, Closes};
 ghost use Rattle.g1_text.specs.Counted.{IsMadeOf};
-ghost use Rattle.g1_text.specs.Drafts.{content};
+ghost use Rattle.g1_text.specs.Drafts.{content, numbers};
+ghost use Rattle.g1_text.specs.Late.{IsLate};
 ghost use Rattle.g1_text.specs.Refused.{IsLineOrMemory};
 ghost use Rattle.g1_text.specs.Reported.{Reports};
 
@@ -49,6 +50,7 @@ fn finish(alloc: Global, draft: &mut Draft) -> Result<Vec<u8>, Wrong>
     ensures fault { IfErr result IsLineOrMemory }
     ensures text { (i : ImageOf) → IsContentOf (content draft.old) i → MatchResult result (λ v. IsTextIn Two v.items i) (λ e. e ≡ Wrong.Fault Fault.Memory) }
     ensures only { draft.old.covered ≡ false → CountsFit (file_with (content draft.old)) → IfOk result (λ v. IsMadeOf (content draft.old) v.items) }
+    ensures late { draft.old.covered ≡ false → IfErr result (IsLate (numbers draft.old) (content draft.old)) }
 {
     if draft.covered {
         cover(draft)?;
@@ -61,6 +63,7 @@ fn check_and_pack(alloc: Global, draft: &Draft) -> Result<Vec<u8>, Wrong>
     ensures fault { IfErr result IsLineOrMemory }
     ensures text { (i : ImageOf) → IsContentOf (content draft.now) i → MatchResult result (λ v. IsTextIn Two v.items i) (λ e. e ≡ Wrong.Fault Fault.Memory) }
     ensures only { CountsFit (file_with (content draft.now)) → IfOk result (λ v. IsMadeOf (content draft.now) v.items) }
+    ensures late { IfErr result (IsLate (numbers draft.now) (content draft.now)) }
 {
     settle(draft)?;
     let bytes = pack(alloc, draft)?;

@@ -9,7 +9,8 @@ ghost use Rattle.g1_text.specs.Reading.{words_in, says_something, parts_of, line
 ghost use Rattle.g1_text.specs.Forms.{ImageHeading, ImageLine, RootLine, DirtyLine, CoveredLine, RegionLine, RememberedLine, ObjectLine, HasMeaning, Form, Spells, IsBelow, IsDataWord, HasSize, IsReferenceWord, Number, Single, Many, Maybe, Labelled, Current, Cards, Holding, Pinned, ◌▸◌, HasFront, HasFirst, HasValues};
 ghost use Rattle.g1_text.specs.Content.{Content, Counts, Root, Dirty, Remembered, words_of, Takes, MayFollow, with_region, one_found};
 ghost use Rattle.g1_text.specs.Short.{Short, RegionAs, ObjectAs, Fits, IsZeroFrom, IsCurrentPart, labelled_words, counts_words, abridged, short_words, Gives, BeginsShort, Tells, TellsAll, Closes};
-ghost use Rattle.g1_text.specs.Drafts.{content, counts_of, Becomes, said, IsTaken, AreTaken};
+ghost use Rattle.g1_text.specs.Late.{numbers_in};
+ghost use Rattle.g1_text.specs.Drafts.{content, counts_of, line_of_region, numbers, numbers_read, with_line, Becomes, said, IsTaken, AreTaken};
 ghost use Rattle.g1_text.specs.Refused.{IsLineOrMemory};
 ghost use Rattle.g1_text.specs.Reported.{IsFirstWrong, IsReported};
 
@@ -27,6 +28,7 @@ pub(crate) fn read(alloc: Global, text: &[u8]) -> Result<Draft, Wrong>
     ensures says { (lines : List (List (List ℕ))) (told c : Content) → HasLines text.now lines → TellsAll None lines (Some told) → Closes told c → MatchResult result (λ d. content d ≡ c) (λ e. e ≡ Wrong.Fault Fault.Memory) }
     ensures known { OnOk result (HasMeaning ImageHeading ImageLine text.now) }
     ensures reports { IfErr result (IsReported text.now) }
+    ensures lines { IfOk result (λ d. numbers d ≡ numbers_in (parts_of text.now)) }
 {
     let mut draft = None;
     let parts = read_lines(alloc, &mut draft, text)?;
@@ -44,6 +46,7 @@ fn read_lines(alloc: Global, draft: &mut Option<Draft>, text: &[u8]) -> Result<u
     ensures known { OnOk result (All IsUtf8 (parts_of text.now) × AreTaken ImageHeading ImageLine (is_some (said draft.old)) (lines_in text.now) (is_some (said draft.new))) }
     ensures count { said draft.old ≡ None → IfOk result (λ n. n ≡ length (parts_of text.now)) }
     ensures reports { said draft.old ≡ None → IfErr result (IsFirstWrong text.now) }
+    ensures lines { said draft.old ≡ None → OnOk result (numbers_read draft.new ≡ numbers_in (parts_of text.now)) }
 {
     let mut number = 0u64;
     let mut words = Vec::new(alloc);
@@ -96,6 +99,7 @@ fn read_line<'a>(
     ensures nothing { IsUtf8 line.now → says_something (words_in line.now) ≡ false → MatchResult result (λ _. said draft.new ≡ said draft.old) (λ e. e ≡ Refusal.Memory) }
     ensures utf8 { OnOk result (IsUtf8 line.now) }
     ensures known { says_something (words_in line.now) ≡ true → OnOk result (IsTaken ImageHeading ImageLine (is_some (said draft.old)) (words_in line.now) (is_some (said draft.new))) }
+    ensures lines { OnOk result (numbers_read draft.new ≡ with_line (numbers_read draft.old) number (words_in line.now)) }
 {
     let Ok(line) = str::from_utf8(line) else {
         return Err(Refusal::Expected(Expected::Text));
@@ -114,6 +118,7 @@ fn read_words(
     ensures says { (c : Content) → says_something words.entry ≡ true → Tells (said draft.old) words.entry c → MatchResult result (λ _. said draft.new ≡ Some c) (λ e. e ≡ Refusal.Memory) }
     ensures nothing { says_something words.entry ≡ false → MatchResult result (λ _. said draft.new ≡ said draft.old) (λ e. e ≡ Refusal.Memory) }
     ensures known { says_something words.entry ≡ true → OnOk result (IsTaken ImageHeading ImageLine (is_some (said draft.old)) words.entry (is_some (said draft.new))) }
+    ensures lines { OnOk result (numbers_read draft.new ≡ with_line (numbers_read draft.old) number words.entry) }
 {
     let Some(first) = words.next() else {
         return Ok(());
@@ -134,6 +139,7 @@ fn begin_or_add(
 ) -> Result<(), Refusal>
     ensures says { (c : Content) → Tells (said draft.old) (first.now ∷ words.entry) c → MatchResult result (λ _. said draft.new ≡ Some c) (λ e. e ≡ Refusal.Memory) }
     ensures known { OnOk result (IsTaken ImageHeading ImageLine (is_some (said draft.old)) (first.now ∷ words.entry) (is_some (said draft.new))) }
+    ensures lines { OnOk result (numbers_read draft.new ≡ with_line (numbers_read draft.old) number (first.now ∷ words.entry)) }
 {
     match draft {
         Some(draft) => draft.add(first, words, number),
@@ -148,6 +154,7 @@ fn begin_or_add(
 fn begin(alloc: Global, first: &str, mut words: Words<'_>, line: u64) -> Result<Draft, Refusal>
     ensures says { (c : Content) → BeginsShort (first.now ∷ words.entry) c → MatchResult result (λ d. content d ≡ c) (λ e. e ≡ Refusal.Memory) }
     ensures form { OnOk result (ImageHeading (first.now ∷ words.entry)) }
+    ensures lines { IfOk result (λ d. numbers d ≡ with_line (numbers_read None) line (first.now ∷ words.entry)) }
 {
     if first != "heap" {
         return Err(Refusal::Expected(Expected::Heading));
@@ -191,6 +198,7 @@ pub(crate) fn sizes(words: &mut Words<'_>) -> Result<HeapSizes, Expected>
 fn heading(mut words: Words<'_>, line: u64) -> Result<(Heading, Option<u32>), Expected>
     ensures form { OnOk result ((Labelled (codes "roots") ▸ Labelled (codes "dirty") ▸ Current) words.entry) }
     ensures short { (roots dirty c : Option ℕ) (behind : List (List ℕ)) → Fits roots → Fits dirty → IfSome c (λ r. r < 2 ^ 32) → IsCurrentPart c behind → words.entry ≡ labelled_words (codes "roots") roots ++ (labelled_words (codes "dirty") dirty ++ behind) → result ≡ Ok (record { line = line; roots = roots; dirty = dirty }, c) }
+    ensures line { IfOk result (λ p. p.0.line ≡ line) }
 {
     let roots = words.take_named("roots")?;
     let dirty = words.take_named("dirty")?;
@@ -229,6 +237,7 @@ impl Draft {
     fn add(&mut self, first: &str, words: Words<'_>, line: u64) -> Result<(), Refusal>
         ensures says { (l : Short) (c : Content) → first.now ∷ words.entry ≡ short_words l → Gives (content self.old) l c → Becomes result (content self.new) c }
         ensures form { OnOk result (ImageLine (first.now ∷ words.entry)) }
+        ensures lines { OnOk result (numbers self.new ≡ with_line (numbers self.old) line (first.now ∷ words.entry)) }
     {
         match first {
             "root" => self.add_root(words, line),
@@ -246,6 +255,7 @@ impl Draft {
         ensures form { OnOk result (RootLine (codes "root" ∷ words.entry)) }
         ensures full { (m x : ℕ) (c : Content) → codes "root" ∷ words.entry ≡ words_of (Root m x) → Takes (content self.old) (Root m x) c → Becomes result (content self.new) c }
         ensures bare { (m x : ℕ) (c : Content) → words.entry ≡ reference_word x ∷ [] → Takes (content self.old) (Root m x) c → Becomes result (content self.new) c }
+        ensures lines { OnOk result (numbers self.new ≡ record (numbers self.old) { roots = (numbers self.old).roots ++ line ∷ [] }) }
     {
         let next = self.roots.len() as u64;
         let most = u64::from(MOST_ROOTS);
@@ -262,6 +272,7 @@ impl Draft {
     fn add_dirty(&mut self, words: Words<'_>, line: u64) -> Result<(), Refusal>
         ensures form { OnOk result (DirtyLine (codes "dirty" ∷ words.entry)) }
         ensures full { (cards : List ℕ) (c : Content) → codes "dirty" ∷ words.entry ≡ words_of (Dirty cards) → Takes (content self.old) (Dirty cards) c → Becomes result (content self.new) c }
+        ensures lines { OnOk result (numbers self.new ≡ numbers self.old) }
     {
         add_cards(words, &mut self.log)?;
         self.lines.log.resize(self.log.len(), line)?;
@@ -272,6 +283,7 @@ impl Draft {
     fn cover(&mut self, words: Words<'_>) -> Result<(), Refusal>
         ensures form { OnOk result (CoveredLine (codes "covered" ∷ words.entry)) }
         ensures said { words.entry ≡ [] → (result ≡ Ok tt) × (content self.new ≡ record (content self.old) { covered = true }) }
+        ensures lines { OnOk result (numbers self.new ≡ numbers self.old) }
     {
         words.end()?;
         self.covered = true;
@@ -282,6 +294,7 @@ impl Draft {
     fn add_remembered(&mut self, mut words: Words<'_>, line: u64) -> Result<(), Refusal>
         ensures form { OnOk result (RememberedLine (codes "remembered" ∷ words.entry)) }
         ensures full { (r : ℕ) (cards : List ℕ) (c : Content) → codes "remembered" ∷ words.entry ≡ words_of (Remembered r cards) → Takes (content self.old) (Remembered r cards) c → Becomes result (content self.new) c }
+        ensures lines { OnOk result (numbers self.new ≡ numbers self.old) }
     {
         let region = words.number("region")?;
         let last = self.geometry.regions().saturating_sub(1);
@@ -297,6 +310,7 @@ impl Draft {
     fn add_region(&mut self, mut words: Words<'_>, line: u64) -> Result<(), Refusal>
         ensures form { OnOk result (RegionLine (codes "region" ∷ words.entry)) }
         ensures short { (r : Option ℕ) (k : KindOf) (t o m : Option ℕ) (p : Bool) (c : Content) → codes "region" ∷ words.entry ≡ short_words (RegionAs r k t o m p) → Gives (content self.old) (RegionAs r k t o m p) c → Becomes result (content self.new) c }
+        ensures lines { OnOk result (numbers self.new ≡ record (numbers self.old) { regions = (numbers self.old).regions ++ line ∷ [] }) }
     {
         let told = words.take_number();
         let kind = region_kind(&mut words)?;
@@ -312,6 +326,7 @@ impl Draft {
     fn begin_region(&mut self, told: Option<u64>, kind: Kind) -> Result<usize, Refusal>
         ensures told { told ≡ Some (length (content self.old).regions) → length (content self.old).regions < self.old.geometry.n → MayFollow (content self.old) kind → MatchResult result (λ r. (r ≡ length (content self.old).regions) × (content self.new ≡ with_region (content self.old) kind)) (λ e. e ≡ Refusal.Memory) }
         ensures next { told ≡ None → length (content self.old).regions < self.old.geometry.n → MayFollow (content self.old) kind → MatchResult result (λ r. (r ≡ length (content self.old).regions) × (content self.new ≡ with_region (content self.old) kind)) (λ e. e ≡ Refusal.Memory) }
+        ensures lines { OnOk result (numbers self.new ≡ numbers self.old) }
     {
         if !kind.is_continuation() {
             self.end_run()?;
@@ -341,6 +356,7 @@ impl Draft {
     fn add_object(&mut self, mut words: Words<'_>, line: u64) -> Result<(), Refusal>
         ensures form { OnOk result (ObjectLine (codes "object" ∷ words.entry)) }
         ensures short { (at : Option ℕ) (slots values : List ℕ) (given : Option ℕ) (c : Content) → codes "object" ∷ words.entry ≡ short_words (ObjectAs at slots values given) → Gives (content self.old) (ObjectAs at slots values given) c → Becomes result (content self.new) c }
+        ensures lines { OnOk result (numbers self.new ≡ record (numbers self.old) { objects = (numbers self.old).objects ++ line ∷ [] }) }
     {
         let told = words.take_number();
         let (size, slots) = size(&mut words)?;
@@ -377,7 +393,8 @@ fn set_pinned(regions: &mut Vec<Region>, pinned: bool)
 
 // An object more in the last region that has a line.
 fn count_object(regions: &mut Vec<Told>)
-    ensures { (earlier : List Counts) (last : Counts) → map counts_of regions.old.items ≡ earlier ++ last ∷ [] → last.found + 1 < 2 ^ 64 → map counts_of regions.new.items ≡ earlier ++ one_found last ∷ [] }
+    ensures counts { (earlier : List Counts) (last : Counts) → map counts_of regions.old.items ≡ earlier ++ last ∷ [] → last.found + 1 < 2 ^ 64 → map counts_of regions.new.items ≡ earlier ++ one_found last ∷ [] }
+    ensures lines { map line_of_region regions.new.items ≡ map line_of_region regions.old.items }
 {
     if let Some(last) = regions.last_mut() {
         last.found = last.found.saturating_add(1);
@@ -492,6 +509,7 @@ fn add_cards(mut words: Words<'_>, cards: &mut Vec<u32>) -> Result<(), Refusal>
 fn read_counts(region: usize, words: &mut Words<'_>, line: u64) -> Result<Told, Expected>
     ensures form { OnOk result (HasFront (Labelled (codes "top") ▸ Labelled (codes "objects") ▸ Labelled (codes "cards")) words.old words.new) }
     ensures short { (top objects cards : Option ℕ) (p : Bool) → Fits top → Fits objects → Fits cards → words.old ≡ counts_words top objects cards (pinned_words p) → (result ≡ Ok (record { line = line; region = region; top = top; objects = objects; cards = cards; found = 0 })) × (words.new ≡ pinned_words p) }
+    ensures line { IfOk result (λ t. t.line ≡ line) }
 {
     let top = words.take_named("top")?;
     let objects = words.take_named("objects")?;

@@ -1,7 +1,8 @@
 ghost use Rattle.std.specs.Prelude.{◌≡◌, Ok, IfErr, OnOk};
 ghost use Rattle.g1_text.specs.Content.{Agrees, CountsAgree};
 ghost use Rattle.g1_text.specs.Counted.{HeadingAgrees, IsCurrentOrdinary};
-ghost use Rattle.g1_text.specs.Drafts.{content, counts_of};
+ghost use Rattle.g1_text.specs.Drafts.{content, counts_of, numbers};
+ghost use Rattle.g1_text.specs.Late.{IsLate};
 ghost use Rattle.g1_text.specs.Refused.{IsLineOrMemory};
 
 use crate::draft::{Draft, Told};
@@ -14,6 +15,7 @@ pub(crate) fn settle(draft: &Draft) -> Result<(), Wrong>
     ensures ok { Agrees (content draft.now) → result ≡ Ok tt }
     ensures only { OnOk result (Agrees (content draft.now)) }
     ensures fault { IfErr result IsLineOrMemory }
+    ensures late { IfErr result (IsLate (numbers draft.now) (content draft.now)) }
 {
     if let Err(expected) = settle_heading(draft) {
         let number = draft.lines.heading.line;
@@ -30,6 +32,7 @@ pub(crate) fn settle(draft: &Draft) -> Result<(), Wrong>
 
 fn settle_heading(draft: &Draft) -> Result<(), Expected>
     ensures ok { Agrees (content draft.now) → result ≡ Ok tt }
+    ensures all { HeadingAgrees (content draft.now) → result ≡ Ok tt }
     ensures only { OnOk result (HeadingAgrees (content draft.now)) }
 {
     let heading = draft.lines.heading;

@@ -6,15 +6,12 @@ use Rattle.g1_explain.proofs.StepLines.{ready_end}
 use Rattle.g1_explain.proofs.steps.push_ready.Goals as goal
 
 pub returns : goal.returns
-returns c = λ rise.
+returns c = λ set pause rise.
     let i : Image = c.args.before.now in
     let same = ap length c.deref.ensures.value in
     let many : c.len.result ≡ length c.deref.result.now = omega (arith, c.len.ensures, same, c.in_ok-patches.patches.ok) in
-    let kept = c.in_ok-push_humongous_objects.ensures in (
-      kept.0,
-      ready_end i c.heap-heap.result.now c.args.plan.now c.args.prepared.now kept.0 c.need.result c.free_count.result (length c.args.cards.now) (length c.args.cards.now) c.len.result c.deref.result.now
-          (string_bytes c.args.text.now) (string_bytes c.push_room.new.text) (string_bytes c.push_moves.new.text) (string_bytes c.push_humongous_objects.new.text) (string_bytes c.push_table_changes.new.text) (string_bytes c.push_totals.new.text)
-          (c.heap-heap.ensures.same ∙ ap (λ (j : Image). j.heap) c.image.ensures.same) (c.deref.ensures.value ∙ c.in_ok-patches.ensures) c.need.ensures
-          (c.free_count.ensures ∙ ap (λ (l : List Region). length (filter (λ q. is_free q.kind) l)) c.regions.ensures) refl many
-          c.in_ok-push_room.ensures c.in_ok-push_moves.ensures kept.1 (c.in_ok-push_table_changes.ensures rise) c.in_ok-push_totals.ensures,
-    )
+    ready_end i c.heap-heap.result.now c.args.plan.now c.args.prepared.now c.need.result c.free_count.result (length c.args.cards.now) (length c.args.cards.now) c.len.result c.deref.result.now
+    (string_bytes c.args.text.now) (string_bytes c.push_room.new.text) (string_bytes c.push_moves.new.text) (string_bytes c.push_humongous_objects.new.text) (string_bytes c.push_table_changes.new.text) (string_bytes c.push_totals.new.text)
+    (c.heap-heap.ensures.same ∙ ap (λ (j : Image). j.heap) c.image.ensures.same) (c.deref.ensures.value ∙ c.in_ok-patches.ensures) c.need.ensures
+    (c.free_count.ensures ∙ ap (λ (l : List Region). length (filter (λ q. is_free q.kind) l)) c.regions.ensures) refl many
+    c.in_ok-push_room.ensures c.in_ok-push_moves.ensures (c.in_ok-push_humongous_objects.ensures set pause) (c.in_ok-push_table_changes.ensures rise) c.in_ok-push_totals.ensures

@@ -18,10 +18,7 @@ returns-clause-lines c = λ t.
     let below : All (λ r. r < c.of-walkable.result.heap.geometry.n) c.deref.result.now =
     subst (λ (g : Heap). All (λ r. r < g.geometry.n) c.deref.result.now) (sym heap) (subst (All (λ r. r < i.heap.geometry.n)) (sym c.deref.ensures.value) (set_below cost choice i x t)) in
     on_ok_weaker c.push_outcome.result
-    (λ e. (
-      e.0,
-      steps_end cost i x e.0 c.of-walkable.result.heap c.deref.result.now c.deref-2.result.now c.deref-3.result.now (string_bytes c.args.text.now) (string_bytes c.push_bought.new.text) (string_bytes c.push_cards.new.text)
-          (string_bytes c.push_outcome.new.text) heap c.deref.ensures.value c.deref-2.ensures.value c.deref-3.ensures.value (c.in_ok-push_bought.ensures t.bought) (c.in_ok-push_cards.ensures below) e.1,
-    ))
+    (steps_end cost i x c.of-walkable.result.heap c.deref.result.now c.deref-2.result.now c.deref-3.result.now (string_bytes c.args.text.now) (string_bytes c.push_bought.new.text) (string_bytes c.push_cards.new.text)
+    (string_bytes c.push_outcome.new.text) heap c.deref.ensures.value c.deref-2.ensures.value c.deref-3.ensures.value (c.in_ok-push_bought.ensures t.bought) (c.in_ok-push_cards.ensures below))
     (c.push_outcome.ensures.lines set (subst (AreCards i.heap) (sym c.deref-3.ensures.value) there.0) (subst (AreOutside i.heap set) (sym c.deref-3.ensures.value) there.1)
     (subst (LeadIn i.heap set) (sym c.deref-3.ensures.value) there.2) t.outcome)

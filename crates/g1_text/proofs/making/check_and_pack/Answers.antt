@@ -10,8 +10,9 @@ use Rattle.g1_image.specs.Faults.{MayFailWithin}
 use Rattle.g1_image.proofs.Images.{file_fits}
 use Rattle.g1_image.proofs.NoFault.{no_fault}
 use Rattle.g1_text.specs.Content.{Content, IsContentOf, file_with}
-use Rattle.g1_text.specs.Drafts.{content}
+use Rattle.g1_text.specs.Drafts.{content, numbers}
 use Rattle.g1_text.proofs.Counted.{made}
+use Rattle.g1_text.proofs.Refusing.{agreed_late}
 use Rattle.g1_text.proofs.making.check_and_pack.Goals as goal
 
 module _ (s : Content) (i : Image) (is : IsContentOf s i) where
@@ -37,3 +38,6 @@ pub returns-in-Ok-clause-only : goal.returns-in-Ok-clause-only
 returns-in-Ok-clause-only c = λ fit.
     made (content c.args.draft.now) c.in_ok-bytes.bytes.items c.in_ok-settle.ensures.only (c.in_ok-bytes.ensures fit)
     (subst (λ b. (i : Image) × IsTextWithin Wide b i) c.as_slice.ensures.value c.in-Ok.ensures.ok)
+
+pub returns-in-Err-clause-late : goal.returns-in-Err-clause-late
+returns-in-Err-clause-late c = agreed_late (numbers c.args.draft.now) (content c.args.draft.now) c.trace.result c.in_ok-settle.ensures.only c.trace.ensures.line

@@ -7,6 +7,8 @@ use Rattle.g1_text.proofs.Counted.{uncovered}
 use Rattle.g1_text.proofs.FullText.{full_text_says}
 use Rattle.g1_text.proofs.Results.{on_ok}
 use Rattle.g1_text.proofs.Telling.{tell_all, tells_image, closes}
+use Rattle.g1_text.specs.Reading.{lines_in}
+use Rattle.g1_text.specs.Drafts.{content, numbers}
 use Rattle.g1_text.specs.Reported.{Reports}
 use Rattle.g1_text.proofs.Refusing.{reports_early, all_late}
 use Rattle.g1_text.proofs.making.make.Goals as goal
@@ -63,4 +65,7 @@ returns-in_err-draft-clause-reports c =
     search rules
 
 pub returns-clause-reports : goal.returns-clause-reports
-returns-clause-reports c = all_late c.args.text.now c.finish.result c.finish.ensures.fault c.in_ok-draft.ensures.known
+returns-clause-reports c =
+    let draft = c.in_ok-draft.draft in
+    all_late c.args.text.now (numbers draft) (content draft) c.in_ok-draft.ensures.known c.in_ok-draft.ensures.lines (λ told after has tells closed. c.in_ok-draft.ensures.says (lines_in c.args.text.now) told after has tells closed)
+    c.finish.result c.finish.ensures.fault c.finish.ensures.late

@@ -1,12 +1,15 @@
-use Rattle.std.proofs.Common.{◌≡◌, ◌∷◌, ◌++◌, drop, sym, ◌∙◌, ap, subst, arith}
-use Rattle.std.specs.Prelude.{codes}
-use Rattle.std.proofs.lemmas.Result.{MatchResult-weaker}
+use Rattle.std.proofs.Common.{◌≡◌, [], ◌∷◌, ◌++◌, drop, sym, ◌∙◌, ap, subst, arith}
+use Rattle.std.specs.Prelude.{None, codes}
+use Rattle.std.proofs.lemmas.Result.{MatchResult-weaker, IfOk-weaker}
 use Rattle.g1_words.specs.Geometry.{IsWithinBounds}
 use Rattle.g1_text.specs.Content.{begun}
 use Rattle.g1_text.specs.Short.{labelled_words}
 use Rattle.g1_text.specs.Forms.{ImageHeading, Sizes, Labelled, Current, ◌▸◌}
 use Rattle.g1_text.proofs.Fronts.{begins_with, then_all, sizes_read, same_word}
 use Rattle.g1_text.proofs.Results.{ok_one, not_both, on_ok}
+use Rattle.g1_text.specs.Late.{LineNumbers}
+use Rattle.g1_text.specs.Drafts.{numbers, numbers_read, with_line}
+use Rattle.g1_text.proofs.Numbered.{heap_line}
 use Rattle.g1_text.proofs.reading.begin.Goals as goal
 
 pub returns-in_err-told-clause-says : goal.returns-in_err-told-clause-says
@@ -37,7 +40,7 @@ returns-clause-says c = λ after b.
     let parts = c.in-Ok.ensures.ok in
     let geometry : c.in-Ok.geometry ≡ b.geometry = λ i. record { w = (parts.0 ∙ ap (λ x. x.w) sizes) i; k = (parts.1 ∙ ap (λ x. x.k) sizes) i; n = (parts.2 ∙ ap (λ x. x.n) sizes) i } in
     let says = (λ i. begun (geometry i) ((heading i).1) ((heading i).0.roots) ((heading i).0.dirty)) ∙ sym b.says in
-    MatchResult-weaker c.new.result c.new.ensures (λ _ e. e ∙ says) (λ _ m. m)
+    MatchResult-weaker c.new.result c.new.ensures.says (λ _ e. e ∙ says) (λ _ m. m)
 
 pub returns-clause-form : goal.returns-clause-form
 returns-clause-form c =
@@ -48,3 +51,12 @@ returns-clause-form c =
     on_ok c.new.result
     (subst (λ word. ImageHeading (word ∷ c.args.words)) (sym (same_word c.args.first.now (codes "heap") c.if-ne.ensures))
     (begins_with (codes "heap") (Sizes ▸ behind) c.args.words (then_all Sizes behind sizes c.in_ok-heading.ensures.form)))
+
+pub returns-clause-lines : goal.returns-clause-lines
+returns-clause-lines c =
+    let first = same_word c.args.first.now (codes "heap") c.if-ne.ensures in
+    let line = c.in_ok-heading.ensures.line in
+    let adds : LineNumbers = with_line (numbers_read None) c.args.line (c.args.first.now ∷ c.args.words) in
+    let one = (λ i. record { headings = line i ∷ []; roots = []; regions = []; objects = [] }) ∙ sym (heap_line (numbers_read None) c.args.line c.args.words)
+    ∙ (λ i. with_line (numbers_read None) c.args.line (sym first i ∷ c.args.words)) in
+    IfOk-weaker c.new.result (λ d. numbers d ≡ record { headings = c.in_ok-heading.heading.line ∷ []; roots = []; regions = []; objects = [] }) (λ d. numbers d ≡ adds) (λ d e. e ∙ one) c.new.ensures.lines

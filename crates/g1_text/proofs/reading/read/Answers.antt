@@ -1,11 +1,12 @@
 use Rattle.std.proofs.Common.{rules, ◌≡◌, ◌≤◌, ◌-◌, ◌⊎◌, ◌++◌, ⊎_elim, inr, false, length, replicate, refl, sym, ◌∙◌, ap, subst}
 use Rattle.std.specs.Option.{is_some}
 use Rattle.std.proofs.lemmas.Bool.{false≢true}
-use Rattle.g1_text.specs.Reading.{lines_in}
+use Rattle.g1_text.specs.Reading.{parts_of, lines_in}
+use Rattle.g1_text.specs.Late.{numbers_in}
 use Rattle.g1_text.specs.Forms.{ImageHeading, ImageLine}
 use Rattle.g1_words.specs.Heap.{free_region}
 use Rattle.g1_text.specs.Content.{Content}
-use Rattle.g1_text.specs.Drafts.{content, said, AreTaken}
+use Rattle.g1_text.specs.Drafts.{content, said, numbers_read, AreTaken}
 use Rattle.g1_text.proofs.Turns.{some_one}
 use Rattle.g1_text.proofs.Telling.{none_left, either}
 use Rattle.g1_text.proofs.Formed.{meant_text}
@@ -45,3 +46,8 @@ returns-in_default-clause-reports c =
     let lines = c.in_ok-parts.ensures.known in
     let taken = subst (λ o. AreTaken ImageHeading ImageLine false (lines_in bytes) (is_some (said o))) c.in_default.is lines.1 in
     subst (IsReported bytes) (sym (c.at.ensures.number _ refl)) (inr (last_line_is bytes c.in_ok-parts.parts c.last_line.result (c.in_ok-parts.ensures.count refl) lines.0 taken c.last_line.ensures))
+
+pub returns-clause-lines : goal.returns-clause-lines
+returns-clause-lines c =
+    let lines = subst (λ o. numbers_read o ≡ numbers_in (parts_of c.args.text.now)) c.in-Some.is (c.in_ok-parts.ensures.lines refl) in
+    c.in_ok-close.ensures.lines ∙ lines

@@ -5,10 +5,11 @@ use Rattle.g1_text.specs.declared.expected.Refusal.TheVariants.{Memory}
 use Rattle.g1_text.specs.Reading.{parts_of}
 use Rattle.g1_text.specs.Forms.{ImageHeading, ImageLine}
 use Rattle.g1_text.specs.Short.{TellsAll}
-use Rattle.g1_text.specs.Drafts.{said}
+use Rattle.g1_text.specs.Drafts.{said, numbers_read}
 use Rattle.g1_text.proofs.Turns.{ToRead, parts_left, size_left, split_off, less_left, turned, at_ok, at_err}
 use Rattle.g1_text.proofs.Formed.{IsLeft, nothing_read, one_more}
 use Rattle.g1_text.proofs.Refusing.{IsReadUpTo, none_read, one_read, first_wrong, first_wrong_line}
+use Rattle.g1_text.proofs.Numbered.{AreNumbered, none_numbered, one_numbered, all_numbered}
 use Rattle.g1_text.proofs.reading.read_lines.Goals as goal
 
 pub returns-in-Err-clause-says : goal.returns-in-Err-clause-says
@@ -27,6 +28,7 @@ lines-init c = (
   nothing_read ImageHeading ImageLine (parts_of c.args.text.now) (is_some (said c.args.draft.now)),
   (λ none. subst (IsReadUpTo (parts_of c.args.text.now) (parts_of c.args.text.now) 0) (sym none) (none_read (parts_of c.args.text.now))),
   omega arith,
+  (λ none. none_numbered (parts_of c.args.text.now) c.args.draft.now none),
 )
 
 pub lines-preserved : goal.lines-preserved
@@ -54,6 +56,10 @@ lines-preserved c =
           read.ensures.utf8 read.ensures.known (λ d some says. read.ensures.says d read.ensures.utf8 some says) (read.ensures.nothing read.ensures.utf8)
           c.saturating_add-number.result (omega (arith, c.saturating_add-number.ensures, fewer))),
       omega (arith, c.saturating_add-number.ensures, fewer, less_left (parts_of left) line (length left) behind c.first_line.ensures),
+      (λ first.
+          one_numbered text (parts_of left) (parts_left behind) line is c.lines.number c.saturating_add-number.result (omega (arith, c.saturating_add-number.ensures, fewer))
+          (numbers_read c.lines.draft) (numbers_read c.read_line.new.draft)
+          (subst (λ r. AreNumbered text (parts_left r) c.lines.number (numbers_read c.lines.draft)) c.in-Some.is (c.lines.invariant.4 first)) read.ensures.lines),
     )
 
 pub returns-clause-known : goal.returns-clause-known
@@ -81,3 +87,9 @@ pub returns-clause-count : goal.returns-clause-count
 returns-clause-count c = λ first.
     let read = subst (λ r. IsReadUpTo (parts_of c.args.text.now) (parts_left r) c.lines.number (said c.lines.draft)) c.in_default.is (c.lines.invariant.2 first) in
     read.counted ∙ sym (ap length (read.parts ∙ append-nil read.above))
+
+pub returns-clause-lines : goal.returns-clause-lines
+returns-clause-lines c = λ first.
+    let text = parts_of c.args.text.now in
+    all_numbered text c.lines.number (numbers_read c.lines.draft)
+    (subst (λ r. AreNumbered text (parts_left r) c.lines.number (numbers_read c.lines.draft)) c.in_default.is (c.lines.invariant.4 first))

@@ -8,6 +8,8 @@ use Rattle.g1_text.specs.Short.{Short, RootAs, DirtyAs, Covered, RegionAs, Remem
 use Rattle.g1_text.specs.Drafts.{content, Becomes}
 use Rattle.std.proofs.lemmas.Result.{on_ok_weaker}
 use Rattle.g1_text.specs.Forms.{RootLine, DirtyLine, CoveredLine, RegionLine, RememberedLine, ObjectLine}
+use Rattle.g1_text.specs.Drafts.{numbers, with_line}
+use Rattle.g1_text.proofs.Numbered.{root_line, region_line, object_line, no_line}
 use Rattle.g1_text.proofs.draft.Draft.add.Goals as goal
 
 -- the third byte of a line's first word, which tells the words apart
@@ -129,3 +131,21 @@ returns-in-remembered-clause-form c = on_ok_weaker c.add_remembered.result (λ f
 
 pub returns-in-object-clause-form : goal.returns-in-object-clause-form
 returns-in-object-clause-form c = on_ok_weaker c.add_object.result (λ f. inr (inr (inr (inr (inr (subst (λ word. ObjectLine (word ∷ c.args.words)) (sym c.in-object.is) f)))))) c.add_object.ensures.form
+
+pub returns-in-root-clause-lines : goal.returns-in-root-clause-lines
+returns-in-root-clause-lines c = on_ok_weaker c.add_root.result (λ e. e ∙ sym (root_line (numbers c.args.self.now) c.args.line c.args.words) ∙ (λ i. with_line (numbers c.args.self.now) c.args.line (sym c.in-root.is i ∷ c.args.words))) c.add_root.ensures.lines
+
+pub returns-in-dirty-clause-lines : goal.returns-in-dirty-clause-lines
+returns-in-dirty-clause-lines c = on_ok_weaker c.add_dirty.result (λ e. e ∙ sym (no_line (numbers c.args.self.now) c.args.line c.args.words) ∙ (λ i. with_line (numbers c.args.self.now) c.args.line (sym c.in-dirty.is i ∷ c.args.words))) c.add_dirty.ensures.lines
+
+pub returns-in-covered-clause-lines : goal.returns-in-covered-clause-lines
+returns-in-covered-clause-lines c = on_ok_weaker c.cover.result (λ e. e ∙ sym (no_line (numbers c.args.self.now) c.args.line c.args.words) ∙ (λ i. with_line (numbers c.args.self.now) c.args.line (sym c.in-covered.is i ∷ c.args.words))) c.cover.ensures.lines
+
+pub returns-in-region-clause-lines : goal.returns-in-region-clause-lines
+returns-in-region-clause-lines c = on_ok_weaker c.add_region.result (λ e. e ∙ sym (region_line (numbers c.args.self.now) c.args.line c.args.words) ∙ (λ i. with_line (numbers c.args.self.now) c.args.line (sym c.in-region.is i ∷ c.args.words))) c.add_region.ensures.lines
+
+pub returns-in-remembered-clause-lines : goal.returns-in-remembered-clause-lines
+returns-in-remembered-clause-lines c = on_ok_weaker c.add_remembered.result (λ e. e ∙ sym (no_line (numbers c.args.self.now) c.args.line c.args.words) ∙ (λ i. with_line (numbers c.args.self.now) c.args.line (sym c.in-remembered.is i ∷ c.args.words))) c.add_remembered.ensures.lines
+
+pub returns-in-object-clause-lines : goal.returns-in-object-clause-lines
+returns-in-object-clause-lines c = on_ok_weaker c.add_object.result (λ e. e ∙ sym (object_line (numbers c.args.self.now) c.args.line c.args.words) ∙ (λ i. with_line (numbers c.args.self.now) c.args.line (sym c.in-object.is i ∷ c.args.words))) c.add_object.ensures.lines

@@ -77,7 +77,7 @@ returns-clause-short c = λ at slots values given after e gives.
     let had = ap (λ (x : Content). x.words) room in
     let headed = c.in_ok-push-2.ensures.items ∙ (λ i. had i ++ (c.header_word.ensures ∙ (λ j. size j * 2 ^ 32 + refs j)) i ∷ []) in
     let more = ap (λ xs. xs ++ (slots ++ values)) headed ∙ append_assoc s.words ((size_with slots values * 2 ^ 32 + length slots) ∷ []) (slots ++ values) in
-    let counts = c.count_object.ensures takes.2 takes.3 (ap (λ (x : Content). x.counts) room ∙ takes.5) takes.13 in
+    let counts = c.count_object.ensures.counts takes.2 takes.3 (ap (λ (x : Content). x.counts) room ∙ takes.5) takes.13 in
     let added = c.add_content.ensures.short slots values given refs others (omega (arith, refs, others, takes.10)) takes.11 takes.12 gives.3 read.1 in
     MatchResult-weaker c.add_content.result added (λ _ e. (λ i. record (room i) { words = (e ∙ more) i; counts = counts i }) ∙ sym takes.14) (λ _ m. m)
 

@@ -6,6 +6,7 @@ use Rattle.g1_text.proofs.draft.Draft.close_run.Goals as goal
 
 pub loop-preserved : goal.loop-preserved
 loop-preserved c = record {
+  lines = c.in_ok-continue_run.ensures.lines ∙ c.loop.invariant.lines;
   same = λ z. let e = ap (λ (x : Content). x.beyond) (c.loop.invariant.same z) in absurd (omega (arith, c.if-self-eq0.false, e, z));
   laid = λ g os regions beyond bounds laid is.
       let l = c.loop.invariant.laid g os regions beyond bounds laid is in
@@ -18,7 +19,7 @@ loop-preserved c = record {
         l.0 ++ record { kind = Continuation; top = min g.w l.1; pinned = false } ∷ [],
         l.1 - min g.w l.1,
         laid_more g os l.0 l.1 l.2 some,
-        c.in_ok-continue_run.ensures
+        c.in_ok-continue_run.ensures.says
             ∙ (λ i. record (l.3 i) {
               regions = (l.3 i).regions ++ record { kind = Continuation; top = min (l.3 i).geometry.w (l.3 i).beyond; pinned = false } ∷ [];
               beyond = (l.3 i).beyond - min (l.3 i).geometry.w (l.3 i).beyond;

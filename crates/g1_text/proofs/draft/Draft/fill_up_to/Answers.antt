@@ -14,6 +14,7 @@ loop-preserved c =
     let more = append_assoc s.regions (replicate (c.loop.counter - n) free_region) (free_region ∷ []) ∙ ap (λ l. s.regions ++ l) (replicate_more (c.loop.counter - n) free_region) in
     let count : c.loop.counter - n + 1 ≡ c.loop.counter + 1 - n = omega (arith, past) in
     record {
+      lines = c.in_ok-add_empty.ensures.lines ∙ c.loop.invariant.lines;
       same = λ le. absurd (omega (arith, le, past, c.loop-test.true));
-      free = c.in_ok-add_empty.ensures ∙ (λ i. record (kept i) { regions = (kept i).regions ++ free_region ∷ [] }) ∙ (λ i. record s { regions = (more ∙ ap (λ m. s.regions ++ replicate m free_region) count) i });
+      free = c.in_ok-add_empty.ensures.says ∙ (λ i. record (kept i) { regions = (kept i).regions ++ free_region ∷ [] }) ∙ (λ i. record s { regions = (more ∙ ap (λ m. s.regions ++ replicate m free_region) count) i });
     }
