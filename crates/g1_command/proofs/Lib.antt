@@ -4,3 +4,4 @@ pub mod Got
 pub mod Tabled
 pub mod Listed
 pub mod ReadLines
+pub mod Tied

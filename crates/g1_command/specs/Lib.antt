@@ -3,5 +3,6 @@ pub mod Refusals
 pub mod Values
 pub mod Table
 pub mod Lists
+pub mod Tied
 pub mod Requests
 pub mod Lines

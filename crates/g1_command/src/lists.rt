@@ -1,8 +1,9 @@
 //! The regions of `--set` and `--young`: numbers, and lists of numbers and of ranges, as 1,2,5-9.
-ghost use Rattle.std.specs.Prelude.{◌≡◌, ◌≤◌, ◌<◌, ℕ, List, [], ◌∷◌, ◌++◌, map, true, IsErr, IfOk, IfErr, OnOk};
+ghost use Rattle.std.specs.Prelude.{◌≡◌, ◌≤◌, ◌<◌, ℕ, List, [], ◌∷◌, ◌++◌, drop, map, true, IsErr, IfOk, IfErr, OnOk};
 ghost use Rattle.std.specs.Bool.{MatchBool};
 ghost use Rattle.g1_words.specs.Lists.{has};
 ghost use Rattle.g1_command.specs.Values.{IsBelow, Because};
+ghost use Rattle.g1_command.specs.Tied.{AddsTied, AreTied, first_word, is_list, is_list_byte};
 ghost use Rattle.g1_command.specs.Lists.{IsRegionOfImage, AreRegionsIn, AddsParts, AddNone, AddsRegions, HasTwice, IsNamed, parts_of, rising};
 
 use crate::table::Argument;
@@ -15,17 +16,26 @@ const OPTION: &str = "--set";
 /// Ties each value of `--set` among the words to it: clap would take files that follow for regions. A word
 /// behind `--set` or behind such a value is one if it is made of digits, commas and dashes, and a digit is
 /// first.
-pub fn tie(alloc: Global, words: &[String]) -> Result<Vec<String>, AllocError> {
+pub fn tie(alloc: Global, words: &[String]) -> Result<Vec<String>, AllocError>
+    ensures { IfOk result (λ tied. AreTied (map (λ w. w.bytes.items) words.now) (map (λ w. w.bytes.items) tied.items)) }
+{
     let mut tied = Vec::new(alloc);
     let mut follows = Follows::Word;
     for (place, word) in words.iter().enumerate() {
-        let next = match words.get(place.saturating_add(1)) {
-            Some(next) => next.as_str(),
-            None => "",
-        };
+        let next = word_at(words, place + 1);
         follows = tie_word(alloc, &mut tied, follows, word.as_str(), next)?;
     }
     Ok(tied)
+}
+
+// The word at a place, or an empty one behind the last.
+fn word_at(words: &[String], place: usize) -> &str
+    ensures { result.now ≡ first_word (drop place (map (λ w. w.bytes.items) words.now)) }
+{
+    match words.get(place) {
+        Some(word) => word.as_str(),
+        None => "",
+    }
 }
 
 // What a word may be.
@@ -45,29 +55,73 @@ fn tie_word(
     follows: Follows,
     word: &str,
     next: &str,
-) -> Result<Follows, AllocError> {
-    let then = match follows {
-        Follows::File => Follows::File,
-        _ if word == "--" => Follows::File,
-        _ if word == OPTION && is_list(next) => return Ok(Follows::Region),
-        Follows::Region if is_list(word) => {
+) -> Result<Follows, AllocError>
+    ensures { IfOk result (λ then. AddsTied follows word.now next.now then (map (λ w. w.bytes.items) tied.old.items) (map (λ w. w.bytes.items) tied.new.items)) }
+{
+    match follows {
+        Follows::File => keep_word(alloc, tied, word, Follows::File),
+        Follows::Word => tie_other(alloc, tied, word, next),
+        Follows::Region => {
+            if !is_list(word) {
+                return tie_other(alloc, tied, word, next);
+            }
             tied.push(format!(in alloc; "{OPTION}={word}")?)?;
-            return Ok(Follows::Region);
+            Ok(Follows::Region)
         }
-        _ => Follows::Word,
-    };
+    }
+}
+
+// Adds what becomes of a word that is no value.
+fn tie_other(
+    alloc: Global,
+    tied: &mut Vec<String>,
+    word: &str,
+    next: &str,
+) -> Result<Follows, AllocError>
+    ensures { IfOk result (λ then. AddsTied Follows.Word word.now next.now then (map (λ w. w.bytes.items) tied.old.items) (map (λ w. w.bytes.items) tied.new.items)) }
+{
+    if word == "--" {
+        return keep_word(alloc, tied, word, Follows::File);
+    }
+    if (word == OPTION) & is_list(next) {
+        return Ok(Follows::Region);
+    }
+    keep_word(alloc, tied, word, Follows::Word)
+}
+
+// Adds a word as it is.
+fn keep_word(
+    alloc: Global,
+    tied: &mut Vec<String>,
+    word: &str,
+    then: Follows,
+) -> Result<Follows, AllocError>
+    ensures then { IfOk result (λ follows. follows ≡ then) }
+    ensures added { OnOk result (map (λ w. w.bytes.items) tied.new.items ≡ map (λ w. w.bytes.items) tied.old.items ++ word.now ∷ []) }
+{
     tied.push(String::from_str(alloc, word)?)?;
     Ok(then)
 }
 
-fn is_list(word: &str) -> bool {
+fn is_list(word: &str) -> bool
+    ensures { result ≡ is_list word.now }
+{
     let bytes = word.as_bytes();
     for byte in bytes {
-        if !matches!(*byte, b'0'..=b'9' | b',' | b'-') {
+        if !is_list_byte(*byte) {
             return false;
         }
     }
-    matches!(bytes.first(), Some(b'0'..=b'9'))
+    match bytes.first() {
+        Some(first) => first.is_ascii_digit(),
+        None => false,
+    }
+}
+
+fn is_list_byte(byte: u8) -> bool
+    ensures { result ≡ is_list_byte byte }
+{
+    byte.is_ascii_digit() || byte == b',' || byte == b'-'
 }
 
 /// The regions that these lists name, in their order. Each is one that an image may have, and none is there twice; but they

@@ -3,3 +3,4 @@ pub mod Left
 pub mod Found
 pub mod Made
 pub mod Explained
+pub mod Called

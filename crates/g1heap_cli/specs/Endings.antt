@@ -1,5 +1,5 @@
 -- How g1heap ends.
-use Rattle.std.specs.Prelude.{◌≡◌, ◌⊎◌, ℕ, Bool, List, Option, codes, IsOk, Result, Ok, Err, ⊤}
+use Rattle.std.specs.Prelude.{◌≡◌, ◌⊎◌, ℕ, Bool, true, List, Option, codes, IsOk, Result, Ok, Err, ⊤}
 use Rattle.std.specs.Io.KnownBytes.{Keeps}
 use Rattle.g1_words.specs.declared.fault.Fault.TheVariants.{Device}
 use Rattle.g1_words.specs.declared.fault.Device.TheVariants.{Output as OutputFailed}
@@ -7,8 +7,12 @@ use Rattle.g1_command.specs.declared.refusal.Ending.{Ending}
 use Rattle.g1_command.specs.declared.refusal.Refusal.{Refusal}
 use Rattle.g1_command.specs.declared.refusal.Refusal.TheVariants as refusal
 use Rattle.g1_command.specs.Refusals.{EndsBy}
+use Rattle.g1_command.specs.Requests.{IsUsageIf}
 use Rattle.g1heap_request.specs.declared.options.Request.{Request}
 use Rattle.g1heap_request.specs.declared.options.Request.TheVariants as request
+use Rattle.g1heap_request.specs.declared.output.Output.TheVariants.{Default}
+use Rattle.g1heap_request.specs.Words.{Asked, IsWrong}
+use Rattle.g1heap_cli.specs.declared.terminals.Terminals.{Terminals}
 use Rattle.g1heap_cli.specs.Refusals.{RefusesOutput}
 use Rattle.g1heap_cli.specs.Leaving.{Reply, Announces, SendsText, HandsText, HandsBytes, HandsPrint}
 use Rattle.g1heap_cli.specs.Replies.{IsReplyTo}
@@ -40,6 +44,21 @@ abbrev pub EndsWith : Result ℕ Refusal → Option (List ℕ) → Option (List 
 EndsWith (Ok status) old new ending = (ending.status ≡ status) × IsOk ending.reported × Keeps old new
 EndsWith (Err why) old new ending = (told : Refusal) × IsReported why told × EndsBy name told old new ending
 
+-- a request makes an image that goes to standard output only since nothing else is said
+abbrev pub IsImageByDefault : Request → Type 0
+IsImageByDefault (request.Make lines output) = output ≡ Default
+IsImageByDefault (request.Convert asked) = asked.output ≡ Default
+IsImageByDefault (request.Rewrite r) = r.output ≡ Default
+IsImageByDefault _ = ⊥
+
+-- THE REQUEST OF A CALL: the one that its words ask for. To a terminal an image goes only if standard output is asked for
+abbrev pub IsCalled : List (List ℕ) → Bool → Request → Type 0
+IsCalled words at_terminal request = Asked words request × (at_terminal ≡ true → IsImageByDefault request → ⊥)
+
+-- why a call is none
+abbrev pub IsWrongCall : List (List ℕ) → Bool → Type 0
+IsWrongCall words at_terminal = IsWrong words ⊎ ((request : Request) × Asked words request × (at_terminal ≡ true) × IsImageByDefault request)
+
 -- left is what standard input has left; before and after are the bytes on standard output and those on standard error
 module _ (left out_old out_new error_old error_new : Option (List ℕ)) where
   -- HOW THE PROGRAM ENDS by a request: what it leaves of the reply, and with what it ends
@@ -48,14 +67,16 @@ module _ (left out_old out_new error_old error_new : Option (List ℕ)) where
     pub leaves : Leaves request (IsReplyTo request left) out_old out_new result
     pub ended : EndsWith result error_old error_new ending
 
-  -- the words are no request: nothing is on standard output
-  pub record EndsByWords (ending : Ending) : Type 0 where
+  -- the words are no request, or memory was wanted to read them: nothing is on standard output
+  pub record EndsByWords (words : List (List ℕ)) (at_terminal : Bool) (ending : Ending) : Type 0 where
     pub why : Refusal
+    pub wrong : IsUsageIf (IsWrongCall words at_terminal) why
     pub silent : Keeps out_old out_new
     pub ended : EndsBy name why error_old error_new ending
 
--- how it ends by whatever words, behind what is announced at a terminal
-abbrev pub Ends : Option (List ℕ) → Bool → (out_old out_new error_old error_new : Option (List ℕ)) → Ending → Type 0
-Ends left terminal out_old out_new error_old error_new ending =
-    EndsByWords left out_old out_new error_old error_new ending
-    ⊎ ((request : Request) × (error : Option (List ℕ)) × Announces terminal error_old error × EndsByRequest left out_old out_new error error_new request ending)
+-- HOW IT ENDS by words: by what is wrong with them; or by the request that they ask for, behind what is announced at a terminal
+abbrev pub Ends : List (List ℕ) → Terminals → Option (List ℕ) → (out_old out_new error_old error_new : Option (List ℕ)) → Ending → Type 0
+Ends words terminals left out_old out_new error_old error_new ending =
+    EndsByWords left out_old out_new error_old error_new words terminals.output ending
+    ⊎ ((request : Request) × (error : Option (List ℕ)) × IsCalled words terminals.output request × Announces terminals.input error_old error
+    × EndsByRequest left out_old out_new error error_new request ending)

@@ -1,5 +1,5 @@
 //! What the program does with a request.
-ghost use Rattle.std.specs.Prelude.{◌≡◌, ◌⊎◌, ℕ, List, Ok, Err, IfOk, IfErr, ⊤};
+ghost use Rattle.std.specs.Prelude.{◌≡◌, ◌⊎◌, ℕ, List, Ok, Err, IfOk, IfErr, map, ⊤};
 ghost use Rattle.std.specs.Io.KnownBytes.{Keeps};
 ghost use Rattle.g1heap_request.specs.declared.options.Part.TheVariants as asked;
 ghost use Rattle.g1heap_cli.specs.Leaving.{Just, SendsText, HandsText, HandsBytes, HandsPrint, GoesBefore};
@@ -9,7 +9,8 @@ ghost use Rattle.g1heap_cli.specs.Streams.{HoldsOfNamed};
 ghost use Rattle.g1heap_cli.specs.Reasons.{RefusesMake, MayLack};
 ghost use Rattle.g1heap_cli.specs.Texts.{IsPartText, MayChange, IsMade};
 ghost use Rattle.g1heap_cli.specs.Replies.{IsReplyTo, IsPrintReply, IsMakeReply, IsAsked};
-ghost use Rattle.g1heap_cli.specs.Endings.{Leaves, IsReported, EndsByRequest, Ends};
+ghost use Rattle.g1_command.specs.Requests.{IsUsageIf};
+ghost use Rattle.g1heap_cli.specs.Endings.{Leaves, IsReported, EndsByRequest, Ends, IsCalled, IsWrongCall};
 
 use crate::answering::{answer_file, rewrite_file};
 use crate::converting::convert_file;
@@ -57,7 +58,7 @@ pub fn program<T: Threads + Sync + Files, R: Read, W: Write + Drop, E: Write>(
     writer: &mut Heard<W>,
     errors: &mut E,
 ) -> Ending
-    ensures { Ends (R.remaining reader.old) call.entry.terminals.input (⟦<Heard<W> as Write>⟧.contents writer.old) (⟦<Heard<W> as Write>⟧.contents writer.new) (E.contents errors.old) (E.contents errors.new) result }
+    ensures { Ends (map (λ w. w.bytes.items) call.entry.words.now) call.entry.terminals (R.remaining reader.old) (⟦<Heard<W> as Write>⟧.contents writer.old) (⟦<Heard<W> as Write>⟧.contents writer.new) (E.contents errors.old) (E.contents errors.new) result }
 {
     match read_call(alloc, call) {
         Ok(request) => {
@@ -102,7 +103,10 @@ fn with_reason(alloc: Global, refusal: Refusal, reason: Option<Error>) -> Refusa
 }
 
 // What a call asks for, if it may.
-fn read_call(alloc: Global, call: Call<'_>) -> Result<Request, Refusal> {
+fn read_call(alloc: Global, call: Call<'_>) -> Result<Request, Refusal>
+    ensures called { IfOk result (IsCalled (map (λ w. w.bytes.items) call.entry.words.now) call.entry.terminals.output) }
+    ensures wrong { IfErr result (IsUsageIf (IsWrongCall (map (λ w. w.bytes.items) call.entry.words.now) call.entry.terminals.output)) }
+{
     allow(alloc, call.terminals, parse(alloc, call.words)?)
 }
 

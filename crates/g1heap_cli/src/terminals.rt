@@ -1,5 +1,8 @@
 //! What is said to a person at a terminal.
+ghost use Rattle.std.specs.Prelude.{◌≡◌, ◌≢◌, true, IfOk, IfErr, OnOk, MatchBool};
+ghost use Rattle.g1_command.specs.Requests.{IsUsageIf};
 ghost use Rattle.g1heap_cli.specs.Leaving.{Announces};
+ghost use Rattle.g1heap_cli.specs.Endings.{IsImageByDefault};
 
 use g1_command::{Refusal, deliver};
 use g1heap_request::{Output, Request, STANDARD_STREAM};
@@ -61,21 +64,38 @@ fn is_standard(name: &String) -> bool {
 }
 
 /// The request, unless an image is to be written to a terminal: that is refused if standard output is not asked for.
-pub fn allow(alloc: Global, terminals: Terminals, request: Request) -> Result<Request, Refusal> {
-    if terminals.output && is_image_by_default(&request) {
-        return Err(Refusal::usage(String::from_str(alloc, BYTES)?));
+pub fn allow(alloc: Global, terminals: Terminals, request: Request) -> Result<Request, Refusal>
+    ensures same { IfOk result (λ r. r ≡ request) }
+    ensures allowed { OnOk result (terminals.output ≡ true → IsImageByDefault request → ⊥) }
+    ensures refused { IfErr result (IsUsageIf ((terminals.output ≡ true) × IsImageByDefault request)) }
+{
+    if !terminals.output || !is_image_by_default(&request) {
+        return Ok(request);
     }
-    Ok(request)
+    Err(Refusal::usage(String::from_str(alloc, BYTES)?))
 }
 
 // Whether an image goes to standard output only since nothing else is said.
-fn is_image_by_default(request: &Request) -> bool {
-    let output = match request {
-        Request::Make { output, .. } => output,
-        Request::Convert(asked) => &asked.output,
-        Request::Rewrite(rewrite) => &rewrite.output,
-        _ => return false,
-    };
+fn is_image_by_default(request: &Request) -> bool
+    ensures { MatchBool result (IsImageByDefault request.now) (IsImageByDefault request.now → ⊥) }
+{
+    match request {
+        Request::Make { output, .. } => is_default(output),
+        Request::Convert(asked) => is_default(&asked.output),
+        Request::Rewrite(rewrite) => is_default(&rewrite.output),
+        Request::Help(_) => false,
+        Request::Same(_) => false,
+        Request::Print { .. } => false,
+        Request::Explain(_) => false,
+        Request::Why(_) => false,
+        Request::Trace(_) => false,
+        Request::Ask(_) => false,
+    }
+}
+
+fn is_default(output: &Output) -> bool
+    ensures { MatchBool result (output.now ≡ Output.Default) (output.now ≢ Output.Default) }
+{
     matches!(output, Output::Default)
 }
 

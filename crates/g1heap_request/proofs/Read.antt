@@ -13,12 +13,13 @@ use Rattle.g1_command.specs.declared.values.Misuse.{Misuse}
 use Rattle.g1_command.specs.declared.table.Program.{Program}
 use Rattle.g1_command.specs.Values.{IsValue}
 use Rattle.g1_command.specs.Table.{program_by}
+use Rattle.g1_command.specs.Tied.{AreTied}
 use Rattle.g1_command.specs.Requests.{HasNoCommand, IsMistake, IsRead, IsSaid, IsUsageIf}
 use Rattle.g1heap_request.specs.declared.options.Request.{Request}
 use Rattle.g1heap_request.specs.declared.options.Request.TheVariants as request
 use Rattle.g1heap_request.specs.Options.{g1heap}
 use Rattle.g1heap_request.specs.Asks.{Asks}
-use Rattle.g1heap_request.specs.Words.{AskedOf, IsReadOf, IsRetold, IsWrongOf, StopsBy}
+use Rattle.g1heap_request.specs.Words.{AskedOf, IsReadAs, IsReadOf, IsRetold, IsWrongOf, StopsBy}
 use Rattle.g1heap_request.specs.Words.IsWrongOf.{mistaken, without, valued}
 use Rattle.g1heap_request.proofs.Tabled.{is_simple_table}
 
@@ -72,3 +73,8 @@ module _ (words : List Text) (program : Program) (is : program_by program ≡ g1
 
     pub told_mistake : (r : Refusal) → IsUsageIf ((kind ≢ OutOfMemory) × IsMistake kind) r → IsUsageIf (IsWrongOf words) r
     told_mistake r h = usage_so (λ k. mistaken (stops k.0) k.1) r h
+
+-- words, and what they become once each value of `--set` is tied to it
+pub read_tied : (words tied : List Text) → AreTied words tied → (r : Result Request Refusal) → IsReadOf tied r → IsReadAs words r
+read_tied words tied are (Ok request) h = (tied, are, h)
+read_tied words tied are (Err refusal) h = usage_so (λ wrong. (tied, are, wrong)) refusal h

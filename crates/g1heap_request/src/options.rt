@@ -5,7 +5,7 @@ ghost use Rattle.g1_command.specs.Values.{IfGiven, texts_of};
 ghost use Rattle.g1_command.specs.Lists.{AreRegionsIn};
 ghost use Rattle.g1heap_request.specs.Values.{AreLimitsOf, IsCount, IsFlag, IsImageOf, IsNameIfGiven, IsNameOf, IsOutputOf};
 ghost use Rattle.g1heap_request.specs.Asks.{Asks, IsImageAfter, IsNoOther, IsPartOf};
-ghost use Rattle.g1heap_request.specs.Words.{IsReadOf};
+ghost use Rattle.g1heap_request.specs.Words.{IsReadAs, IsReadOf};
 
 use crate::asking::{Ask, Rewrite, asked_of};
 use crate::dump::{Convert, convert_of};
@@ -504,7 +504,9 @@ fn request_of(alloc: Global, name: &str, values: &ArgMatches<'_>) -> Result<Requ
 }
 
 /// Reads the words after the program's name.
-pub fn parse(alloc: Global, words: &[String]) -> Result<Request, Refusal> {
+pub fn parse(alloc: Global, words: &[String]) -> Result<Request, Refusal>
+    ensures { IsReadAs (map (λ w. w.bytes.items) words.now) result }
+{
     let words = tie(alloc, words)?;
     read(alloc, words.as_slice())
 }
