@@ -1,6 +1,11 @@
 pub mod Told
 pub mod Left
+pub mod Begun
+pub mod Sent
 pub mod Found
 pub mod Made
 pub mod Explained
 pub mod Called
+pub mod Handed
+pub mod SameSides
+pub mod YoungCards

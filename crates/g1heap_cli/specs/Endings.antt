@@ -14,17 +14,17 @@ use Rattle.g1heap_request.specs.declared.output.Output.TheVariants.{Default}
 use Rattle.g1heap_request.specs.Words.{Asked, IsWrong}
 use Rattle.g1heap_cli.specs.declared.terminals.Terminals.{Terminals}
 use Rattle.g1heap_cli.specs.Refusals.{RefusesOutput}
-use Rattle.g1heap_cli.specs.Leaving.{Reply, Announces, SendsText, HandsText, HandsBytes, HandsPrint}
+use Rattle.g1heap_cli.specs.Leaving.{Reply, Announces, SendsText, SendsSame, HandsText, HandsBytes, HandsPrint}
 use Rattle.g1heap_cli.specs.Replies.{IsReplyTo}
 
 -- the program's name
 abbrev pub name : List ℕ
 name = codes "g1heap"
 
--- what a request leaves on standard output, by that before and after; of `same` and `trace` nothing is said
+-- what a request leaves on standard output, by that before and after; of `trace` nothing is said
 abbrev pub Leaves : Request → Reply → Option (List ℕ) → Option (List ℕ) → Result ℕ Refusal → Type 0
 Leaves (request.Help text) = SendsText
-Leaves (request.Same same) = λ Is old new r. ⊤
+Leaves (request.Same same) = SendsSame same.all
 Leaves (request.Print image part hex output) = HandsPrint output
 Leaves (request.Make lines output) = HandsBytes output
 Leaves (request.Convert asked) = HandsBytes asked.output

@@ -1,11 +1,12 @@
 -- What a request leaves on standard output.
-use Rattle.std.specs.Prelude.{◌≡◌, ◌⊎◌, ℕ, Bool, true, false, List, take, Option, Result, Ok, Err}
+use Rattle.std.specs.Prelude.{◌≡◌, ◌⊎◌, ℕ, Bool, true, false, List, take, Option, Some, None, Result, Ok, Err, ⊤}
 use Rattle.std.specs.Io.KnownBytes.{Appends, Keeps}
 use Rattle.g1_words.specs.declared.fault.Fault.TheVariants as fault
 use Rattle.g1_words.specs.declared.fault.Device.TheVariants as device
 use Rattle.g1_command.specs.declared.refusal.Refusal.{Refusal}
 use Rattle.g1_command.specs.declared.refusal.Refusal.TheVariants as refusal
 use Rattle.g1_command.specs.Deliveries.{broken_pipe}
+use Rattle.g1heap_cli.specs.Written.{EndsLines}
 use Rattle.g1heap_request.specs.declared.output.Output.{Output}
 use Rattle.g1heap_request.specs.declared.output.Output.TheVariants as output
 
@@ -48,6 +49,24 @@ SendsBytes Is old new (Err why) = Withholds Is old new why
 abbrev pub SendsText : Reply → Option (List ℕ) → Option (List ℕ) → Result ℕ Refusal → Type 0
 SendsText Is old new (Ok status) = ((text : List ℕ) × Is status text × Appends old new text) ⊎ ((status ≡ broken_pipe) × Begins Is old new)
 SendsText Is old new (Err why) = Withholds Is old new why
+
+-- lines are sent as they are made; of what stands behind a refusal nothing is said
+abbrev pub SendsLines : Reply → Option (List ℕ) → Option (List ℕ) → Result ℕ Refusal → Type 0
+SendsLines Is old new (Ok status) = SendsText Is old new (Ok status)
+SendsLines Is old new (Err why) = ⊤
+
+-- a reply was taken, and its lines are written, as far as they are
+pub record WritesReply (Is : Reply) (old new taken now : Option (List ℕ)) (s : ℕ) : Type 0 where
+  pub status : ℕ
+  pub text : List ℕ
+  pub is : Is status text
+  pub takes : Appends old new text
+  pub ends : EndsLines status taken now s
+
+-- how `same` sends: a text, or the lines of all differences
+abbrev pub SendsSame : Option ℕ → Reply → Option (List ℕ) → Option (List ℕ) → Result ℕ Refusal → Type 0
+SendsSame None = SendsText
+SendsSame (Some most) = SendsLines
 
 -- a file gets it: nothing is on standard output
 abbrev pub Files : Reply → Option (List ℕ) → Option (List ℕ) → Result ℕ Refusal → Type 0

@@ -5,8 +5,12 @@ pub mod Opened
 pub mod Found
 pub mod Texts
 pub mod Reasons
+pub mod Written
 pub mod Leaving
 pub mod Printed
 pub mod Compared
+pub mod Young
+pub mod SameReplies
+pub mod SamePassed
 pub mod Replies
 pub mod Endings

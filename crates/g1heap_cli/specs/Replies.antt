@@ -17,6 +17,7 @@ use Rattle.g1heap_request.specs.declared.options.Why.{Why}
 use Rattle.g1heap_request.specs.declared.options.Trace.{Trace}
 use Rattle.g1heap_cli.specs.Streams.{HoldsOfNamed}
 use Rattle.g1heap_cli.specs.Texts.{IsPrinted, IsMade, IsWhyText, AsksFor, IsExplainText, form_of}
+use Rattle.g1heap_cli.specs.SameReplies.{IsSameText}
 use Rattle.g1heap_cli.specs.Leaving.{Reply, Just}
 
 -- with status 0 a text, by the bytes of what has this name
@@ -51,10 +52,11 @@ IsExplainReply e left status text =
     HoldsOfNamed e.image.name.bytes.items left (λ bytes. (choice : Choice) × AsksFor e.budget e.set.items choice
     × IsExplainText e.image.limits e.cost choice (form_of e.map) (is_some e.names) bytes status text)
 
--- of these replies no clause says more yet
-
+-- whether two files have one heap, or how they differ
 abbrev pub IsSameReply : Same → Option (List ℕ) → Reply
-IsSameReply same left status text = ⊤
+IsSameReply same left = IsSameText same left
+
+-- of these replies no clause says more yet
 
 abbrev pub IsTraceReply : Trace → Option (List ℕ) → Reply
 IsTraceReply trace left status text = status ≡ 0

@@ -2,13 +2,14 @@
 ghost use Rattle.std.specs.Prelude.{◌≡◌, ◌⊎◌, ℕ, List, Ok, Err, IfOk, IfErr, map, ⊤};
 ghost use Rattle.std.specs.Io.KnownBytes.{Keeps};
 ghost use Rattle.g1heap_request.specs.declared.options.Part.TheVariants as asked;
-ghost use Rattle.g1heap_cli.specs.Leaving.{Just, SendsText, HandsText, HandsBytes, HandsPrint, GoesBefore};
+ghost use Rattle.g1heap_cli.specs.Written.{taken_of};
+ghost use Rattle.g1heap_cli.specs.Leaving.{Just, SendsText, SendsLines, SendsSame, WritesReply, HandsText, HandsBytes, HandsPrint, GoesBefore};
 ghost use Rattle.g1heap_cli.specs.Printed.{IfLines, reply_of};
 ghost use Rattle.g1heap_cli.specs.Refusals.{RefusesFile, IsUnread};
 ghost use Rattle.g1heap_cli.specs.Streams.{HoldsOfNamed};
 ghost use Rattle.g1heap_cli.specs.Reasons.{RefusesMake, MayLack};
 ghost use Rattle.g1heap_cli.specs.Texts.{IsPartText, MayChange, IsMade};
-ghost use Rattle.g1heap_cli.specs.Replies.{IsReplyTo, IsPrintReply, IsMakeReply, IsAsked};
+ghost use Rattle.g1heap_cli.specs.Replies.{IsReplyTo, IsSameReply, IsPrintReply, IsMakeReply, IsAsked};
 ghost use Rattle.g1_command.specs.Requests.{IsUsageIf};
 ghost use Rattle.g1heap_cli.specs.Endings.{Leaves, IsReported, EndsByRequest, Ends, IsCalled, IsWrongCall};
 
@@ -18,6 +19,7 @@ use crate::explaining::{explain_object, explain_pause};
 use crate::files::read_bytes;
 use crate::heard::Heard;
 use crate::hexadecimal::with_hexadecimal;
+use crate::line_text::LineText;
 use crate::line_writer::LineWriter;
 use crate::output::write_file;
 use crate::refusal::{no_object, no_region, of_bytes, of_output, refuse_lines};
@@ -28,7 +30,7 @@ use crate::tracing::answer_trace;
 use g1_broken_text::broken_lines;
 use g1_command::{Ending, Refusal, deliver, deliver_text, refuse};
 use g1_image::Image;
-use g1_report::locate;
+use g1_report::{Lines, locate};
 use g1_tables::summary;
 use g1_text::{image_lines, is_graph, make, make_graph, object_line, region_lines};
 use g1_words::{Device, Fault, Limits, object_at};
@@ -159,16 +161,70 @@ fn answer<T: Threads + Sync + Files, R: Read, W: Write + Drop>(
     }
 }
 
-fn compare<T: Threads + Sync + Files, R: Read, W: Write>(
+// The lines of all differences may be longer than memory together.
+fn compare<T: Threads + Sync + Files, R: Read, W: Write + Drop>(
+    rt: &T,
+    alloc: Global,
+    same: &Same,
+    reader: &mut R,
+    writer: &mut Heard<W>,
+) -> Result<u8, Refusal>
+    ensures { SendsSame same.now.all (IsSameReply same.now (R.remaining reader.old)) (⟦<Heard<W> as Write>⟧.contents writer.old) (⟦<Heard<W> as Write>⟧.contents writer.new) result }
+{
+    match same.all {
+        None => compare_at_once(rt, alloc, same, reader, writer),
+        Some(_) => compare_in_lines(rt, alloc, same, reader, writer),
+    }
+}
+
+fn compare_at_once<T: Threads + Sync + Files, R: Read, W: Write>(
     rt: &T,
     alloc: Global,
     same: &Same,
     reader: &mut R,
     writer: &mut W,
-) -> Result<u8, Refusal> {
-    let mut answer = LineWriter::new(alloc, writer);
-    let status = compare_files(rt, alloc, same, reader, &mut answer)?;
-    Ok(answer.finish(status)?)
+) -> Result<u8, Refusal>
+    ensures { SendsText (IsSameReply same.now (R.remaining reader.old)) (W.contents writer.old) (W.contents writer.new) result }
+{
+    let mut answer = LineText::new(alloc);
+    match compare_files(rt, alloc, same, reader, &mut answer) {
+        Ok(status) => send_text(status, answer.as_bytes(), writer),
+        Err(refusal) => Err(refusal),
+    }
+}
+
+// The writer is in the lines until they are sent.
+fn compare_in_lines<T: Threads + Sync + Files, R: Read, W: Write + Drop>(
+    rt: &T,
+    alloc: Global,
+    same: &Same,
+    reader: &mut R,
+    writer: &mut Heard<W>,
+) -> Result<u8, Refusal>
+    ensures { SendsLines (IsSameReply same.now (R.remaining reader.old)) (⟦<Heard<W> as Write>⟧.contents writer.old) (⟦<Heard<W> as Write>⟧.contents writer.new) result }
+{
+    let mut answer = LineWriter::new(alloc, writer.take());
+    let sent = send_lines(rt, alloc, same, reader, &mut answer);
+    *writer = answer.into_writer();
+    sent
+}
+
+fn send_lines<T: Threads + Sync + Files, R: Read, W: Write>(
+    rt: &T,
+    alloc: Global,
+    same: &Same,
+    reader: &mut R,
+    answer: &mut LineWriter<W>,
+) -> Result<u8, Refusal>
+    ensures lines { IfOk result (λ s. WritesReply (IsSameReply same.now (R.remaining reader.old)) (⟦<LineWriter<W> as Lines>⟧.taken answer.old) (⟦<LineWriter<W> as Lines>⟧.taken answer.new) (taken_of W.contents (λ s. s.value) answer.new.gone answer.new.writer answer.new.text.bytes.items) (W.contents answer.new.writer) s) }
+{
+    match compare_files(rt, alloc, same, reader, answer) {
+        Ok(status) => match answer.finish(status) {
+            Ok(status) => Ok(status),
+            Err(fault) => Err(Refusal::Fault(fault)),
+        },
+        Err(refusal) => Err(refusal),
+    }
 }
 
 // The lines of an image; or those that can be read of bytes that are none, if there are any, and why they are none.

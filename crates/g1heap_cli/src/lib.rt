@@ -24,6 +24,7 @@ mod explaining;
 mod files;
 mod heard;
 mod hexadecimal;
+mod line_text;
 mod line_writer;
 mod mapping;
 mod output;

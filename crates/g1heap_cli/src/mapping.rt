@@ -1,4 +1,6 @@
 //! The names of a program, from a file, and lines with names behind them.
+ghost use Rattle.std.specs.Prelude.{◌≡◌, None, IfOk};
+
 use crate::files::read_bytes;
 use crate::refusal::refuse_names;
 use g1_command::Refusal;
@@ -17,7 +19,9 @@ pub fn read_names<'a, T: Files, R: Read>(
     labels: Labels<'a>,
     reader: &mut R,
     text: &'a mut Vec<u8>,
-) -> Result<Option<Names<'a>>, Refusal> {
+) -> Result<Option<Names<'a>>, Refusal>
+    ensures { file.now ≡ None → IfOk result (λ n. n ≡ None) }
+{
     let Some(file) = file else {
         return Ok(None);
     };

@@ -1,6 +1,13 @@
 //! Whether two files have one heap, and what else is asked of them.
+ghost use Rattle.std.specs.Prelude.{◌≡◌, ◌≢◌, ℕ, List, codes, None, IfOk};
+ghost use Rattle.std.specs.Io.KnownBytes.{Appends};
+ghost use Rattle.g1_image.specs.Dirty.{dirtied};
+ghost use Rattle.g1_report.specs.Answer.{IsInOrder};
+ghost use Rattle.g1heap_cli.specs.Young.{young_cards};
+ghost use Rattle.g1heap_cli.specs.SameReplies.{IsSideOf, IsCoveredBeside, IsSameText};
+ghost use Rattle.g1heap_cli.specs.SamePassed.{TakesSaid, TakesCover, TakesReply};
+
 use crate::files::{SideContent, read_side};
-use crate::line_writer::LineWriter;
 use crate::mapping::read_names;
 use crate::refusal::{
     not_for_both, not_for_lines, of_cover, of_heap, of_stale, one_hash, refuse_lines,
@@ -15,7 +22,7 @@ use g1_report::{
 use g1_text::Wrong;
 use g1heap_request::Same;
 use std::alloc::Global;
-use std::io::{Read, Write};
+use std::io::Read;
 use std::rt::Files;
 use std::thread::Threads;
 
@@ -29,16 +36,21 @@ struct Job<'a, T> {
 
 /// Adds the lines for two files to the answer, and returns the status: 1 if they differ. The file before is refused for
 /// its words before the file after is read.
-pub fn compare_files<T: Threads + Sync + Files, R: Read, W: Write>(
+pub fn compare_files<T: Threads + Sync + Files, R: Read, L: Lines>(
     rt: &T,
     alloc: Global,
     same: &Same,
     reader: &mut R,
-    answer: &mut LineWriter<'_, W>,
-) -> Result<u8, Refusal> {
+    answer: &mut L,
+) -> Result<u8, Refusal>
+    ensures text { IfOk result (λ s. (text : List ℕ) × IsSameText same.now (R.remaining reader.old) s text × Appends (L.taken answer.old) (L.taken answer.new) text) }
+{
     let job = Job { rt, alloc, same };
     let mut lines = Vec::new(alloc);
-    let before = read_and_open(&job, same.before.as_str(), reader, &mut lines)?;
+    let before = match read_and_open(&job, same.before.as_str(), reader, &mut lines) {
+        Ok(before) => before,
+        Err(refusal) => return Err(refusal),
+    };
     if let Some(strays) = &before.stale {
         let name = same.before.as_str();
         return Err(refuse_stale(alloc, name, &before, strays.wrong));
@@ -46,18 +58,23 @@ pub fn compare_files<T: Threads + Sync + Files, R: Read, W: Write>(
     compare_to_after(&job, &before, reader, answer)
 }
 
-// Only what is the same is asked for cover.
-fn compare_to_after<T: Threads + Sync + Files, R: Read, W: Write>(
+fn compare_to_after<T: Threads + Sync + Files, R: Read, L: Lines>(
     job: &Job<'_, T>,
     before: &Side<'_>,
     reader: &mut R,
-    answer: &mut LineWriter<'_, W>,
-) -> Result<u8, Refusal> {
+    answer: &mut L,
+) -> Result<u8, Refusal>
+    requires { IsInOrder before.now }
+    ensures text { IfOk result (λ s. TakesReply job.now.same.now (R.remaining reader.old) before.now s (L.taken answer.old) (L.taken answer.new)) }
+{
     let mut lines = Vec::new(job.alloc);
-    let after = read_and_open(job, job.same.after.as_str(), reader, &mut lines)?;
+    let after = match read_and_open(job, job.same.after.as_str(), reader, &mut lines) {
+        Ok(after) => after,
+        Err(refusal) => return Err(refusal),
+    };
     match compare_asked(job, before, &after, reader, answer) {
-        Ok(0) if job.same.covered => push_cover(job, after, answer),
-        compared => compared,
+        Ok(status) => add_cover(job, status, after, answer),
+        Err(refusal) => Err(refusal),
     }
 }
 
@@ -67,33 +84,43 @@ fn read_and_open<'a, T: Files, R: Read>(
     name: &str,
     reader: &mut R,
     lines: &'a mut Vec<u8>,
-) -> Result<Side<'a>, Refusal> {
+) -> Result<Side<'a>, Refusal>
+    ensures side { IfOk result (IsSideOf job.now.same.now.limits name.now (R.remaining reader.old)) }
+    ensures left { name.now ≢ codes "-" → R.remaining reader.new ≡ R.remaining reader.old }
+{
     let alloc = job.alloc;
-    match read_side(job.rt, alloc, name, job.same.limits, reader)? {
-        SideContent::Lines(bytes) => {
+    match read_side(job.rt, alloc, name, job.same.limits, reader) {
+        Ok(SideContent::Lines(bytes)) => {
             *lines = bytes;
             match open_lines(alloc, lines.as_slice()) {
                 Ok(side) => Ok(side),
                 Err(wrong) => Err(refuse_lines(alloc, name, lines.as_slice(), wrong)),
             }
         }
-        SideContent::Image(image) => Ok(open_image(alloc, image)),
-        SideContent::Stale {
-            image,
-            stale,
-            fault,
-        } => Ok(open_stale(alloc, image, stale, fault)),
+        Ok(SideContent::Image(image)) => Ok(open_image(alloc, image)),
+        Ok(
+            SideContent::Stale {
+                image,
+                stale,
+                fault,
+            },
+        ) => Ok(open_stale(alloc, image, stale, fault)),
+        Err(refusal) => Err(refusal),
     }
 }
 
 // The names of the program are read when both heaps are.
-fn compare_asked<T: Files, R: Read, W: Write>(
+fn compare_asked<T: Files, R: Read, L: Lines>(
     job: &Job<'_, T>,
     before: &Side<'_>,
     after: &Side<'_>,
     reader: &mut R,
-    answer: &mut LineWriter<'_, W>,
-) -> Result<u8, Refusal> {
+    answer: &mut L,
+) -> Result<u8, Refusal>
+    requires before { IsInOrder before.now }
+    requires after { IsInOrder after.now }
+    ensures said { IfOk result (λ s. TakesSaid job.now.same.now before.now after.now s (L.taken answer.old) (L.taken answer.new)) }
+{
     check_asked(job.alloc, job.same, before, after)?;
     let (mut text, mut other) = (Vec::new(job.alloc), Vec::new(job.alloc));
     let (rt, alloc, same) = (job.rt, job.alloc, job.same);
@@ -133,13 +160,19 @@ fn check_asked(
     }
 }
 
-fn report_on<T, W: Write>(
+fn report_on<T, L: Lines>(
     job: &Job<'_, T>,
     names: (&Option<Names<'_>>, &Option<Names<'_>>),
     before: &Side<'_>,
     after: &Side<'_>,
-    answer: &mut LineWriter<'_, W>,
-) -> Result<u8, Refusal> {
+    answer: &mut L,
+) -> Result<u8, Refusal>
+    requires before { IsInOrder before.now }
+    requires after { IsInOrder after.now }
+    requires names { job.now.same.now.names ≡ None → names.0.now ≡ None }
+    requires names_after { job.now.same.now.names_after ≡ None → names.1.now ≡ None }
+    ensures said { IfOk result (λ s. TakesSaid job.now.same.now before.now after.now s (L.taken answer.old) (L.taken answer.new)) }
+{
     let same = job.same;
     let asked = Asked {
         before,
@@ -179,7 +212,9 @@ fn refuse_stale(alloc: Global, name: &str, side: &Side<'_>, wrong: Wrong) -> Ref
 }
 
 // The image that is asked for cover: the cards of young regions count as dirty.
-fn to_cover(alloc: Global, same: &Same, after: Side<'_>) -> Result<Image, Refusal> {
+fn to_cover(alloc: Global, same: &Same, after: Side<'_>) -> Result<Image, Refusal>
+    ensures { IfOk result (λ i. i ≡ dirtied after.entry.image (young_cards after.entry.image.heap same.now.young.items)) }
+{
     let Side { image, .. } = after;
     if same.young.is_empty() {
         return Ok(image);
@@ -187,17 +222,48 @@ fn to_cover(alloc: Global, same: &Same, after: Side<'_>) -> Result<Image, Refusa
     with_young(alloc, same.after.as_str(), &image, same.young.as_slice())
 }
 
-// Adds the line of cover. A slot that lacks it is a refusal.
-fn push_cover<T: Threads + Sync, W: Write>(
+// Adds the line of cover behind an answer of this status, if it is asked. Only what is the same is asked for it.
+fn add_cover<T: Threads + Sync, L: Lines>(
+    job: &Job<'_, T>,
+    status: u8,
+    after: Side<'_>,
+    answer: &mut L,
+) -> Result<u8, Refusal>
+    ensures { IfOk result (λ s. TakesCover job.now.same.now after.entry.image status s (L.taken answer.old) (L.taken answer.new)) }
+{
+    if status == 0 && job.same.covered {
+        return push_cover(job, after, answer);
+    }
+    Ok(status)
+}
+
+// A slot that lacks cover is a refusal.
+fn push_cover<T: Threads + Sync, L: Lines>(
     job: &Job<'_, T>,
     after: Side<'_>,
-    answer: &mut LineWriter<'_, W>,
-) -> Result<u8, Refusal> {
-    let image = to_cover(job.alloc, job.same, after)?;
-    if let Err((image, fault)) = verify(job.rt, job.alloc, image) {
-        let name = job.same.after.as_str();
-        return Err(of_cover(job.alloc, name, image.heap(), fault));
+    answer: &mut L,
+) -> Result<u8, Refusal>
+    ensures covered { IfOk result (λ s. IsCoveredBeside job.now.same.now.young.items after.entry.image) }
+    ensures line { IfOk result (λ s. (s ≡ 0) × Appends (L.taken answer.old) (L.taken answer.new) (codes "covered\n")) }
+{
+    let image = match to_cover(job.alloc, job.same, after) {
+        Ok(image) => image,
+        Err(refusal) => return Err(refusal),
+    };
+    match verify(job.rt, job.alloc, image) {
+        Ok(_) => take_covered(answer),
+        Err((image, fault)) => {
+            let name = job.same.after.as_str();
+            Err(of_cover(job.alloc, name, image.heap(), fault))
+        }
     }
-    answer.take("covered\n")?;
-    Ok(0)
+}
+
+fn take_covered<L: Lines>(answer: &mut L) -> Result<u8, Refusal>
+    ensures { IfOk result (λ s. (s ≡ 0) × Appends (L.taken answer.old) (L.taken answer.new) (codes "covered\n")) }
+{
+    match answer.take("covered\n") {
+        Ok(_) => Ok(0),
+        Err(fault) => Err(Refusal::Fault(fault)),
+    }
 }

@@ -1,0 +1,16 @@
+-- The cards of regions, one after the other.
+use Rattle.std.proofs.Common.{◌≡◌, ℕ, zero, suc, ◌+◌, ◌-◌, ◌≤◌, List, [], ◌∷◌, ◌++◌, ◌∙◌, refl, sym, ap, arith, append_assoc, append-nil, take, flat_map}
+use Rattle.std.specs.List.{range_with_len}
+
+range_push : (a n : ℕ) → range_with_len a n ++ (a + n) ∷ [] ≡ range_with_len a (suc n)
+range_push a zero = let e : a + 0 ≡ a = omega arith in ap (λ m. m ∷ []) e
+range_push a (suc n) = let e : a + suc n ≡ a + 1 + n = omega arith in ap (λ xs. a ∷ xs) (ap (λ m. range_with_len (a + 1) n ++ m ∷ []) e ∙ range_push (a + 1) n)
+
+-- one card more
+pub card_more : (old cards : List ℕ) (first card : ℕ) → first ≤ card → cards ≡ old ++ range_with_len first (card - first)
+    → cards ++ card ∷ [] ≡ old ++ range_with_len first (card + 1 - first)
+card_more old cards first card h is =
+    let at : card ≡ first + (card - first) = omega (arith, h) in
+    let more : suc (card - first) ≡ card + 1 - first = omega (arith, h) in
+    ap (λ l. l ++ card ∷ []) is ∙ append_assoc old (range_with_len first (card - first)) (card ∷ [])
+    ∙ ap (λ l. old ++ l) (ap (λ m. range_with_len first (card - first) ++ m ∷ []) at ∙ range_push first (card - first) ∙ ap (range_with_len first) more)

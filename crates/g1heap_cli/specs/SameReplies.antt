@@ -1,0 +1,77 @@
+-- What `same` replies: two sides, what is said of them, and cover.
+use Rattle.std.specs.Prelude.{◌≡◌, ◌≢◌, ℕ, zero, suc, Bool, true, false, List, [], ◌++◌, codes, Option, Some, None}
+use Rattle.g1_words.specs.declared.limits.Limits.{Limits}
+use Rattle.g1_image.specs.Image.{Image}
+use Rattle.g1_image.specs.Cards.{Covered}
+use Rattle.g1_image.specs.Dirty.{dirtied}
+use Rattle.g1_text.specs.Graphs.{NamedGraph}
+use Rattle.g1_report.specs.declared.sides.Side.{Side}
+use Rattle.g1_report.specs.declared.reporting.Asked.{Asked}
+use Rattle.g1_report.specs.Answer.{IsInOrder, HandsOn, HandsOnFirst}
+use Rattle.g1_report.specs.Finding.{IsVerdict}
+use Rattle.g1_report.specs.Opened.{IsStale, ShowsText, AsksOfGraphs, IsVerdictByName}
+use Rattle.g1heap_request.specs.declared.options.Same.{Same}
+use Rattle.g1heap_cli.specs.declared.files.SideContent.{SideContent}
+use Rattle.g1heap_cli.specs.declared.files.SideContent.TheVariants as content
+use Rattle.g1heap_cli.specs.Compared.{IsContent}
+use Rattle.g1heap_cli.specs.Streams.{HoldsOfNamed}
+use Rattle.g1heap_cli.specs.Young.{young_cards}
+
+-- the side is opened of this
+abbrev pub Opens : SideContent → Side → Type 0
+Opens (content.Lines lines) s = ShowsText lines.items s
+Opens (content.Image image) s = (s.image ≡ image) × (s.stale ≡ None)
+Opens (content.Stale image stale fault) s = (s.image ≡ image) × IsStale stale fault s.stale
+
+-- THE SIDE OF A FILE: it is opened of what the bytes of the file have, and its names are in order
+pub record IsSideOf (limits : Limits) (file : List ℕ) (left : Option (List ℕ)) (s : Side) : Type 0 where
+  pub opened : HoldsOfNamed file left (λ bytes. (c : SideContent) × IsContent limits bytes c × Opens c s)
+  pub in_order : IsInOrder s
+
+-- of two sides is asked what the request asks; without a file of names a program has none
+pub record AsksOf (same : Same) (a : Asked) : Type 0 where
+  pub names : same.names ≡ None → a.names ≡ None
+  pub names_after : same.names_after ≡ None → a.names_after ≡ None
+  pub moved : a.moved ≡ same.moved
+  pub set : a.set.now ≡ same.set.items
+  pub fill : a.fill ≡ same.fill
+  pub all : a.all ≡ same.all
+
+-- the text says all that is found of the two; or what is found first, if a program has names
+abbrev pub Says : {V : Type 0} → Option V → Option V → Asked → ℕ → List ℕ → Type 0
+Says None None a status text = HandsOn a status (Some []) (Some text)
+Says None (Some names) a status text = HandsOnFirst a status (Some []) (Some text)
+Says (Some names) after a status text = HandsOnFirst a status (Some []) (Some text)
+
+-- WHAT IS SAID OF TWO SIDES, as the request asks
+pub record IsSaid (same : Same) (a : Asked) (status : ℕ) (text : List ℕ) : Type 0 where
+  pub asks : AsksOf same a
+  pub verdict : IsVerdict a.before.now.image.heap a.after.now.image.heap a.after.now.stale a.set.now a.fill status
+  pub by_name : (g h : NamedGraph) → AsksOfGraphs a g h → IsVerdictByName g h status
+  pub says : Says same.names same.names_after a status text
+
+-- THE TWO FILES ARE COMPARED: what is said is said of their sides. The file before has no stale words. If it is standard input,
+-- it is not known what that has left for the file after
+pub record IsCompared (same : Same) (left : Option (List ℕ)) (a : Asked) (status : ℕ) (text : List ℕ) : Type 0 where
+  pub before : IsSideOf same.limits same.before.bytes.items left a.before.now
+  pub whole : a.before.now.stale ≡ None
+  pub left_after : Option (List ℕ)
+  pub unread : same.before.bytes.items ≢ codes "-" → left_after ≡ left
+  pub after : IsSideOf same.limits same.after.bytes.items left_after a.after.now
+  pub said : IsSaid same a status text
+
+-- the image is covered, if all cards of these regions are dirty
+abbrev pub IsCoveredBeside : List ℕ → Image → Type 0
+IsCoveredBeside young i = Covered (dirtied i (young_cards i.heap young))
+
+-- the text behind that of a comparison: with status 0 the line of cover, if it is asked; else nothing
+abbrev pub AddsCover : Bool → ℕ → List ℕ → Image → List ℕ → Type 0
+AddsCover true zero young i behind = (behind ≡ codes "covered\n") × IsCoveredBeside young i
+AddsCover true (suc n) young i behind = behind ≡ []
+AddsCover false status young i behind = behind ≡ []
+
+-- WHAT `same` REPLIES
+abbrev pub IsSameText : Same → Option (List ℕ) → ℕ → List ℕ → Type 0
+IsSameText same left status text =
+    (a : Asked) × (front : List ℕ) × (behind : List ℕ) × IsCompared same left a status front
+    × AddsCover same.covered status same.young.items a.after.now.image behind × (text ≡ front ++ behind)
