@@ -2,3 +2,8 @@ pub mod Told
 pub mod Left
 pub mod Found
 pub mod Made
+pub mod LineByLine
+pub mod TraceRuns
+pub mod TraceSent
+pub mod TraceReached
+pub mod TraceNamed

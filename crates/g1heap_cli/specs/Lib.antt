@@ -6,6 +6,8 @@ pub mod Found
 pub mod Texts
 pub mod Reasons
 pub mod Leaving
+pub mod Traced
+pub mod Tracing
 pub mod Printed
 pub mod Compared
 pub mod Replies
