@@ -9,3 +9,8 @@ pub mod Called
 pub mod Handed
 pub mod SameSides
 pub mod YoungCards
+pub mod LineByLine
+pub mod TraceRuns
+pub mod TraceSent
+pub mod TraceReached
+pub mod TraceNamed

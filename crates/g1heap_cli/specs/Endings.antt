@@ -1,5 +1,5 @@
 -- How g1heap ends.
-use Rattle.std.specs.Prelude.{◌≡◌, ◌⊎◌, ℕ, Bool, true, List, Option, codes, IsOk, Result, Ok, Err, ⊤}
+use Rattle.std.specs.Prelude.{◌≡◌, ◌⊎◌, ℕ, Bool, true, List, Option, codes, IsOk, Result, Ok, Err}
 use Rattle.std.specs.Io.KnownBytes.{Keeps}
 use Rattle.g1_words.specs.declared.fault.Fault.TheVariants.{Device}
 use Rattle.g1_words.specs.declared.fault.Device.TheVariants.{Output as OutputFailed}
@@ -14,14 +14,15 @@ use Rattle.g1heap_request.specs.declared.output.Output.TheVariants.{Default}
 use Rattle.g1heap_request.specs.Words.{Asked, IsWrong}
 use Rattle.g1heap_cli.specs.declared.terminals.Terminals.{Terminals}
 use Rattle.g1heap_cli.specs.Refusals.{RefusesOutput}
-use Rattle.g1heap_cli.specs.Leaving.{Reply, Announces, SendsText, SendsSame, HandsText, HandsBytes, HandsPrint}
+use Rattle.g1heap_cli.specs.Leaving.{Reply, Announces, SendsText, SendsSame, SendsTrace, HandsText, HandsBytes, HandsPrint}
+use Rattle.g1heap_cli.specs.Traced.{is_live, sent_command}
 use Rattle.g1heap_cli.specs.Replies.{IsReplyTo}
 
 -- the program's name
 abbrev pub name : List ℕ
 name = codes "g1heap"
 
--- what a request leaves on standard output, by that before and after; of `trace` nothing is said
+-- what a request leaves on standard output, by that before and after
 abbrev pub Leaves : Request → Reply → Option (List ℕ) → Option (List ℕ) → Result ℕ Refusal → Type 0
 Leaves (request.Help text) = SendsText
 Leaves (request.Same same) = SendsSame same.all
@@ -30,7 +31,7 @@ Leaves (request.Make lines output) = HandsBytes output
 Leaves (request.Convert asked) = HandsBytes asked.output
 Leaves (request.Explain explain) = HandsText explain.output
 Leaves (request.Why why) = SendsText
-Leaves (request.Trace trace) = λ Is old new r. ⊤
+Leaves (request.Trace trace) = SendsTrace (is_live trace) (sent_command trace.image)
 Leaves (request.Ask a) = HandsText a.output
 Leaves (request.Rewrite r) = HandsBytes r.output
 

@@ -1,5 +1,5 @@
 -- What a request leaves on standard output.
-use Rattle.std.specs.Prelude.{◌≡◌, ◌⊎◌, ℕ, Bool, true, false, List, take, Option, Some, None, Result, Ok, Err, ⊤}
+use Rattle.std.specs.Prelude.{◌≡◌, ◌⊎◌, ℕ, zero, suc, Bool, true, false, List, take, Option, Some, None, Result, Ok, Err, ⊤}
 use Rattle.std.specs.Io.KnownBytes.{Appends, Keeps}
 use Rattle.g1_words.specs.declared.fault.Fault.TheVariants as fault
 use Rattle.g1_words.specs.declared.fault.Device.TheVariants as device
@@ -94,3 +94,14 @@ GoesBefore output.Default = Grows
 abbrev pub HandsPrint : Output → Reply → Option (List ℕ) → Option (List ℕ) → Result ℕ Refusal → Type 0
 HandsPrint out Is old new (Ok status) = HandsText out Is old new (Ok status)
 HandsPrint out Is old new (Err why) = GoesBefore out old new
+
+-- a reply that is sent as it is made: behind a refusal a beginning of it stands there
+abbrev pub SendsAsMade : Reply → Option (List ℕ) → Option (List ℕ) → Result ℕ Refusal → Type 0
+SendsAsMade Is old new (Ok status) = SendsText Is old new (Ok status)
+SendsAsMade Is old new (Err why) = Begins Is old new
+
+-- the reply to a trace is sent, as it is made or at the end: a text, or an image, if the number of its command isn't 0
+abbrev pub SendsTrace : Bool → ℕ → Reply → Option (List ℕ) → Option (List ℕ) → Result ℕ Refusal → Type 0
+SendsTrace true n = SendsAsMade
+SendsTrace false zero = SendsText
+SendsTrace false (suc n) = SendsBytes

@@ -7,6 +7,8 @@ pub mod Texts
 pub mod Reasons
 pub mod Written
 pub mod Leaving
+pub mod Traced
+pub mod Tracing
 pub mod Printed
 pub mod Compared
 pub mod Young

@@ -19,6 +19,7 @@ use Rattle.g1heap_cli.specs.Streams.{HoldsOfNamed}
 use Rattle.g1heap_cli.specs.Texts.{IsPrinted, IsMade, IsWhyText, AsksFor, IsExplainText, form_of}
 use Rattle.g1heap_cli.specs.SameReplies.{IsSameText}
 use Rattle.g1heap_cli.specs.Leaving.{Reply, Just}
+use Rattle.g1heap_cli.specs.Traced.{RepliesToTrace}
 
 -- with status 0 a text, by the bytes of what has this name
 abbrev pub ByNamed : List ℕ → Option (List ℕ) → (List ℕ → List ℕ → Type 0) → Reply
@@ -46,6 +47,10 @@ IsMakeReply file left = ByNamed file left IsMade
 abbrev pub IsWhyReply : Why → Option (List ℕ) → Reply
 IsWhyReply why left = ByNamed why.image.name.bytes.items left (IsWhyText why.image.limits why.address (is_some why.names))
 
+-- the reply to a trace
+abbrev pub IsTraceReply : Trace → Option (List ℕ) → Reply
+IsTraceReply trace left = RepliesToTrace trace (HoldsOfNamed trace.name.bytes.items left)
+
 -- the explanation of a pause, by a choice that the request asks for
 abbrev pub IsExplainReply : Explain → Option (List ℕ) → Reply
 IsExplainReply e left status text =
@@ -55,11 +60,6 @@ IsExplainReply e left status text =
 -- whether two files have one heap, or how they differ
 abbrev pub IsSameReply : Same → Option (List ℕ) → Reply
 IsSameReply same left = IsSameText same left
-
--- of these replies no clause says more yet
-
-abbrev pub IsTraceReply : Trace → Option (List ℕ) → Reply
-IsTraceReply trace left status text = status ≡ 0
 
 -- THE REPLY TO A REQUEST
 abbrev pub IsReplyTo : Request → Option (List ℕ) → Reply

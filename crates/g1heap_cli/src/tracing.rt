@@ -1,6 +1,16 @@
 //! A trace that is answered line by line.
-ghost use Rattle.std.specs.Prelude.{IfOk};
+ghost use Rattle.std.specs.Prelude.{◌≡◌, ◌≤◌, ◌++◌, ◌∷◌, [], ℕ, List, Some, false, IfOk, IfSome, IfNone, IsSome, OnOk, option_map};
+ghost use Rattle.g1_image.specs.Source.{HoldsOfLeft};
 ghost use Rattle.g1_pause.specs.Steps.{AreStepsOf};
+ghost use Rattle.g1_command.specs.Lines.{left_of};
+ghost use Rattle.g1_trace.specs.Session.{IsDone, commands_of, image_of};
+ghost use Rattle.g1_trace.specs.Telling.{reply_line};
+ghost use Rattle.g1_trace.specs.declared.session.Taken.TheVariants as taken;
+ghost use Rattle.g1heap_cli.specs.Refusals.{RefusesLine};
+ghost use Rattle.g1heap_cli.specs.Leaving.{Just, SendsBytes, SendsText, SendsTrace};
+ghost use Rattle.g1heap_cli.specs.Replies.{IsTraceReply};
+ghost use Rattle.g1heap_cli.specs.Traced.{RepliesToTrace, asked_command, is_live as live_of, sent_command as sent_of};
+ghost use Rattle.g1heap_cli.specs.Tracing.{AddsReply, IsAtStart, IsMade, KeepsImage, KeepsReplies, TakesLine, kept as kept_of, number_text};
 
 use crate::alone::{CHUNK, WORKERS};
 use crate::explaining::of_failure;
@@ -17,7 +27,7 @@ use g1_rem::Tracked;
 use g1_trace::{Expected, Reply, Session, Taken, Wrong, push_reply};
 use g1_words::{Device, Fault};
 use g1_work::Open;
-use g1heap_request::{Output, STANDARD_STREAM, Trace};
+use g1heap_request::{ImageAfter, Output, STANDARD_STREAM, Trace};
 use std::alloc::{AllocError, Global};
 use std::io::{Read, Write};
 use std::rt::Files;
@@ -30,14 +40,6 @@ struct Job<'a, T> {
     alloc: Global,
     trace: &'a Trace,
     settings: Settings,
-}
-
-// The lines of a trace, and the last one that was read, with its end and its number.
-#[derive(Drop)]
-struct Input<'r, R> {
-    lines: LineReader<'r, R>,
-    line: Vec<u8>,
-    number: u64,
 }
 
 // The session after the lines that were read, and what is answered and not written yet.
@@ -57,19 +59,27 @@ pub fn answer_trace<T: Threads + Sync + Files, R: Read, W: Write>(
     trace: &Trace,
     reader: &mut R,
     writer: &mut W,
-) -> Result<u8, Refusal> {
+) -> Result<u8, Refusal>
+    ensures { SendsTrace (live_of trace.now) (sent_of trace.now.image) (IsTraceReply trace.now (R.remaining reader.old)) (W.contents writer.old) (W.contents writer.new) result }
+{
+    let settings = match settings_with(trace, 0) {
+        Ok(settings) => settings,
+        Err(fault) => return Err(Refusal::Fault(fault)),
+    };
     let job = Job {
         rt,
         alloc,
         trace,
-        settings: settings_with(trace, 0)?,
+        settings,
     };
     let name = trace.name.as_str();
     if name == STANDARD_STREAM {
         return answer_heard(&job, reader, writer);
     }
-    let mut file = open_file(rt, alloc, name)?;
-    answer_heard(&job, &mut file, writer)
+    match open_file(rt, alloc, name) {
+        Ok(mut file) => answer_heard(&job, &mut file, writer),
+        Err(refusal) => Err(refusal),
+    }
 }
 
 // A read that fails is reported with the system's reason.
@@ -77,7 +87,10 @@ fn answer_heard<T: Threads + Sync + Files, R: Read, W: Write>(
     job: &Job<'_, T>,
     reader: &mut R,
     writer: &mut W,
-) -> Result<u8, Refusal> {
+) -> Result<u8, Refusal>
+    requires cost { job.now.settings.cost ≡ job.now.trace.now.cost }
+    ensures { SendsTrace (live_of job.now.trace.now) (sent_of job.now.trace.now.image) (RepliesToTrace job.now.trace.now (HoldsOfLeft (R.remaining reader.old))) (W.contents writer.old) (W.contents writer.new) result }
+{
     let mut heard = Heard::new(reader);
     let answered = answer_lines(job, &mut heard, writer);
     match answered {
@@ -89,7 +102,10 @@ fn answer_heard<T: Threads + Sync + Files, R: Read, W: Write>(
     }
 }
 
-fn settings_with(trace: &Trace, budget: u64) -> Result<Settings, Fault> {
+fn settings_with(trace: &Trace, budget: u64) -> Result<Settings, Fault>
+    ensures cost { IfOk result (λ s. s.cost ≡ trace.now.cost) }
+    ensures choice { IfOk result (λ s. s.choice ≡ Choice.Budget budget) }
+{
     Settings::new(WORKERS, CHUNK, trace.cost, Choice::Budget(budget))
 }
 
@@ -97,71 +113,156 @@ fn answer_lines<T: Threads + Sync + Files, R: Read, W: Write>(
     job: &Job<'_, T>,
     reader: &mut R,
     writer: &mut W,
-) -> Result<u8, Refusal> {
-    let mut input = Input {
-        lines: LineReader::new(job.alloc, reader)?,
-        line: Vec::new(job.alloc),
-        number: 0,
+) -> Result<u8, Refusal>
+    requires cost { job.now.settings.cost ≡ job.now.trace.now.cost }
+    ensures { SendsTrace (live_of job.now.trace.now) (sent_of job.now.trace.now.image) (RepliesToTrace job.now.trace.now (HoldsOfLeft (R.remaining reader.old))) (W.contents writer.old) (W.contents writer.new) result }
+{
+    let mut lines = match LineReader::new(job.alloc, reader) {
+        Ok(lines) => lines,
+        Err(fault) => return Err(Refusal::Fault(fault)),
     };
     let mut state = State {
         session: Session::new(),
         replies: Vec::new(job.alloc),
         image: None,
     };
-    answer_all(job, &mut input, &mut state, writer)
+    answer_all(job, &mut lines, &mut state, writer)
 }
 
 fn answer_all<T: Threads + Sync + Files, R: Read, W: Write>(
     job: &Job<'_, T>,
-    input: &mut Input<'_, R>,
+    lines: &mut LineReader<'_, R>,
     state: &mut State,
     writer: &mut W,
-) -> Result<u8, Refusal> {
-    for _ in 0..u64::MAX {
-        if !read_line(input)? {
-            break;
+) -> Result<u8, Refusal>
+    requires cost { job.now.settings.cost ≡ job.now.trace.now.cost }
+    requires start { IsAtStart state.old }
+    ensures { SendsTrace (live_of job.now.trace.now) (sent_of job.now.trace.now.image) (RepliesToTrace job.now.trace.now (HoldsOfLeft (left_of R.remaining lines.old))) (W.contents writer.old) (W.contents writer.new) result }
+{
+    let is_live = is_live(job.trace);
+    let mut line = Vec::new(job.alloc);
+    for number in 1..u64::MAX {
+        line.clear();
+        match lines.read_into(&mut line) {
+            Ok(true) => {}
+            Ok(false) => return finish(job, number, state, writer),
+            Err(fault) => return Err(Refusal::Fault(fault)),
         }
-        let explained = job.trace.explain && explain_line(job, input.line.as_slice(), state)?;
-        if !explained {
-            take_line(job, input.line.as_slice(), input.number, state)?;
+        match take_line(job, line.as_slice(), number, state) {
+            Ok(()) => {}
+            Err(refusal) => return Err(refusal),
         }
-        if job.trace.live {
-            let status = write_all(job, state, writer)?;
-            if status != 0 {
-                return Ok(status);
+        if is_live {
+            match write_made(job, state, writer) {
+                Ok(0) => {}
+                Ok(status) => return Ok(status),
+                Err(refusal) => return Err(refusal),
             }
         }
     }
-    check_end(job.alloc, job.trace, &state.session, input.number)?;
-    write_all(job, state, writer)
+    // No input is so long.
+    Err(Refusal::Fault(Fault::Device(Device::Input)))
 }
 
-// Writes what is not written yet, the image first, and gives the status. If the image is on standard output, the replies
-// are not.
-fn write_all<T: Files, W: Write>(
+// The command whose image goes to standard output, or 0.
+fn sent_command(trace: &Trace) -> u64
+    ensures { result ≡ sent_of trace.now.image }
+{
+    match &trace.image {
+        Some(
+            ImageAfter {
+                output: Output::File(_),
+                ..
+            },
+        )
+        | None => 0,
+        Some(wanted) => wanted.command,
+    }
+}
+
+// Whether each line is answered at once.
+fn is_live(trace: &Trace) -> bool
+    ensures { result ≡ live_of trace.now }
+{
+    trace.live && sent_command(trace) == 0
+}
+
+// Writes what is made and not written yet, the image first, and gives the status.
+fn write_made<T: Files, W: Write>(
     job: &Job<'_, T>,
     state: &mut State,
     writer: &mut W,
-) -> Result<u8, Refusal> {
-    if let (Some(wanted), Some(bytes)) = (&job.trace.image, &state.image) {
-        let Output::File(name) = &wanted.output else {
-            deliver(bytes.as_slice(), writer)?;
-            return Ok(0);
-        };
-        write_file(job.rt, job.alloc, name.as_str(), bytes.as_slice())?;
-        state.image = None;
+) -> Result<u8, Refusal>
+    ensures sent { SendsText (Just 0 state.old.replies.items) (W.contents writer.old) (W.contents writer.new) result }
+    ensures session { state.new.session ≡ state.old.session }
+    ensures done { OnOk result (state.new.replies.items ≡ []) }
+{
+    match write_image(job, state) {
+        Ok(()) => {}
+        Err(refusal) => return Err(refusal),
     }
-    let status = deliver_text(0, state.replies.as_slice(), writer)?;
-    state.replies.clear();
-    Ok(status)
+    match deliver_text(0, state.replies.as_slice(), writer) {
+        Ok(status) => {
+            state.replies.clear();
+            Ok(status)
+        }
+        Err(fault) => Err(Refusal::Fault(fault)),
+    }
 }
 
-// Reads the next line; there is none at the end of the input.
-fn read_line<R: Read>(input: &mut Input<'_, R>) -> Result<bool, Fault> {
-    input.line.clear();
-    let is_there = input.lines.read_into(&mut input.line)?;
-    input.number = input.number.saturating_add(u64::from(is_there));
-    Ok(is_there)
+// Writes the image, if it is there and goes to a file.
+fn write_image<T: Files>(job: &Job<'_, T>, state: &mut State) -> Result<(), Refusal>
+    ensures session { state.new.session ≡ state.old.session }
+    ensures replies { state.new.replies ≡ state.old.replies }
+{
+    let Some(
+        ImageAfter {
+            output: Output::File(name),
+            ..
+        },
+    ) = &job.trace.image
+    else {
+        return Ok(());
+    };
+    match state.image.take() {
+        Some(bytes) => write_file(job.rt, job.alloc, name.as_str(), bytes.as_slice()),
+        None => Ok(()),
+    }
+}
+
+// Behind the last line: writes what is made of all lines.
+fn finish<T: Files, W: Write>(
+    job: &Job<'_, T>,
+    number: u64,
+    state: &mut State,
+    writer: &mut W,
+) -> Result<u8, Refusal>
+    ensures { SendsTrace false (sent_of job.now.trace.now.image) (IsMade job.now.trace.now state.old) (W.contents writer.old) (W.contents writer.new) result }
+{
+    match check_end(job.alloc, job.trace, &state.session, number) {
+        Ok(()) => {}
+        Err(refusal) => return Err(refusal),
+    }
+    if sent_command(job.trace) > 0 {
+        return send_image(job, state, writer);
+    }
+    write_made(job, state, writer)
+}
+
+// Sends the image in place of the replies.
+fn send_image<T, W: Write>(job: &Job<'_, T>, state: &State, writer: &mut W) -> Result<u8, Refusal>
+    ensures { SendsBytes (λ s text. (s ≡ 0) × (kept_of state.now ≡ Some text)) (W.contents writer.old) (W.contents writer.new) result }
+{
+    match &state.image {
+        Some(bytes) => match deliver(bytes.as_slice(), writer) {
+            Ok(()) => Ok(0),
+            Err(fault) => Err(Refusal::Fault(fault)),
+        },
+        None => {
+            let (wanted, commands) = (sent_command(job.trace), state.session.commands());
+            Err(no_command(job.alloc, job.trace.name.as_str(), wanted, commands))
+        }
+    }
 }
 
 // Does a line, and adds what it is answered to what is not written yet.
@@ -170,33 +271,18 @@ fn take_line<T: Threads + Sync + Files>(
     line: &[u8],
     number: u64,
     state: &mut State,
-) -> Result<(), Refusal> {
-    let content = content_of(job.alloc, job.trace, line, number)?;
-    match state
-        .session
-        .take(job.rt, job.alloc, content, &job.settings)
-    {
+) -> Result<(), Refusal>
+    requires cost { job.now.settings.cost ≡ job.now.trace.now.cost }
+    ensures { OnOk result (TakesLine job.now.trace.now line.now state.old state.new) }
+{
+    let content = match content_of(job.alloc, job.trace, line, number) {
+        Ok(content) => content,
+        Err(refusal) => return Err(refusal),
+    };
+    match do_line(job, content, number, state) {
         Ok(Taken::Nothing) => Ok(()),
         Ok(Taken::Reply(reply)) => add_reply(job.alloc, job.trace, reply, state),
-        Err(Wrong::Line(expected)) => {
-            let hint = hint_on_line(job.alloc, content, number)?;
-            Err(wrong(job.alloc, job.trace, number, expected, hint))
-        }
-        Err(Wrong::Fault(fault)) => Err(of_file(job.alloc, job.trace.name.as_str(), fault)),
-    }
-}
-
-// What a line is that is none of a trace, if it can be seen.
-fn hint_on_line(alloc: Global, content: &[u8], number: u64) -> Result<Option<Hint>, AllocError> {
-    if content.ends_with(b"\r") {
-        return Ok(Some(Hint::Dos(number)));
-    }
-    if number > 1 {
-        return Ok(None);
-    }
-    match hint_on(alloc, content)? {
-        Some(Hint::Look(Look::Trace)) => Ok(None),
-        hint => Ok(hint),
+        Err(refusal) => Err(refusal),
     }
 }
 
@@ -206,65 +292,46 @@ fn content_of<'l>(
     trace: &Trace,
     line: &'l [u8],
     number: u64,
-) -> Result<&'l [u8], Refusal> {
+) -> Result<&'l [u8], Refusal>
+    ensures { IfOk result (λ c. line.now ≡ c.now ++ 10 ∷ []) }
+{
     if number == 1 && is_image(line) {
         return Err(wrong(alloc, trace, 1, Expected::Heap, Some(Hint::Image)));
     }
     match line.split_last() {
         Some((b'\n', content)) => Ok(content),
-        _ => {
-            let hint = hint_on_line(alloc, line, number)?;
-            Err(wrong(alloc, trace, number, Expected::End, hint))
-        }
+        _ => Err(wrong_content(alloc, trace, line, number, Expected::End)),
     }
 }
 
-fn add_reply(alloc: Global, trace: &Trace, reply: Reply, state: &mut State) -> Result<(), Refusal> {
-    push_numbered(alloc, trace, &state.session, reply, &mut state.replies)?;
-    keep_image(alloc, trace, &state.session, &mut state.image)
-}
-
-fn wrong(
-    alloc: Global,
-    trace: &Trace,
-    number: u64,
-    expected: Expected,
-    hint: Option<Hint>,
-) -> Refusal {
-    wrong_line(alloc, trace.name.as_str(), number, &expected, hint)
-}
-
-fn push_numbered(
-    alloc: Global,
-    trace: &Trace,
-    session: &Session,
-    reply: Reply,
-    replies: &mut Vec<u8>,
-) -> Result<(), Refusal> {
-    if trace.numbered {
-        let commands = session.commands();
-        let number = format!(in alloc; "{commands} ")?;
-        replies.extend_from_slice(number.as_bytes())?;
-    }
-    push_reply(replies, reply)?;
-    Ok(())
-}
-
-// Does the pause that a line asks for, and adds what it is answered. Returns whether the line asks for one.
-fn explain_line<T: Threads + Sync + Files>(
+// Does a line without its end. The pause that is explained is the one that is carried out.
+fn do_line<T: Threads + Sync + Files>(
     job: &Job<'_, T>,
-    line: &[u8],
+    content: &[u8],
+    number: u64,
     state: &mut State,
-) -> Result<bool, Refusal> {
-    let Some((b'\n', content)) = line.split_last() else {
-        return Ok(false);
-    };
-    match take_explained(job, content, state)? {
-        Some(reply) => {
-            add_reply(job.alloc, job.trace, reply, state)?;
-            Ok(true)
+) -> Result<Taken, Refusal>
+    requires cost { job.now.settings.cost ≡ job.now.trace.now.cost }
+    ensures done { IfOk result (λ t. IsDone job.now.trace.now.cost state.old.session content.now t state.new.session) }
+    ensures image { state.new.image ≡ state.old.image }
+    ensures replies { IfOk result (λ t. KeepsReplies job.now.trace.now.explain t state.old.replies.items state.new.replies.items) }
+{
+    if job.trace.explain {
+        match take_explained(job, content, state) {
+            Ok(Some(reply)) => return Ok(Taken::Reply(reply)),
+            Ok(None) => {}
+            Err(refusal) => return Err(refusal),
         }
-        None => Ok(false),
+    }
+    match state
+        .session
+        .take(job.rt, job.alloc, content, &job.settings)
+    {
+        Ok(taken) => Ok(taken),
+        Err(Wrong::Line(expected)) => Err(wrong_content(
+            job.alloc, job.trace, content, number, expected,
+        )),
+        Err(Wrong::Fault(fault)) => Err(of_file(job.alloc, job.trace.name.as_str(), fault)),
     }
 }
 
@@ -272,16 +339,24 @@ fn explain_line<T: Threads + Sync + Files>(
 // explained is the one that is carried out.
 fn take_explained<T: Threads + Sync + Files>(
     job: &Job<'_, T>,
-    line: &[u8],
+    content: &[u8],
     state: &mut State,
-) -> Result<Option<Reply>, Refusal> {
-    let Some((budget, tracked)) = state.session.asked_pause(line) else {
+) -> Result<Option<Reply>, Refusal>
+    ensures done { IfOk result (λ o. IfSome o (λ r. IsDone job.now.trace.now.cost state.old.session content.now (taken.Reply r) state.new.session)) }
+    ensures none { IfOk result (λ o. IfNone o (state.new ≡ state.old)) }
+    ensures image { state.new.image ≡ state.old.image }
+{
+    let Some((budget, tracked)) = state.session.asked_pause(content) else {
         return Ok(None);
     };
-    let settings = settings_with(job.trace, budget)?;
-    let steps = explained_steps(job, tracked, &settings, &mut state.replies)?;
-    let reply = state.session.carry_out_pause(job.rt, &settings, steps);
-    Ok(Some(reply))
+    let settings = match settings_with(job.trace, budget) {
+        Ok(settings) => settings,
+        Err(fault) => return Err(Refusal::Fault(fault)),
+    };
+    match explained_steps(job, tracked, &settings, &mut state.replies) {
+        Ok(steps) => Ok(Some(state.session.carry_out_pause(job.rt, &settings, steps))),
+        Err(refusal) => Err(refusal),
+    }
 }
 
 // The steps of the pause of an image, whose lines are added to the replies.
@@ -323,29 +398,104 @@ fn push_explanation<T>(
     }
 }
 
+// What a line is that is none of a trace, if it can be seen.
+fn hint_on_line(alloc: Global, content: &[u8], number: u64) -> Result<Option<Hint>, AllocError> {
+    if content.ends_with(b"\r") {
+        return Ok(Some(Hint::Dos(number)));
+    }
+    if number > 1 {
+        return Ok(None);
+    }
+    match hint_on(alloc, content)? {
+        Some(Hint::Look(Look::Trace)) => Ok(None),
+        hint => Ok(hint),
+    }
+}
+
+// The refusal of a line, with what can be seen of it.
+fn wrong_content(
+    alloc: Global,
+    trace: &Trace,
+    content: &[u8],
+    number: u64,
+    expected: Expected,
+) -> Refusal
+    ensures { RefusesLine trace.now.name.bytes.items number result }
+{
+    match hint_on_line(alloc, content, number) {
+        Ok(hint) => wrong(alloc, trace, number, expected, hint),
+        Err(_) => Refusal::Fault(Fault::Memory),
+    }
+}
+
+fn wrong(
+    alloc: Global,
+    trace: &Trace,
+    number: u64,
+    expected: Expected,
+    hint: Option<Hint>,
+) -> Refusal
+    ensures { RefusesLine trace.now.name.bytes.items number result }
+{
+    wrong_line(alloc, trace.name.as_str(), number, &expected, hint)
+}
+
+fn add_reply(alloc: Global, trace: &Trace, reply: Reply, state: &mut State) -> Result<(), Refusal>
+    ensures { OnOk result (AddsReply trace.now reply state.old state.new) }
+{
+    match push_numbered(alloc, trace, &state.session, reply, &mut state.replies) {
+        Ok(()) => keep_image(alloc, trace, &state.session, &mut state.image),
+        Err(_) => Err(Refusal::Fault(Fault::Memory)),
+    }
+}
+
+fn push_numbered(
+    alloc: Global,
+    trace: &Trace,
+    session: &Session,
+    reply: Reply,
+    replies: &mut Vec<u8>,
+) -> Result<(), AllocError>
+    ensures { OnOk result (replies.new.items ≡ replies.old.items ++ (number_text trace.now.numbered (commands_of session.now) ++ reply_line reply)) }
+{
+    if trace.numbered {
+        let commands = session.commands();
+        let number = format!(in alloc; "{commands} ")?;
+        replies.extend_from_slice(number.as_bytes())?;
+    }
+    push_reply(replies, reply)
+}
+
 // Keeps the image if it is that after the command that was asked for.
 fn keep_image(
     alloc: Global,
     trace: &Trace,
     session: &Session,
     kept: &mut Option<Vec<u8>>,
-) -> Result<(), Refusal> {
+) -> Result<(), Refusal>
+    ensures { OnOk result (KeepsImage trace.now.image session.now (option_map (λ v. v.items) kept.old) (option_map (λ v. v.items) kept.new)) }
+{
     let Some(wanted) = &trace.image else {
         return Ok(());
     };
     match session.image() {
-        Some(image) if session.commands() == wanted.command => {
-            *kept = Some(encode(alloc, image)?);
-            Ok(())
-        }
+        Some(image) if session.commands() == wanted.command => match encode(alloc, image) {
+            Ok(bytes) => {
+                *kept = Some(bytes);
+                Ok(())
+            }
+            Err(fault) => Err(Refusal::Fault(fault)),
+        },
         _ => Ok(()),
     }
 }
 
 // A trace has a line with the sizes, and the command whose image is wanted.
-fn check_end(alloc: Global, trace: &Trace, session: &Session, lines: u64) -> Result<(), Refusal> {
+fn check_end(alloc: Global, trace: &Trace, session: &Session, number: u64) -> Result<(), Refusal>
+    ensures begun { OnOk result (IsSome (image_of session.now)) }
+    ensures enough { OnOk result (asked_command trace.now.image ≤ commands_of session.now) }
+{
     if session.image().is_none() {
-        let number = lines.saturating_add(1);
         return Err(wrong(alloc, trace, number, Expected::Heap, None));
     }
     match &trace.image {
