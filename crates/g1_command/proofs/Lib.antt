@@ -3,3 +3,4 @@ pub mod Numerals
 pub mod Got
 pub mod Tabled
 pub mod Listed
+pub mod ReadLines

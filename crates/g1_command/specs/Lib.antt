@@ -4,3 +4,4 @@ pub mod Values
 pub mod Table
 pub mod Lists
 pub mod Requests
+pub mod Lines

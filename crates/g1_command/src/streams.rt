@@ -3,6 +3,7 @@ ghost use Rattle.std.specs.Prelude.{◌≡◌, ◌⊎◌, ℕ, List, IfOk, IfErr
 ghost use Rattle.std.specs.Io.{WritesAtMost};
 ghost use Rattle.std.specs.Io.KnownBytes.{Appends, WriteAppends};
 ghost use Rattle.g1_command.specs.Deliveries.{Delivers, DeliversText};
+ghost use Rattle.g1_command.specs.Lines.{left_of, ReadsLine};
 
 use g1_words::{Device, Fault};
 use std::alloc::Global;
@@ -64,7 +65,10 @@ impl<'r, R: Read> LineReader<'r, R> {
     /// # Errors
     ///
     /// `Fault::Memory`.
-    pub fn new(alloc: Global, reader: &'r mut R) -> Result<LineReader<'r, R>, Fault> {
+    pub fn new(alloc: Global, reader: &'r mut R) -> Result<LineReader<'r, R>, Fault>
+        ensures left { IfOk result (λ r. left_of R.remaining r ≡ R.remaining reader.old) }
+        ensures fault { IfErr result (λ e. e ≡ Fault.Memory) }
+    {
         let watched = Watched {
             inner: reader,
             failed: false,
@@ -81,7 +85,10 @@ impl<'r, R: Read> LineReader<'r, R> {
     /// # Errors
     ///
     /// `Fault::Device(Device::Input)` if a read failed, and `Fault::Memory`.
-    pub fn read_into(&mut self, line: &mut Vec<u8>) -> Result<bool, Fault> {
+    pub fn read_into(&mut self, line: &mut Vec<u8>) -> Result<bool, Fault>
+        ensures line { IfOk result (ReadsLine (left_of R.remaining self.old) (left_of R.remaining self.new) line.old.items line.new.items) }
+        ensures fault { IfErr result (λ e. (e ≡ Fault.Memory) ⊎ (e ≡ Fault.Device Device.Input)) }
+    {
         match self.inner.read_until(b'\n', line) {
             Ok(count) => Ok(count > 0),
             Err(_) if self.inner.get_ref().failed => Err(Fault::Device(Device::Input)),
