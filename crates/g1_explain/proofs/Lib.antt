@@ -24,3 +24,4 @@ pub mod DirtyLines
 pub mod HumongousLines
 pub mod Keepers
 pub mod FirstKeepers
+pub mod Unkept

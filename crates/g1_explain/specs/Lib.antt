@@ -11,4 +11,5 @@ pub mod Totals
 pub mod Remembered
 pub mod Humongous
 pub mod Keepers
+pub mod Unkept
 pub mod Steps

@@ -2,6 +2,7 @@
 ghost use Rattle.std.specs.Prelude.{◌≡◌, ◌++◌, string_bytes, OnOk, IfOk};
 ghost use Rattle.g1_text.specs.Lines.{text_of};
 ghost use Rattle.g1_explain.specs.Steps.{AreTaken, IsTextOfSteps, covered_lines, refusal_of};
+ghost use Rattle.g1_explain.specs.Unkept.{FreesUnkept};
 
 use crate::failure::Failure;
 use crate::form::Form;
@@ -59,6 +60,7 @@ pub fn explain_steps(
 ) -> Result<Explanation, Failure>
     ensures lines { AreTaken settings.now.cost settings.now.choice before.now steps.now → IfOk result (λ x. IsTextOfSteps settings.now.cost before.now steps.now (string_bytes x.text)) }
     ensures refused { IfOk result (λ x. x.refused ≡ refusal_of steps.now.outcome) }
+    ensures freed { AreTaken settings.now.cost settings.now.choice before.now steps.now → OnOk result (FreesUnkept before.now.heap steps.now.outcome) }
 {
     let mut text = String::new(alloc);
     push_heading(&mut text, before.image())?;
