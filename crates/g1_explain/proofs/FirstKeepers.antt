@@ -1,5 +1,5 @@
 -- What keeps a humongous object is the first of the references that count for it.
-use Rattle.std.proofs.Common.{◌≡◌, ◌≢◌, ℕ, zero, suc, ◌+◌, ◌-◌, ◌*◌, ◌/◌, ◌%◌, ◌^◌, ◌<◌, ◌≤◌, min, inl, inr, Bool, true, false, not, cond, ◌&&◌, ◌||◌, List, [], ◌∷◌, ◌++◌, length, get_or, take, drop, append-nil, map, filter, flat_map, slice_index, All, Contains, refl, sym, ◌∙◌, ap, subst, arith, eqb, eqb-true, eq-eqb, ltb, lt-ltb}
+use Rattle.std.proofs.Common.{◌≡◌, ℕ, zero, suc, ◌+◌, ◌*◌, ◌<◌, ◌≤◌, inl, inr, Bool, true, false, not, cond, ◌&&◌, ◌||◌, List, [], ◌∷◌, ◌++◌, length, get_or, take, drop, append-nil, map, filter, slice_index, Contains, refl, sym, ◌∙◌, ap, subst, arith, eqb, eqb-true, eq-eqb, lt-ltb}
 use Rattle.std.specs.Prelude.{if◌then◌else◌}
 use Rattle.std.specs.Int.{div_ceil}
 use Rattle.std.specs.List.{range_with_len}
@@ -11,16 +11,15 @@ use Rattle.std.proofs.lemmas.List.FromFn.{get_or-map-range_with_len, length-rang
 use Rattle.std.proofs.lemmas.Nat.{div-mul-add}
 use Rattle.g1_words.specs.declared.object.Object.{Object}
 use Rattle.g1_words.specs.declared.region.Region.{Region}
-use Rattle.g1_words.specs.declared.region.Kind.{Kind}
-use Rattle.g1_words.specs.declared.region.Kind.TheVariants.{Free, Ordinary, HumongousFirst, Continuation}
-use Rattle.g1_words.specs.Heap.{Heap, kind, word, start, region, region_of, card_of, regions, free_region, objects, objects_in, objects_by, object_at, is_first}
+use Rattle.g1_words.specs.declared.region.Kind.TheVariants.{HumongousFirst}
+use Rattle.g1_words.specs.Heap.{Heap, kind, start, region_of, card_of, regions, free_region, objects, objects_in, objects_by, object_at, is_first}
 use Rattle.g1_words.specs.Lists.{has}
 use Rattle.g1_words.specs.References.{Ref, refs, named, root_targets}
 use Rattle.g1_words.specs.Survivors.{in_set}
 use Rattle.g1_words.specs.Valid.{IsValid}
 use Rattle.g1_words.proofs.Computed.{In-range, contains_has}
 use Rattle.g1_words.proofs.Indices.{get_or-In}
-use Rattle.g1_words.proofs.Members.{In, In-from_contains, Contains-from_in, In-flat_map, In-filter, filter_member, flat_map_cases, has_from_in, in_from_has, and_true}
+use Rattle.g1_words.proofs.Members.{In, In-from_contains, Contains-from_in, In-flat_map, In-filter, filter_member, flat_map_cases, has_from_in, in_from_has}
 use Rattle.g1_words.proofs.Rising.{told_ref}
 use Rattle.g1_words.proofs.Sound.{sound, object_in}
 use Rattle.g1_image.specs.Image.{Image, card_in, region_of_card}
@@ -33,6 +32,7 @@ use Rattle.g1_frontier.specs.Window.{AreCards, AreOutside, LeadIn}
 use Rattle.g1_frontier.proofs.Leading.{refined_leads_in}
 use Rattle.g1_frontier.proofs.Scopes.{all_in, all_from_in}
 use Rattle.g1_frontier.proofs.Seeds.{filter_append}
+use Rattle.g1_copy.proofs.UnnamedFirsts.{first_by_test}
 use Rattle.g1_explain.specs.declared.humongous.Keeper.{Keeper}
 use Rattle.g1_explain.specs.declared.humongous.Keeper.TheVariants.{NoObject, Nothing}
 use Rattle.g1_explain.specs.Finders.{Lead, root_leads, slot_leads, found_leads}
@@ -42,12 +42,6 @@ use Rattle.g1_explain.specs.Searched.{AreObjects}
 use Rattle.g1_explain.proofs.CardLeads.{by_cards}
 use Rattle.g1_explain.proofs.Keepers.{kept_then, false_by, own_is, same_test}
 use Rattle.g1_explain.proofs.LeadOrder.{root_tells, found_tells}
-
-first_by_test : (k : Kind) → is_first k ≡ true → k ≡ HumongousFirst
-first_by_test Free e = absurd (false≢true e)
-first_by_test Ordinary e = absurd (false≢true e)
-first_by_test HumongousFirst e = refl
-first_by_test Continuation e = absurd (false≢true e)
 
 turned : (a b : Bool) → (not a && not b) ≡ not (b || a)
 turned true true = refl

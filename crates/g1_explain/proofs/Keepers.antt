@@ -1,5 +1,5 @@
 -- Humongous objects that are kept by one reference after the other.
-use Rattle.std.proofs.Common.{◌≡◌, ◌≢◌, ℕ, zero, suc, ◌+◌, ◌/◌, ◌<◌, ◌≤◌, inl, inr, Bool, true, false, cond, List, [], ◌∷◌, ◌++◌, length, get_or, set, map, filter, flat_map, refl, sym, ◌∙◌, ap, subst, arith, take, drop, ◌-◌, ◌&&◌, leb, ltb, leb-true, ltb-true, le-leb, lt-ltb, eqb, eqb-true, eq-eqb, append-nil, length-set}
+use Rattle.std.proofs.Common.{◌≡◌, ◌≢◌, ℕ, zero, suc, ◌+◌, ◌<◌, ◌≤◌, inl, inr, Bool, true, false, cond, List, [], ◌∷◌, ◌++◌, length, get_or, set, filter, flat_map, refl, sym, ◌∙◌, ap, arith, take, drop, ◌-◌, ◌&&◌, leb, ltb, leb-true, ltb-true, le-leb, lt-ltb, eqb, eqb-true, eq-eqb, append-nil, length-set}
 use Rattle.std.specs.Prelude.{Option, None, Some}
 use Rattle.std.specs.Option.{SomeIff, option_eq}
 use Rattle.std.specs.List.{range_with_len, list_any}

@@ -25,3 +25,4 @@ pub mod HumongousLines
 pub mod Explained
 pub mod Keepers
 pub mod FirstKeepers
+pub mod Unkept

@@ -1,6 +1,6 @@
 -- The lines of the steps of a pause, one kind behind the other.
-use Rattle.std.proofs.Common.{◌≡◌, ℕ, zero, suc, ◌+◌, ◌<◌, List, [], ◌∷◌, ◌++◌, length, map, flat_map, filter, get_or, All, refl, sym, ◌∙◌, ap, subst, arith, append-nil, true, false, not, ◌&&◌, ◌||◌, Bool, Vec, Global}
-use Rattle.std.specs.Prelude.{min, codes, Option, None, Some, IfSome, if◌then◌else◌}
+use Rattle.std.proofs.Common.{◌≡◌, ℕ, zero, suc, ◌<◌, List, [], ◌∷◌, ◌++◌, length, map, flat_map, filter, get_or, All, refl, sym, ◌∙◌, ap, subst, arith, append-nil, true, false, not, ◌&&◌, ◌||◌, Bool, Vec, Global}
+use Rattle.std.specs.Prelude.{min, codes, if◌then◌else◌}
 use Rattle.std.specs.List.{range_with_len}
 use Rattle.std.specs.List.Sorted.{IsStrictlyIncreasing}
 use Rattle.g1_words.specs.declared.fault.Fault.TheVariants.{Room}

@@ -60,7 +60,7 @@ module _ (h : Heap) (set : List ℕ) where
   abbrev into : ℕ → Bool
   into a = in_set h set a
 
-  root_part : targets_of (root_leads h) ≡ root_targets h
+  pub root_part : targets_of (root_leads h) ≡ root_targets h
   root_part =
       map_flat (λ (l : Lead). l.target) (λ k. lead (Root k) (slice_index h.roots k)) (range_with_len 0 (length h.roots))
       ∙ flat_same (λ k. targets_of (lead (Root k) (slice_index h.roots k))) (λ k. named (slice_index h.roots k)) (range_with_len 0 (length h.roots)) (λ k i. lead_targets (Root k) (slice_index h.roots k))
@@ -81,12 +81,14 @@ module _ (h : Heap) (set : List ℕ) where
       ∙ range_up (λ p. named (word h p)) (a + 1) 0 (object_at h a).refs
       ∙ ap (λ x. flat_map (λ p. named (word h p)) (range_with_len x (object_at h a).refs)) (let z : a + 1 + 0 ≡ a + 1 = omega arith in z)
 
-  found_part : (found : List ℕ) → filter into (targets_of (found_leads h found (length found))) ≡ flat_map (children h set) found
-  found_part found =
-      ap (filter into) (map_flat (λ (l : Lead). l.target) (λ m. object_leads h m (slice_index found m)) (range_with_len 0 (length found))
+  pub found_targets : (found : List ℕ) → targets_of (found_leads h found (length found)) ≡ flat_map (targets h) found
+  found_targets found =
+      map_flat (λ (l : Lead). l.target) (λ m. object_leads h m (slice_index found m)) (range_with_len 0 (length found))
       ∙ flat_same (λ m. targets_of (object_leads h m (slice_index found m))) (λ m. targets h (slice_index found m)) (range_with_len 0 (length found)) (λ m i. object_part m (slice_index found m))
-      ∙ flat_indices (targets h) found)
-      ∙ filter_flat into (targets h) found
+      ∙ flat_indices (targets h) found
+
+  found_part : (found : List ℕ) → filter into (targets_of (found_leads h found (length found))) ≡ flat_map (children h set) found
+  found_part found = ap (filter into) (found_targets found) ∙ filter_flat into (targets h) found
 
   pub lead_seeds : (found : List ℕ) → targets_of (leads h set found) ≡ seeds h set ++ flat_map (children h set) found
   lead_seeds found =

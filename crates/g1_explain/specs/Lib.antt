@@ -11,5 +11,6 @@ pub mod Totals
 pub mod Remembered
 pub mod Humongous
 pub mod Keepers
+pub mod Unkept
 pub mod Steps
 pub mod Explained

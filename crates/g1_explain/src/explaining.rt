@@ -6,6 +6,7 @@ ghost use Rattle.g1_text.specs.Lines.{heading, line_text, text_of};
 ghost use Rattle.g1_explain.specs.declared.failure.Failure.TheVariants.{Fault as OfFault};
 ghost use Rattle.g1_explain.specs.Explained.{IsExplained, IsTextOfPause, IsMapOfPause, IsFailureOf};
 ghost use Rattle.g1_explain.specs.Steps.{AreTaken, IsTextOfSteps, covered_lines, refusal_of};
+ghost use Rattle.g1_explain.specs.Unkept.{FreesUnkept};
 
 use crate::failure::Failure;
 use crate::form::Form;
@@ -83,6 +84,7 @@ pub fn explain_steps(
 ) -> Result<Explanation, Failure>
     ensures lines { AreTaken settings.now.cost settings.now.choice before.now steps.now → IfOk result (λ x. IsTextOfSteps settings.now.cost before.now steps.now (string_bytes x.text)) }
     ensures refused { IfOk result (λ x. x.refused ≡ refusal_of steps.now.outcome) }
+    ensures freed { AreTaken settings.now.cost settings.now.choice before.now steps.now → OnOk result (FreesUnkept before.now.heap steps.now.outcome) }
 {
     let mut text = String::new(alloc);
     push_heading(&mut text, before.image())?;

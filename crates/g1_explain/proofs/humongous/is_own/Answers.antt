@@ -1,4 +1,4 @@
-use Rattle.std.proofs.Common.{◌≡◌, ◌∙◌, ◌&&◌, ℕ, ap, sym, arith, ltb, leb, leb-true, le-leb}
+use Rattle.std.proofs.Common.{◌∙◌, ◌&&◌, ℕ, ap, sym, arith, ltb, leb, leb-true, le-leb}
 use Rattle.g1_explain.specs.Humongous.{run_end}
 use Rattle.g1_explain.proofs.Keepers.{own_is, false_by}
 use Rattle.g1_explain.proofs.humongous.is_own.Goals as goal

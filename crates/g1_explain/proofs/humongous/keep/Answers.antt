@@ -1,4 +1,4 @@
-use Rattle.std.proofs.Common.{◌≡◌, ◌∙◌, ◌/◌, ℕ, suc, ap, arith, refl, sym, subst}
+use Rattle.std.proofs.Common.{◌≡◌, ◌∙◌, ◌/◌, suc, ap, arith, sym}
 use Rattle.std.proofs.lemmas.Bool.{false≢true}
 use Rattle.g1_words.specs.Geometry.{Geometry}
 use Rattle.g1_explain.proofs.humongous.keep.Goals.{else-region-keepers-via-then-region-keepers+else-is_nothing, else-region-keepers-via-else-region-keepers}

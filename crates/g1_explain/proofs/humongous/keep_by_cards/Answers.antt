@@ -2,7 +2,6 @@ use Rattle.std.proofs.Common.{◌≡◌, ◌∙◌, ℕ, List, [], map, subst, a
 use Rattle.std.specs.Prelude.{nat_lt, slice_index_or, if◌then◌else◌, ◌==◌}
 use Rattle.g1_words.specs.Heap.{Heap}
 use Rattle.g1_words.specs.Geometry.{Geometry}
-use Rattle.g1_explain.specs.Finders.{Lead}
 use Rattle.g1_explain.specs.Keepers.{AreKept, leads_on}
 use Rattle.g1_explain.proofs.Keepers.{kept_below_none, kept_below_more}
 use Rattle.g1_explain.proofs.humongous.keep_by_cards.Goals as goal

@@ -1,4 +1,4 @@
-use Rattle.std.proofs.Common.{◌≡◌, ◌∙◌, sym, ap, arith}
+use Rattle.std.proofs.Common.{◌∙◌, sym, ap, arith}
 use Rattle.std.proofs.lemmas.Bool.{false≢true}
 use Rattle.g1_explain.specs.Keepers.{kept_by, leads_on}
 use Rattle.g1_explain.proofs.Keepers.{kept_at, kept_at_none, beyond, none_first}

@@ -1,6 +1,4 @@
-use Rattle.std.proofs.Common.{◌≡◌, ◌∙◌, map, sym}
-use Rattle.g1_explain.specs.Finders.{found_leads}
-use Rattle.g1_explain.specs.Keepers.{leads_in}
+use Rattle.std.proofs.Common.{◌∙◌, map, sym}
 use Rattle.g1_explain.proofs.Keepers.{kept_whole}
 use Rattle.g1_explain.proofs.FirstKeepers.{each_end}
 use Rattle.g1_explain.proofs.humongous.keep_each.Goals as goal

@@ -1,4 +1,4 @@
-use Rattle.std.proofs.Common.{◌≡◌, ◌∙◌, map, ap, length, arith}
+use Rattle.std.proofs.Common.{◌∙◌, map, ap, length, arith}
 use Rattle.std.specs.Prelude.{if◌then◌else◌}
 use Rattle.g1_words.specs.Heap.{Heap, is_first}
 use Rattle.g1_explain.specs.declared.humongous.Keeper.TheVariants.{NoObject, Nothing}

@@ -1,4 +1,4 @@
-use Rattle.std.proofs.Common.{◌≡◌, ◌∙◌, ◌*◌, ℕ, List, [], suc, sym, ap, arith, subst, slice_index, get_or, flat_map, length, take}
+use Rattle.std.proofs.Common.{◌≡◌, ◌∙◌, ◌*◌, ℕ, List, [], sym, ap, arith, slice_index, get_or, flat_map}
 use Rattle.std.proofs.lemmas.List.{take_all}
 use Rattle.g1_words.specs.Geometry.{Geometry}
 use Rattle.g1_words.specs.Heap.{Heap, word, start}

@@ -6,7 +6,6 @@ use Rattle.g1_image.specs.Image.{Image}
 use Rattle.g1_image.specs.Cards.{refined, IsTracked}
 use Rattle.g1_layout.proofs.Conditions.{set_in_heap}
 use Rattle.g1_text.specs.Lines.{text_of}
-use Rattle.g1_explain.specs.declared.humongous.Keeper.{Keeper}
 use Rattle.g1_explain.specs.Humongous.{humongous_lines}
 use Rattle.g1_explain.specs.Keepers.{keepers_of}
 use Rattle.g1_explain.specs.Searched.{AreObjects}

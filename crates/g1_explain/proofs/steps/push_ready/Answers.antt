@@ -1,6 +1,6 @@
 use Rattle.std.proofs.Common.{◌≡◌, ◌∙◌, List, length, filter, refl, ap, arith, string_bytes}
 use Rattle.g1_words.specs.declared.region.Region.{Region}
-use Rattle.g1_words.specs.Heap.{Heap, is_free}
+use Rattle.g1_words.specs.Heap.{is_free}
 use Rattle.g1_image.specs.Image.{Image}
 use Rattle.g1_explain.proofs.StepLines.{ready_end}
 use Rattle.g1_explain.proofs.steps.push_ready.Goals as goal
