@@ -12,10 +12,10 @@ use Rattle.g1heap_cli.specs.Printed.{IfLines, reply_of}
 
 module _ (Is To : Reply) (so : (s : ℕ) (text : List ℕ) → Is s text → To s text) (old new : Option (List ℕ)) where
   -- one reply for another
-  begins_so : Begins Is old new → Begins To old new
+  pub begins_so : Begins Is old new → Begins To old new
   begins_so (s, text, k, is, a) = (s, text, k, so s text is, a)
 
-  withholds_so : (why : Refusal) → Withholds Is old new why → Withholds To old new why
+  pub withholds_so : (why : Refusal) → Withholds Is old new why → Withholds To old new why
   withholds_so why (inl kept) = inl kept
   withholds_so why (inr (is, b)) = inr (is, begins_so b)
 

@@ -9,9 +9,10 @@ use Rattle.g1_image.specs.Source.{HoldsOfLeft}
 use Rattle.g1_command.specs.declared.refusal.Refusal.{Refusal}
 use Rattle.g1_command.specs.declared.refusal.Refusal.TheVariants as refusal
 use Rattle.g1heap_request.specs.declared.options.Trace.{Trace}
-use Rattle.g1heap_cli.specs.Leaving.{Reply, Begins, Withholds, SendsText, SendsBytes, SendsTrace}
+use Rattle.g1heap_cli.specs.Leaving.{Reply, SendsTrace}
 use Rattle.g1heap_cli.specs.Streams.{HoldsOfNamed}
 use Rattle.g1heap_cli.specs.Traced.{RepliesToTrace, is_live, sent_command}
+use Rattle.g1heap_cli.proofs.Left.{begins_so, withholds_so, text_so}
 use Rattle.g1heap_cli.proofs.TraceSent.{begun}
 
 -- a refusal before the first line
@@ -26,24 +27,13 @@ module _ (trace : Trace) (known old : Option (List ℕ)) where
 
 -- one reply for another
 module _ (Is To : Reply) (so : (s : ℕ) (text : List ℕ) → Is s text → To s text) (old new : Option (List ℕ)) where
-  begins_to : Begins Is old new → Begins To old new
-  begins_to (s, text, k, is, a) = (s, text, k, so s text is, a)
-
-  withholds_to : (why : Refusal) → Withholds Is old new why → Withholds To old new why
-  withholds_to why (inl same) = inl same
-  withholds_to why (inr (is, b)) = inr (is, begins_to b)
-
-  text_to : (s : ℕ) → SendsText Is old new (Ok s) → SendsText To old new (Ok s)
-  text_to s (inl (text, is, a)) = inl (text, so s text is, a)
-  text_to s (inr (gone, b)) = inr (gone, begins_to b)
-
   sends_to : (b : Bool) (n : ℕ) (r : Result ℕ Refusal) → SendsTrace b n Is old new r → SendsTrace b n To old new r
-  sends_to true n (Ok s) h = text_to s h
-  sends_to true n (Err why) h = begins_to h
-  sends_to false zero (Ok s) h = text_to s h
-  sends_to false zero (Err why) h = withholds_to why h
+  sends_to true n (Ok s) h = text_so Is To so old new (Ok s) h
+  sends_to true n (Err why) h = begins_so Is To so old new h
+  sends_to false zero (Ok s) h = text_so Is To so old new (Ok s) h
+  sends_to false zero (Err why) h = withholds_so Is To so old new why h
   sends_to false (suc n) (Ok s) (text, is, a) = (text, so s text is, a)
-  sends_to false (suc n) (Err why) h = withholds_to why h
+  sends_to false (suc n) (Err why) h = withholds_so Is To so old new why h
 
 reply_to : (trace : Trace) (Of On : (List ℕ → Type 0) → Type 0) → ((P : List ℕ → Type 0) → Of P → On P) → (s : ℕ) (text : List ℕ) → RepliesToTrace trace Of s text → RepliesToTrace trace On s text
 reply_to trace Of On to zero text h = to _ h
