@@ -9,7 +9,7 @@ use Rattle.g1_image.specs.Source.{HoldsOfLeft}
 use Rattle.g1_command.specs.declared.refusal.Refusal.{Refusal}
 use Rattle.g1_command.specs.declared.refusal.Refusal.TheVariants as refusal
 use Rattle.g1heap_request.specs.declared.options.Trace.{Trace}
-use Rattle.g1heap_cli.specs.Leaving.{Reply, SendsTrace}
+use Rattle.g1heap_cli.specs.Leaving.{Reply, Withholds, SendsTrace}
 use Rattle.g1heap_cli.specs.Streams.{HoldsOfNamed}
 use Rattle.g1heap_cli.specs.Traced.{RepliesToTrace, is_live, sent_command}
 use Rattle.g1heap_cli.proofs.Left.{begins_so, withholds_so, text_so}
