@@ -1,0 +1,44 @@
+use Rattle.std.proofs.Common.{◌≡◌, [], ◌∷◌, ◌++◌, length, All, IsUtf8, append-nil, refl, sym, ◌∙◌, ap, subst}
+use Rattle.std.proofs.lemmas.List.Elements.{All-nil, All-push}
+use Rattle.g1_text.specs.Reading.{parts_of}
+use Rattle.g1_text.specs.Weak.{IsStrong}
+use Rattle.g1_text.proofs.Turns.{parts_left, split_off}
+use Rattle.g1_text.proofs.WeakTexts.{next_part, broken_part, is_more, lines_more}
+use Rattle.g1_text.proofs.weak.write_lines.Goals as goal
+
+pub lines-init : goal.lines-init
+lines-init c = ([], refl, All-nil IsUtf8, λ lines strong. ([], tt, c.in_ok-out.ensures.items))
+
+pub lines-preserved : goal.lines-preserved
+lines-preserved c =
+    let text = parts_of c.args.text.now in
+    let left = c.in-Some.left.now in
+    let behind = c.first_line.result.1 in
+    let line = c.first_line.result.0.now in
+    let is : parts_of left ≡ _ = split_off (parts_of left) line (length left) behind c.first_line.ensures in
+    let h = c.lines.invariant in
+    let so_far : text ≡ h.0 ++ parts_left c.lines.rest = h.1 in
+    let at : text ≡ h.0 ++ parts_of left = so_far ∙ ap (λ r. h.0 ++ parts_left r) c.in-Some.is in (
+      h.0 ++ line ∷ [],
+      next_part text h.0 (parts_of left) (parts_left behind) line at is,
+      All-push IsUtf8 h.0 line h.2 c.in-Ok.ensures.cases.1,
+      λ lines strong. lines_more (IsStrong lines) h.0 c.lines.rest behind c.in-Some.left c.lines.out.items c.write_line.new.out.items c.end_line.new.out.items line c.in-Ok.line.now c.is_some.result
+          c.in-Some.is c.in-Ok.ensures.cases.0 (h.3 lines strong) (c.in_ok-write_line.ensures lines strong) (is_more behind c.is_some.result c.is_some.ensures) c.in_ok-end_line.ensures,
+    )
+
+pub returns-in_default-from_utf8-clause-utf8 : goal.returns-in_default-from_utf8-clause-utf8
+returns-in_default-from_utf8-clause-utf8 c =
+    let text = parts_of c.args.text.now in
+    let left = c.in-Some.left.now in
+    let behind = c.first_line.result.1 in
+    let line = c.first_line.result.0.now in
+    let h = c.lines.invariant in
+    let so_far : text ≡ h.0 ++ parts_left c.lines.rest = h.1 in
+    broken_part text h.0 (parts_of left) (parts_left behind) line (so_far ∙ ap (λ r. h.0 ++ parts_left r) c.in-Some.is) (split_off (parts_of left) line (length left) behind c.first_line.ensures)
+    c.in_default-from_utf8.ensures.cases.0
+
+pub returns-clause-utf8 : goal.returns-clause-utf8
+returns-clause-utf8 c =
+    let h = c.lines.invariant in
+    let all : parts_of c.args.text.now ≡ h.0 ++ parts_left c.lines.rest = h.1 in
+    subst (All IsUtf8) (sym (all ∙ ap (λ r. h.0 ++ parts_left r) c.in_default.is ∙ append-nil h.0)) h.2
