@@ -73,9 +73,12 @@ module _ (words : List ℕ) (o : Object) (plain : IsPlain words o) where
       (λ t. header t ∷ (slots t ++ values t)) ∙ ap (λ l. get_or words o.at 0 ∷ l) (sym (take-add o.refs (o.size - 1 - o.refs) behind))
       ∙ ap (take (suc (o.refs + (o.size - 1 - o.refs)))) (sym first) ∙ ap (λ n. take n (drop o.at words)) whole
 
+abbrev pub address_of : Object → ℕ
+address_of o = o.at
+
 -- what is said of an image's parts beside its heading, its roots and its log, which were read
-abbrev pub read_so_far : Image → List Region → List (List ℕ) → List ℕ → ℕ → List Counts → Content
-read_so_far i regions remembered words beyond counts = record {
+abbrev pub read_so_far : Image → List Region → List (List ℕ) → List ℕ → ℕ → List Counts → List ℕ → Content
+read_so_far i regions remembered words beyond counts ats = record {
   geometry = i.heap.geometry;
   current = i.heap.current;
   root_count = Some (length i.heap.roots);
@@ -88,6 +91,7 @@ read_so_far i regions remembered words beyond counts = record {
   beyond = beyond;
   covered = false;
   counts = counts;
+  addresses = ats;
 }
 
 -- the counts of a region's line, of whose objects some were found
@@ -100,20 +104,20 @@ abbrev pub counts_at : Image → ℕ → Counts
 counts_at i r = counts_with i r (length (objects_in i.heap r))
 
 -- what is said with a first part of region r: its used words so far, and how many objects were found
-abbrev pub within_region : Image → ℕ → Bool → List (List ℕ) → Kind → List ℕ → ℕ → ℕ → ℕ → Content
-within_region i r p remembered k words beyond t found =
-    read_so_far i (take r i.heap.regions ++ record { kind = k; top = t; pinned = p } ∷ []) remembered words beyond (map (counts_at i) (range_with_len 0 r) ++ counts_with i r found ∷ [])
+abbrev pub within_region : Image → ℕ → Bool → List (List ℕ) → Kind → List ℕ → ℕ → ℕ → ℕ → List ℕ → Content
+within_region i r p remembered k words beyond t found ats =
+    read_so_far i (take r i.heap.regions ++ record { kind = k; top = t; pinned = p } ∷ []) remembered words beyond (map (counts_at i) (range_with_len 0 r) ++ counts_with i r found ∷ []) ats
 
 module _ (i : Image) (good : IsImage i) (r : ℕ) (below : r < i.heap.geometry.n) (p : Bool) (remembered : List (List ℕ)) where
   regions_below : length (take r i.heap.regions) ≡ r
   regions_below = length-take-le r i.heap.regions (omega (arith, below, good.heap.region_count))
 
   -- ONE OBJECT adds its words
-  pub object_adds : (k : Kind) (words : List ℕ) (beyond t found : ℕ) (o : Object) → IsPlain i.heap.words o → o.at ≡ r * i.heap.geometry.w + t → HasSpace k i.heap.geometry r t o.size
+  pub object_adds : (k : Kind) (words : List ℕ) (beyond t found : ℕ) (ats : List ℕ) (o : Object) → IsPlain i.heap.words o → o.at ≡ r * i.heap.geometry.w + t → HasSpace k i.heap.geometry r t o.size
       → found + 1 < 2 ^ 64
-      → Takes (within_region i r p remembered k words beyond t found) (said_object i.heap.words o)
-      (within_region i r p remembered k (words ++ take o.size (drop o.at i.heap.words)) (beyond_behind k i.heap.geometry beyond o.size) (top_behind k i.heap.geometry t o.size) (found + 1))
-  object_adds k words beyond t found o plain at room few =
+      → Takes (within_region i r p remembered k words beyond t found ats) (said_object i.heap.words o)
+      (within_region i r p remembered k (words ++ take o.size (drop o.at i.heap.words)) (beyond_behind k i.heap.geometry beyond o.size) (top_behind k i.heap.geometry t o.size) (found + 1) (ats ++ o.at ∷ []))
+  object_adds k words beyond t found ats o plain at room few =
       let size = size_is i.heap.words o plain in
       let added = all_words i.heap.words o plain in
       let here : r * i.heap.geometry.w ≡ length (take r i.heap.regions) * i.heap.geometry.w = ap (λ x. x * i.heap.geometry.w) (sym regions_below) in (
@@ -131,22 +135,22 @@ module _ (i : Image) (good : IsImage i) (r : ℕ) (below : r < i.heap.geometry.n
         each_small (slot_values i.heap.words o) plain.slots,
         each_small (data_values i.heap.words o) plain.data_words,
         few,
-        (λ s. within_region i r p remembered k (words ++ sym added s) (beyond_behind k i.heap.geometry beyond (sym size s)) (top_behind k i.heap.geometry t (sym size s)) (found + 1)),
+        (λ s. within_region i r p remembered k (words ++ sym added s) (beyond_behind k i.heap.geometry beyond (sym size s)) (top_behind k i.heap.geometry t (sym size s)) (found + 1) (ats ++ o.at ∷ [])),
       )
 
   -- OBJECTS END TO END in an ordinary region add the words from the first one on
-  pub objects_add : (os : List Object) (words : List ℕ) (beyond t last found : ℕ) → Tiles i.heap.words (r * i.heap.geometry.w + t) os (r * i.heap.geometry.w + last) → last ≤ i.heap.geometry.w
+  pub objects_add : (os : List Object) (words : List ℕ) (beyond t last found : ℕ) (ats : List ℕ) → Tiles i.heap.words (r * i.heap.geometry.w + t) os (r * i.heap.geometry.w + last) → last ≤ i.heap.geometry.w
       → ((o : Object) → In os o → IsPlain i.heap.words o × (4 * o.size ≤ 3 * i.heap.geometry.w)) → found + length os < 2 ^ 64
-      → Adds (within_region i r p remembered Ordinary words beyond t found) (map (said_object i.heap.words) os)
-      (within_region i r p remembered Ordinary (words ++ take (last - t) (drop (r * i.heap.geometry.w + t) i.heap.words)) beyond last (found + length os))
-  objects_add [] words beyond t last found tiles fits each few =
+      → Adds (within_region i r p remembered Ordinary words beyond t found ats) (map (said_object i.heap.words) os)
+      (within_region i r p remembered Ordinary (words ++ take (last - t) (drop (r * i.heap.geometry.w + t) i.heap.words)) beyond last (found + length os) (ats ++ map address_of os))
+  objects_add [] words beyond t last found ats tiles fits each few =
       let same : t ≡ last = omega (arith, tiles) in
       let none : 0 ≡ last - t = omega (arith, same) in
       let all : found ≡ found + 0 = omega arith in
       let here : List ℕ = drop (r * i.heap.geometry.w + t) i.heap.words in
       let more : words ≡ words ++ take (last - t) here = sym (append-nil words) ∙ ap (λ n. words ++ take n here) none in
-      λ s. within_region i r p remembered Ordinary (more s) beyond (same s) (all s)
-  objects_add (o ∷ os) words beyond t last found tiles fits each few =
+      λ s. within_region i r p remembered Ordinary (more s) beyond (same s) (all s) (sym (append-nil ats) s)
+  objects_add (o ∷ os) words beyond t last found ats tiles fits each few =
       let w : ℕ = i.heap.geometry.w in
       let plain = (each o (inl refl)).0 in
       let end : r * w + t + o.size ≤ r * w + last = Tiles-le i.heap.words (r * w + t + o.size) os (r * w + last) tiles.2 in
@@ -160,13 +164,13 @@ module _ (i : Image) (good : IsImage i) (r : ℕ) (below : r < i.heap.geometry.n
       let more : (words ++ take o.size (drop o.at i.heap.words)) ++ take (last - (t + o.size)) (drop (r * w + (t + o.size)) i.heap.words) ≡ words ++ take (last - t) here =
       append_assoc words (take o.size (drop o.at i.heap.words)) (take (last - (t + o.size)) (drop (r * w + (t + o.size)) i.heap.words)) ∙ ap (λ l. words ++ l) parts in
       let found_all : found + 1 + length os ≡ found + length (o ∷ os) = omega arith in
-      let rest = objects_add os (words ++ take o.size (drop o.at i.heap.words)) beyond (t + o.size) last (found + 1)
+      let rest = objects_add os (words ++ take o.size (drop o.at i.heap.words)) beyond (t + o.size) last (found + 1) (ats ++ o.at ∷ [])
       (subst (λ a. Tiles i.heap.words a os (r * w + last)) next tiles.2) fits (λ q m. each q (inr m)) (omega (arith, few)) in (
-        within_region i r p remembered Ordinary (words ++ take o.size (drop o.at i.heap.words)) beyond (t + o.size) (found + 1),
-        object_adds Ordinary words beyond t found o plain tiles.0 ((each o (inl refl)).1, omega (arith, end, fits)) (omega (arith, few)),
-        adds_to (map (said_object i.heap.words) os) (within_region i r p remembered Ordinary (words ++ take o.size (drop o.at i.heap.words)) beyond (t + o.size) (found + 1))
+        within_region i r p remembered Ordinary (words ++ take o.size (drop o.at i.heap.words)) beyond (t + o.size) (found + 1) (ats ++ o.at ∷ []),
+        object_adds Ordinary words beyond t found ats o plain tiles.0 ((each o (inl refl)).1, omega (arith, end, fits)) (omega (arith, few)),
+        adds_to (map (said_object i.heap.words) os) (within_region i r p remembered Ordinary (words ++ take o.size (drop o.at i.heap.words)) beyond (t + o.size) (found + 1) (ats ++ o.at ∷ []))
             (within_region i r p remembered Ordinary
-            ((words ++ take o.size (drop o.at i.heap.words)) ++ take (last - (t + o.size)) (drop (r * w + (t + o.size)) i.heap.words)) beyond last (found + 1 + length os))
-            (within_region i r p remembered Ordinary (words ++ take (last - t) here) beyond last (found + length (o ∷ os)))
-            (λ s. within_region i r p remembered Ordinary (more s) beyond last (found_all s)) rest,
+            ((words ++ take o.size (drop o.at i.heap.words)) ++ take (last - (t + o.size)) (drop (r * w + (t + o.size)) i.heap.words)) beyond last (found + 1 + length os) ((ats ++ o.at ∷ []) ++ map address_of os))
+            (within_region i r p remembered Ordinary (words ++ take (last - t) here) beyond last (found + length (o ∷ os)) (ats ++ map address_of (o ∷ os)))
+            (λ s. within_region i r p remembered Ordinary (more s) beyond last (found_all s) (append_assoc ats (o.at ∷ []) (map address_of os) s)) rest,
       )

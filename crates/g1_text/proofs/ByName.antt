@@ -17,7 +17,7 @@ use Rattle.g1_text.specs.Graphs.{NamedObject, NamedRoot, NamedGraph, SaysSizes, 
 use Rattle.g1_text.specs.ByName.{IsEntryOf, Fills, read_root, root_word, holder_of, holders_from, place_of}
 use Rattle.g1_text.proofs.Gathering.{map_count, map_push}
 
-some_none : {A : Type 0} {x : A} → ◌≡◌ {A = Option A} (Some x) None → ⊥
+pub some_none : {A : Type 0} {x : A} → ◌≡◌ {A = Option A} (Some x) None → ⊥
 some_none e = cc
 
 -- TARGETS
@@ -144,7 +144,7 @@ new_name name n (x ∷ objects) none =
     let p = apart (bytes_eq name x.name) name x.name n (position_from (λ x. bytes_eq name x.name) (n + 1) objects) refl none in
     All-cons (λ o. o.name ≢ name) x objects p.0 (new_name name (n + 1) objects p.1)
 
-zip_push : {A B : Type 0} (R : A → B → Type 0) (xs : List A) (ys : List B) (x : A) (y : B) → AllZip R xs ys → R x y → AllZip R (xs ++ x ∷ []) (ys ++ y ∷ [])
+pub zip_push : {A B : Type 0} (R : A → B → Type 0) (xs : List A) (ys : List B) (x : A) (y : B) → AllZip R xs ys → R x y → AllZip R (xs ++ x ∷ []) (ys ++ y ∷ [])
 zip_push R [] [] x y all r = (r, tt)
 zip_push R [] (b ∷ ys) x y all r = elim all [ ]
 zip_push R (a ∷ xs) [] x y all r = elim all [ ]

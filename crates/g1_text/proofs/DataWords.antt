@@ -1,5 +1,5 @@
 -- Words that are no data words.
-use Rattle.std.proofs.Common.{◌≡◌, ◌≢◌, inl, inr, ℕ, ◌+◌, ◌<◌, ◌^◌, List, [], ◌∷◌, ◌++◌, Bool, true, false, length, length-append, get_or, drop, refl, sym, ◌∙◌, ap, subst, arith}
+use Rattle.std.proofs.Common.{◌≡◌, ◌≢◌, inl, inr, ℕ, ◌+◌, ◌<◌, ◌^◌, List, [], ◌∷◌, ◌++◌, true, length, length-append, get_or, drop, refl, sym, ◌∙◌, ap, subst, arith}
 use Rattle.std.specs.Prelude.{Option, Some, None, MatchOption, Result, Ok, Err, is_nan}
 use Rattle.std.specs.Result.{OkIff, result_ok}
 use Rattle.std.specs.Str.Parse.{IsNumeral, ParsesUnsigned, digits_value}
@@ -10,7 +10,7 @@ use lib.Ieee.{Float, binary64}
 use Rattle.std.specs.Option.{is_some}
 use Rattle.std.specs.Char.{digit_value}
 use Rattle.g1_text.proofs.Turns.{some_one}
-use Rattle.g1_text.specs.Forms.{Spells, IsBelow, Negates, HasHexDigits, HasPoint, Quotes, StandsFor, IsDataWord}
+use Rattle.g1_text.specs.Forms.{Spells, IsBelow, Negates, HasHexDigits, HasPoint, Quotes, IsDataWord}
 
 -- what is behind a minus is a number from 2^63 down
 pub behind_minus : (n : ℕ) (word rest : List ℕ) → Negates n word → word ≡ 45 ∷ rest → (m : ℕ) × Spells (2 ^ 63 + 1) m rest

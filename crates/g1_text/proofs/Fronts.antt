@@ -1,5 +1,5 @@
 -- Forms of words that are read one after the other.
-use Rattle.std.proofs.Common.{◌≡◌, ◌≢◌, ◌⊎◌, inl, inr, ⊎_elim, Bool, true, false, ℕ, ◌+◌, ◌-◌, ◌<◌, ◌≤◌, ◌^◌, List, [], ◌∷◌, ◌++◌, min, length, length-append, replicate, take, drop, zero, suc, append-nil, append_assoc, refl, sym, ◌∙◌, ap, subst, arith}
+use Rattle.std.proofs.Common.{◌≡◌, ◌≢◌, ◌⊎◌, inl, inr, Bool, true, false, ℕ, ◌+◌, ◌-◌, ◌<◌, ◌≤◌, ◌^◌, List, [], ◌∷◌, ◌++◌, min, length, length-append, replicate, take, drop, zero, suc, append-nil, append_assoc, refl, sym, ◌∙◌, ap, subst, arith}
 use Rattle.std.specs.Prelude.{Option, Some, None, MatchOption, MatchBool, codes, All}
 use Rattle.std.proofs.lemmas.List.Elements.{All-nil, All-cons, All-append, All-replicate, All-drop}
 use Rattle.std.proofs.lemmas.List.{length-replicate}
@@ -10,7 +10,7 @@ use Rattle.std.proofs.lemmas.Bool.{false≢true}
 use Rattle.std.proofs.lemmas.Slice.Eq.{bytes_eq-Decides}
 use Rattle.std.proofs.lemmas.Slice.Zip.{all_zipped_more}
 use Rattle.g1_words.specs.Geometry.{IsWithinBounds}
-use Rattle.g1_text.specs.Forms.{Form, Spells, IsBelow, IsDataWord, IsCurrentWord, Word, Single, Maybe, ◌▸◌, Number, Labelled, Current, Many, Abridges, Holding, Sizes, IsTarget, StandsFor, HasFront, HasFirst, HasValues}
+use Rattle.g1_text.specs.Forms.{Form, Spells, IsDataWord, IsCurrentWord, Word, Single, Maybe, ◌▸◌, Number, Labelled, Current, Many, Abridges, Holding, Sizes, IsTarget, StandsFor, HasFront, HasFirst, HasValues}
 use Rattle.g1_text.specs.Graphs.{Shortens}
 use Rattle.g1_text.specs.ByName.{Fills}
 

@@ -1,11 +1,11 @@
 -- What stands at the addresses of a heap that a file tells.
-use Rattle.std.proofs.Common.{◌≡◌, ◌≤◌, ◌<◌, inl, inr, ℕ, zero, suc, ◌+◌, ◌-◌, ◌*◌, ◌^◌, List, [], ◌∷◌, ◌++◌, length, get_or, slice_index, slice_index_or, map, flat_map, min, take, drop, replicate, append-nil, append_assoc, length-append, length-take, refl, sym, ◌∙◌, ap, subst, arith}
-use Rattle.std.specs.Prelude.{All, Contains}
+use Rattle.std.proofs.Common.{◌≡◌, ◌≤◌, ◌<◌, inl, inr, ℕ, zero, suc, ◌+◌, ◌-◌, ◌*◌, List, [], ◌∷◌, ◌++◌, length, get_or, slice_index, slice_index_or, map, flat_map, min, take, drop, replicate, append_assoc, length-append, length-take, refl, sym, ◌∙◌, ap, subst, arith}
+use Rattle.std.specs.Prelude.{All}
 use Rattle.std.specs.List.{AllZip, range_with_len}
 use Rattle.std.proofs.lemmas.List.{map-append, get_or_at, length_push, nil_from_length, take-append-drop, length-replicate, length-map}
 use Rattle.std.proofs.lemmas.List.FromFn.{length-range_with_len}
 use Rattle.g1_words.specs.Heap.{Heap, region, start, end, free_region}
-use Rattle.g1_words.specs.Valid.{IsObject, Tiles, IsFirst, HoldsBy, Holds, HasObject}
+use Rattle.g1_words.specs.Valid.{IsObject, Tiles, HoldsBy, HasObject}
 use Rattle.g1_words.specs.declared.object.Object.{Object}
 use Rattle.g1_words.specs.declared.region.Region.{Region}
 use Rattle.g1_words.specs.declared.region.Kind.{Kind}
@@ -13,7 +13,7 @@ use Rattle.g1_words.specs.declared.region.Kind.TheVariants.{Free, Ordinary, Humo
 use Rattle.g1_words.proofs.Members.{In, In-from_contains, Contains-from_in, In-append_left, In-append_right, In-append_cases}
 use Rattle.g1_words.proofs.Tiling.{Tiles-le, same_object}
 use Rattle.g1_image.specs.Image.{entry_of, all_words}
-use Rattle.g1_text.specs.Laid.{used_addresses, own_addresses, EndToEnd, StartIn, StartInEach}
+use Rattle.g1_text.specs.Laid.{used_addresses, EndToEnd, StartIn, StartInEach}
 
 -- WORDS at addresses
 

@@ -1,5 +1,5 @@
 -- What is returned for lines of objects by name.
-use Rattle.std.proofs.Common.{◌≡◌, ◌≤◌, ◌<◌, ℕ, ◌^◌, Bool, true, false, List, [], ◌∷◌, ◌++◌, length, map, flat_map, append-nil, refl, sym, ◌∙◌, ap, subst, arith}
+use Rattle.std.proofs.Common.{◌≡◌, ◌<◌, ℕ, ◌^◌, Bool, true, false, List, [], ◌∷◌, ◌++◌, length, map, flat_map, append-nil, refl, sym, ◌∙◌, ap, subst, arith}
 use Rattle.std.specs.Prelude.{Option, Some, None, IfSome, All, Contains, ◌==◌}
 use Rattle.std.specs.List.{AllZip}
 use Rattle.std.proofs.lemmas.Slice.Zip.{AllZip-long}
@@ -10,7 +10,7 @@ use Rattle.g1_words.specs.Heap.{Heap}
 use Rattle.g1_words.specs.declared.region.Region.{Region}
 use Rattle.g1_words.specs.declared.limits.Limits.TheVariants.{Wide}
 use Rattle.g1_image.specs.Text.{file_text}
-use Rattle.g1_image.specs.Image.{Image, IsTextWithin, entry_of, region_of_entry, heap_of, all_words, flags_of}
+use Rattle.g1_image.specs.Image.{Image, IsTextWithin, entry_of, region_of_entry, heap_of, flags_of}
 use Rattle.g1_image.specs.Reading.{IsU32}
 use Rattle.g1_image.proofs.FileOf.{kind_there}
 use Rattle.g1_text.specs.declared.named.Lines.{Lines}
@@ -20,16 +20,17 @@ use Rattle.g1_text.specs.Graphs.{NamedGraph}
 use Rattle.g1_text.specs.ByName.{HasRead, AreSizes, IsEntryOf}
 use Rattle.g1_text.specs.Carried.{Carries, AreListed, AllNamed, root_value, root_targets, stale_from, stale_slots, named_at}
 use Rattle.g1_text.specs.Filled.{AreLocated, AreWordsOf, located}
-use Rattle.g1_text.specs.Laid.{AreLaid, ArePlaced, laid_content, placed, own_addresses, used_addresses, StartInEach}
+use Rattle.g1_text.specs.Laid.{AreLaid, ArePlaced, laid_content, placed, own_addresses, used_addresses}
 use Rattle.g1_text.proofs.Carrying.{heap_object, all_placed, entry_fits, located_fits, long, carried, listed, all_named}
-use Rattle.g1_text.proofs.OneHeap.{HeapFits, image_heap, entries_small, announced, roots_fit, words_fit}
+use Rattle.g1_text.specs.Drafts.{HeapFits}
+use Rattle.g1_text.proofs.OneHeap.{image_heap, entries_small, announced, roots_fit, words_fit}
 
 pin_there : (b : Bool) → flags_of b == 1 ≡ b
 pin_there false = refl
 pin_there true = refl
 
 -- the regions that their entries tell
-regions_again : (qs : List Region) → map region_of_entry (map entry_of qs) ≡ qs
+pub regions_again : (qs : List Region) → map region_of_entry (map entry_of qs) ≡ qs
 regions_again [] = refl
 regions_again (q ∷ qs) = λ t. record { kind = kind_there q.kind t; top = q.top; pinned = pin_there q.pinned t } ∷ regions_again qs t
 

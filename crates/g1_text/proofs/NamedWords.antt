@@ -1,16 +1,16 @@
 -- The words that are written for an object by name.
-use Rattle.std.proofs.Common.{◌≡◌, ◌≢◌, ◌⊎◌, inl, inr, ℕ, zero, suc, ◌+◌, ◌-◌, ◌*◌, ◌^◌, ◌<◌, ◌≤◌, List, [], ◌∷◌, ◌++◌, length, map, min, take, drop, replicate, append-nil, append_assoc, length-append, length-take, refl, sym, ◌∙◌, ap, subst, arith}
-use Rattle.std.specs.Prelude.{Option, Some, None, All, codes}
+use Rattle.std.proofs.Common.{◌≡◌, ◌≢◌, ◌⊎◌, inl, inr, ℕ, zero, suc, ◌+◌, ◌-◌, ◌*◌, ◌^◌, ◌≤◌, List, [], ◌∷◌, ◌++◌, length, map, min, take, drop, replicate, append-nil, append_assoc, length-append, length-take, refl, sym, ◌∙◌, ap, subst, arith}
+use Rattle.std.specs.Prelude.{Option, None, All, codes}
 use Rattle.std.specs.List.{AllZip}
 use Rattle.std.specs.Borrow.{Bor}
 use Rattle.std.proofs.lemmas.Bool.{cases_lt}
-use Rattle.std.proofs.lemmas.List.{length-replicate, length-map, length-drop, map-append, take-map, take-take, take_at, take-append-le, drop-append-le, take-append-drop, drop-map, drop_min, same_from_push, replicate-append-replicate}
+use Rattle.std.proofs.lemmas.List.{length-replicate, length-map, length-drop, map-append, take-map, take_at, take-append-le, drop-append-le, take-append-drop, drop-map, drop_min, same_from_push, replicate-append-replicate}
 use Rattle.std.proofs.lemmas.List.Elements.{All-nil, All-cons, All-append, All-take, All-replicate}
 use Rattle.std.proofs.lemmas.Slice.Zip.{AllZip-long}
 use Rattle.g1_text.specs.declared.placing.Entry.{Entry}
 use Rattle.g1_text.specs.Reading.{words_in}
 use Rattle.g1_text.specs.Forms.{StandsFor, IsDataWord, IsTarget}
-use Rattle.g1_text.specs.Graphs.{NamedObject, NamedGraph, IsTargetName, Shortens, SaysObject, size_of, target_word}
+use Rattle.g1_text.specs.Graphs.{NamedObject, NamedGraph, IsTargetName, Shortens, size_of, target_word}
 use Rattle.g1_text.specs.ByName.{IsEntryOf}
 use Rattle.g1_text.specs.Carried.{word_for, stale_at, stale_from}
 use Rattle.g1_text.specs.Filled.{AreWordsOf}
@@ -37,7 +37,7 @@ none_given slots values words new none (inr e) (inl f) =
     subst NoDots (same_from_push (take e.0 (slots ++ values)) new (codes "..") (codes "..") (sym e.1 ∙ f)).0 (All-take (λ w. w ≢ codes "..") e.0 (slots ++ values) none)
 none_given slots values words new none (inr e) (inr f) = absurd (f.1 (take e.0 (slots ++ values)) e.1)
 
-stand_data : (xs : List ℕ) (words : List (List ℕ)) → AllZip StandsFor xs words → All IsDataWord words
+pub stand_data : (xs : List ℕ) (words : List (List ℕ)) → AllZip StandsFor xs words → All IsDataWord words
 stand_data [] [] all = All-nil IsDataWord
 stand_data [] (w ∷ words) all = elim all [ ]
 stand_data (x ∷ xs) [] all = elim all [ ]

@@ -1,5 +1,5 @@
 -- Decimal numbers that are read back.
-use Rattle.std.proofs.Common.{◌≡◌, ◌≢◌, ℕ, ◌<◌, ◌^◌, true, List, [], ◌∷◌, ◌++◌, length, get_or, sym, ◌∙◌, ap, subst, arith}
+use Rattle.std.proofs.Common.{◌≡◌, ◌≢◌, ℕ, ◌<◌, ◌^◌, true, List, ◌∷◌, ◌++◌, length, get_or, sym, ◌∙◌, ap, subst, arith}
 use Rattle.std.specs.Prelude.{Option, Some, None, MatchOption, Result, Ok, Err, decimal}
 use Rattle.std.specs.Option.{option_zip}
 use Rattle.std.specs.Result.{OkIff, result_ok}
@@ -11,7 +11,7 @@ use Rattle.std.proofs.lemmas.Str.Pattern.{IsSplitOnceResult, split_after}
 use Rattle.g1_text.specs.Forms.{Spells, IsBelow, HasSize}
 use Rattle.std.proofs.lemmas.Fmt.{digits_decimal, digits_value-decimal, decimal_nonempty}
 
-own : IsNumeralModel (λ ds. all_ascii_digits ds ≡ true) (digits_value 10)
+pub own : IsNumeralModel (λ ds. all_ascii_digits ds ≡ true) (digits_value 10)
 own = numerals_by_value (λ ds. all_ascii_digits ds ≡ true) tells_all_ascii_digits
 
 -- a decimal number does not begin with a plus
@@ -31,10 +31,6 @@ pub at_slash : (size slots : ℕ) (bs : List ℕ) (r : Option (Bor (List ℕ) ×
     → MatchOption r ⊥ (λ x. (x.0.now ≡ decimal size) × (x.1.now ≡ decimal slots))
 at_slash size slots bs r h small e =
     split_after 47 bs (decimal size) (decimal slots) r h (omega arith) e (not_in_digits own (decimal size) 47 (digits_decimal own size small) (λ q. let low = q.0 in absurd (omega (arith, low))))
-
--- a decimal number is no dash
-pub not_dash : (n : ℕ) → n < 2 ^ 64 → decimal n ≢ 45 ∷ []
-not_dash n small e = not_in_digits own (decimal n) 45 (digits_decimal own n small) (λ q. let low = q.0 in absurd (omega (arith, low))) 0 (decimal_nonempty n small) (ap (λ bs. get_or bs 0 0) e)
 
 plainly : IsNumeralModel (AllDigits 10) (digits_value 10)
 plainly = numerals_by_value (AllDigits 10) tells_digits

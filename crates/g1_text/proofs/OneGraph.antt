@@ -31,7 +31,7 @@ digits_one (a ∷ at) (b ∷ bs) xs ys p q e =
 number_one : (m n : ℕ) (v w : List ℕ) → Spells (2 ^ 64) m v → Spells (2 ^ 64) n w → v ≡ w → m ≡ n
 number_one m n v w p q e = sym p.1 ∙ ap (λ x. digits_value 10 x) e ∙ q.1
 
-size_one : (s r u v : ℕ) (word other : List ℕ) → HasSize s r word → HasSize u v other → word ≡ other → (s ≡ u) × (r ≡ v)
+pub size_one : (s r u v : ℕ) (word other : List ℕ) → HasSize s r word → HasSize u v other → word ≡ other → (s ≡ u) × (r ≡ v)
 size_one s r u v word other p q e =
     let parts = digits_one p.0 q.0 p.1 q.1 p.3.0.1 q.3.0.1 (sym p.2 ∙ e ∙ q.2) in
     (number_one s u p.0 q.0 p.3 q.3 parts.0, number_one r v p.1 q.1 p.4 q.4 parts.1)
@@ -79,7 +79,7 @@ front_and_this word xs ys n m front same a b =
     let many : length (drop n xs) ≡ length (drop m ys) = omega (arith, count, one, two, left, right, same) in
     sym (take-append-drop n xs) ∙ (λ i. front i ++ (all_this word (drop n xs) a ∙ ap (λ k. replicate k word) many ∙ sym (all_this word (drop m ys) b)) i) ∙ take-append-drop m ys
 
-take_both : {A : Type 0} (n : ℕ) (xs ys : List A) → take n (xs ++ ys) ≡ take n xs ++ take (n - length xs) ys
+pub take_both : {A : Type 0} (n : ℕ) (xs ys : List A) → take n (xs ++ ys) ≡ take n xs ++ take (n - length xs) ys
 take_both zero [] ys = refl
 take_both (suc n) [] ys = let e : suc n ≡ suc n - 0 = omega arith in ap (λ k. take k ys) e
 take_both zero (x ∷ xs) ys = let e : 0 ≡ 0 - length (x ∷ xs) = omega arith in ap (λ k. take k ys) e

@@ -1,11 +1,11 @@
 -- An image whose text is that of a filled file has this file's heap.
-use Rattle.std.proofs.Common.{◌≡◌, ◌≤◌, ◌<◌, inl, inr, ℕ, zero, suc, ◌+◌, ◌-◌, ◌*◌, ◌%◌, ◌^◌, Bool, true, false, T, List, [], ◌∷◌, ◌++◌, length, drop, map, flat_map, slice_index, slice_index_or, bit_xor, append-nil, length-append, refl, sym, ◌∙◌, ap, subst, arith}
+use Rattle.std.proofs.Common.{◌≡◌, ◌<◌, inl, inr, ℕ, ◌+◌, ◌*◌, ◌%◌, ◌^◌, Bool, true, false, T, List, [], ◌∷◌, ◌++◌, length, drop, map, flat_map, slice_index, slice_index_or, bit_xor, append-nil, length-append, refl, sym, ◌∙◌, ap, subst, arith}
 use Rattle.std.specs.Prelude.{Option, Some, None, IfSome, unwrap_or, if◌then◌else◌, nat_lt, ◌==◌, All, to_bits, codes}
 use Rattle.std.specs.List.{AllZip, range_with_len}
 use Rattle.std.specs.Option.{option_map, option_and_then}
 use Rattle.std.specs.Float.Parse.{parse_float, read_float, read_unsigned, read_word, begins_with, sign_len}
 use Rattle.std.specs.Float.Numeral.{minus, scan_numeral, has_digits}
-use Rattle.std.proofs.lemmas.List.{length-map, get_or_past}
+use Rattle.std.proofs.lemmas.List.{get_or_past}
 use Rattle.std.proofs.lemmas.List.FromFn.{length-range_with_len}
 use Rattle.std.proofs.lemmas.List.Elements.{All-nil, All-cons, All-append, All-map}
 use Rattle.std.proofs.lemmas.Bool.{cases_lt}
@@ -18,7 +18,7 @@ use Rattle.g1_words.specs.declared.region.Kind.{Kind}
 use Rattle.g1_words.specs.declared.region.Kind.TheVariants.{Free, Ordinary, HumongousFirst, Continuation}
 use Rattle.g1_words.specs.Kind.{kind_number}
 use Rattle.g1_words.proofs.Members.{In}
-use Rattle.g1_image.specs.Text.{File, magic, heading_text, heading_of, file_text, table_text, words_text, numbers_text, remembered_texts, entry_text, table_words}
+use Rattle.g1_image.specs.Text.{File, heading_of, file_text, table_text, words_text, numbers_text, remembered_texts, entry_text, table_words}
 use Rattle.g1_image.specs.declared.cursor.Version.TheVariants.{Two}
 use Rattle.g1_image.specs.Reading.{Are, IsU32, IsU64}
 use Rattle.g1_image.specs.Faults.{HeadingFits, EntryFits, FileFits}
@@ -29,23 +29,16 @@ use Rattle.g1_image.proofs.Files.{numbers_free, words_free}
 use Rattle.g1_image.proofs.Words.{length-words_text, table_words-cons}
 use Rattle.g1_image.proofs.FileOf.{file_fits, heap_of_file}
 use Rattle.g1_text.specs.Forms.{StandsFor, hash_behind}
-use Rattle.g1_text.specs.Graphs.{NamedObject, NamedRoot, NamedGraph, size_of}
+use Rattle.g1_text.specs.Graphs.{NamedObject, NamedGraph, size_of}
 use Rattle.g1_text.specs.ByName.{place_of}
 use Rattle.g1_text.specs.Carried.{word_for, root_value}
+use Rattle.g1_text.specs.Drafts.{HeapFits}
 use Rattle.g1_text.specs.Filled.{AreWordsOf}
 use Rattle.g1_text.specs.Laid.{used_addresses, IsAddress}
 use Rattle.g1_text.proofs.HeapWords.{split_front}
 
--- ONE HEAP: the numbers of a file fit, except those of its remembered sets, which no heap has
-pub record HeapFits (f : File) : Type 0 where
-  pub heading : HeadingFits (heading_of f)
-  pub table : Are (EntryFits f.version) f.n f.table
-  pub roots : All IsU64 f.roots
-  pub log : All IsU32 f.log
-  pub words : Are IsU64 (table_words f.table) f.words
-
--- two files with one text have one heap
-same_heap : (f g : File) → HeapFits f → FileFits Wide g → file_text f ≡ file_text g → heap_of f ≡ heap_of g
+-- ONE HEAP: two files with one text have one heap
+pub same_heap : (f g : File) → HeapFits f → FileFits Wide g → file_text f ≡ file_text g → heap_of f ≡ heap_of g
 same_heap f g ff fg e =
     let v = magic_free f.version g.version _ _ e in
     let h = heading_free (heading_of f) (heading_of g) _ _ ff.heading fg.heading v.1 in

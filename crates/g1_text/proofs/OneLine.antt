@@ -79,12 +79,13 @@ remembered_one s r xs r' ys c d e a b =
     a.3 ∙ (λ t. record s { remembered = set s.remembered (number t) (slice_index_or s.remembered (number t) [] ++ cards t) }) ∙ sym b.3
 
 -- what an object adds
-abbrev with_object : Content → List Region → Region → List Counts → Counts → List ℕ → List ℕ → Content
-with_object s below q earlier last slots values = record s {
+abbrev with_object : Content → List Region → Region → List Counts → Counts → ℕ → List ℕ → List ℕ → Content
+with_object s below q earlier last at slots values = record s {
   regions = below ++ record q { top = top_behind q.kind s.geometry q.top (size_with slots values) } ∷ [];
   beyond = beyond_behind q.kind s.geometry s.beyond (size_with slots values);
   words = s.words ++ (size_with slots values * 2 ^ 32 + length slots) ∷ (slots ++ values);
   counts = earlier ++ one_found last ∷ [];
+  addresses = s.addresses ++ at ∷ [];
 }
 
 object_one : (s : Content) (at : ℕ) (slots values : List ℕ) (at' : ℕ) (slots' values' : List ℕ) (c d : Content)
@@ -100,7 +101,8 @@ object_one s at slots values at' slots' values' c d e a b =
     let parts = fronts_one (map reference_word slots) (map reference_word slots') (map decimal values) (map decimal values') lengths (ap (drop 3) e) in
     let references = references_one slots slots' (all_small slots a.11) (all_small slots' b.11) parts.0 in
     let numbers = numbers_one values values' (all_small values a.12) (all_small values' b.12) parts.1 in
-    a.14 ∙ (λ t. with_object s (regions.0 t) (regions.1 t) (counts.0 t) (counts.1 t) (references t) (numbers t)) ∙ sym b.14
+    let place = decimal_injective at at' a.8 b.8 (ap (word_at 1) e) in
+    a.14 ∙ (λ t. with_object s (regions.0 t) (regions.1 t) (counts.0 t) (counts.1 t) (place t) (references t) (numbers t)) ∙ sym b.14
 
 -- lines of the same words add the same
 line_one : (s : Content) (l m : Line) (c d : Content) → words_of l ≡ words_of m → Takes s l c → Takes s m d → c ≡ d

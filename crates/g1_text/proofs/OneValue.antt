@@ -19,7 +19,7 @@ behind : {a b : ℕ} {xs ys : List ℕ} → a ∷ xs ≡ b ∷ ys → xs ≡ ys
 behind e = ap (drop 1) e
 
 -- TWO WORDS OF ONE FORM
-spells_one : (bound m n : ℕ) (word : List ℕ) → Spells bound m word → Spells bound n word → m ≡ n
+pub spells_one : (bound m n : ℕ) (word : List ℕ) → Spells bound m word → Spells bound n word → m ≡ n
 spells_one bound m n word p q = sym p.1 ∙ q.1
 
 negates_one : (m n : ℕ) (word : List ℕ) → Negates m word → Negates n word → m ≡ n

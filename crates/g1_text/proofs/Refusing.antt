@@ -1,15 +1,22 @@
 -- Lines that are read one after the other, with their numbers, and the first wrong one.
-use Rattle.std.proofs.Common.{◌≡◌, ◌⊎◌, inl, inr, ℕ, ◌+◌, ◌-◌, ◌<◌, Bool, true, false, cond, List, [], ◌∷◌, ◌++◌, length, length-append, take, drop, map, filter, append-nil, append_assoc, eqb, All, IsUtf8, refl, sym, ◌∙◌, ap, subst, arith}
+use Rattle.std.proofs.Common.{◌≡◌, ◌⊎◌, inl, inr, ℕ, ◌+◌, ◌-◌, ◌<◌, Bool, true, false, cond, List, [], ◌∷◌, ◌++◌, length, length-append, take, drop, map, filter, append-nil, append_assoc, eqb, slice_index, All, IsUtf8, refl, sym, ◌∙◌, ap, subst, arith}
 use Rattle.std.specs.Prelude.{Option, Some, None, Result, Ok, Err, IfErr, MatchResult}
 use Rattle.std.specs.Option.{is_some}
 use Rattle.std.specs.List.{ends_with}
-use Rattle.std.specs.Str.{bytes_eq}
 use Rattle.std.proofs.lemmas.Bool.{false≢true}
 use Rattle.std.proofs.lemmas.List.{map-append, take-append-drop}
 use Rattle.std.proofs.lemmas.List.Elements.{All-nil, All-cons, All-append, filter-append}
 use Rattle.std.proofs.lemmas.List.Splits.{length-slice_split}
 use Rattle.std.proofs.lemmas.Slice.Eq.{bytes_eq-Decides}
-use Rattle.g1_words.specs.declared.fault.Fault.TheVariants.{Memory as OutOfMemory}
+use Rattle.g1_words.specs.declared.fault.Fault.{Fault as AnyFault}
+use Rattle.g1_words.specs.declared.fault.Fault.TheVariants.{Memory as OutOfMemory, Reference, Card}
+use Rattle.g1_words.specs.declared.fault.Place.TheVariants.{Root, Slot}
+use Rattle.g1_words.specs.declared.fault.Stand.TheVariants.{Dirty, Region}
+use Rattle.g1_words.specs.declared.limits.Limits.TheVariants.{Wide}
+use Rattle.g1_image.specs.Text.{file_text}
+use Rattle.g1_image.specs.Image.{heap_of}
+use Rattle.g1_image.specs.Parts.{CountsFit}
+use Rattle.g1_image.specs.Faults.{FaultWithin, MayFailWithin}
 use Rattle.g1_text.specs.declared.expected.Expected.{Expected as Wanted}
 use Rattle.g1_text.specs.declared.expected.Refusal.{Refusal}
 use Rattle.g1_text.specs.declared.expected.Refusal.TheVariants.{Expected, Memory}
@@ -17,12 +24,18 @@ use Rattle.g1_text.specs.declared.expected.Wrong.{Wrong}
 use Rattle.g1_text.specs.declared.expected.Wrong.TheVariants.{Line, Fault}
 use Rattle.g1_text.specs.Reading.{words_in, says_something, parts_of, lines_in, HasLines}
 use Rattle.g1_text.specs.Forms.{ImageHeading, ImageLine, HaveForms, HasMeaning}
-use Rattle.g1_text.specs.Content.{Content, Agrees}
+use Rattle.g1_text.specs.Content.{Content, Agrees, file_with}
+use Rattle.g1_text.specs.Covered.{AreCoverOf}
 use Rattle.g1_text.specs.Short.{Tells, TellsAll, Closes}
-use Rattle.g1_text.specs.Drafts.{form_after, IsTaken, AreTaken}
-use Rattle.g1_text.specs.Refused.{IsLineOrMemory}
-use Rattle.g1_text.specs.Late.{LineNumbers, numbers_in, IsLateLine, IsLate}
+use Rattle.g1_text.specs.Drafts.{form_after, IsTaken, AreTaken, AreAsMany, StandsInHeap}
+use Rattle.g1_text.specs.Refused.{IsAtLine, IsLineOrMemory}
+use Rattle.g1_text.specs.FaultLines.{LineNumbers, IsLineBelow, IsSlotLine, IsSetLine}
+use Rattle.g1_text.specs.Late.{numbers_in, IsLateLine, IsLate, IsLateCoveredLine, IsLateCovered, NoneRemembered}
 use Rattle.g1_text.specs.Reported.{IsFirstWrongLine, IsLastLine, IsFirstWrong, IsReported, IsReportedLate, Reports}
+use Rattle.g1_text.proofs.RootLines.{root_there, roots_counted, card_there}
+use Rattle.g1_text.proofs.LogLines.{log_counted}
+use Rattle.g1_text.proofs.SlotLines.{slot_told}
+use Rattle.g1_text.proofs.Standing.{told_stands, other_sets}
 use Rattle.g1_text.proofs.Turns.{lines_of, at_err}
 
 -- so many lines were read, and these are left: what the lines above say is said now
@@ -132,28 +145,91 @@ reports_early bytes (Line n e) (inl f) = inl f
 reports_early bytes (Line n e) (inr l) = inr (inl l)
 reports_early bytes (Fault f) m = m
 
--- a line or memory is late for what agrees
-pub agreed_late : (lines : LineNumbers) (d : Content) (w : Wrong) → Agrees d → IsLineOrMemory w → IsLate lines d w
-agreed_late lines d (Line n e) agrees line = inr (inr agrees)
-agreed_late lines d (Fault f) agrees m = m
+-- what is reported for a fault of the bytes is late for what agrees
+pub faulty_late : (lines : LineNumbers) (d : Content) (w : Wrong) (f : AnyFault) → AreAsMany lines d → StandsInHeap d → length lines.objects ≡ length d.addresses → Agrees d → IsLineOrMemory w → (f ≡ OutOfMemory → w ≡ Fault OutOfMemory)
+    → (CountsFit (file_with d) → MayFailWithin Wide (file_text (file_with d)) f)
+    → ((n : ℕ) → f ≡ Reference (Root n) → n < length lines.roots → IsAtLine w (slice_index lines.roots n))
+    → ((n : ℕ) → f ≡ Card (Dirty n) → n < length lines.log → IsAtLine w (slice_index lines.log n))
+    → ((r : ℕ) → f ≡ Card (Region r) → (n : ℕ) × IsSetLine lines r n × IsAtLine w n)
+    → ((p : ℕ) → f ≡ Reference (Slot p) → (n : ℕ) × IsLineBelow lines d.addresses p n × IsAtLine w n) → IsLate lines d w
+faulty_late lines d (Fault g) f same stands objects agrees m memory fails root dirty region slot = m
+faulty_late lines d (Line n e) f same stands objects agrees line memory fails root dirty region slot = inr (inr (
+  agrees,
+  λ fit. elim (fails fit) [
+    | inl m ↦ (let clash : Line n e ≡ Fault OutOfMemory = memory m in cc)
+    | inr is ↦ record {
+      fault = f;
+      is = is;
+      root = λ m named.
+          let there = root_there d m fit (subst (FaultWithin Wide (file_text (file_with d))) named is) in
+          let lt : m < length lines.roots = omega (arith, there, same.0) in
+          (lt, root m named lt);
+      dirty = λ m named.
+          let there = card_there d m fit (subst (FaultWithin Wide (file_text (file_with d))) named is) in
+          let lt : m < length lines.log = omega (arith, there, same.1) in
+          (lt, dirty m named lt);
+      slot = λ p named.
+          let told = slot p named in
+          let there = slot_told lines d p told.0 stands fit objects (subst (FaultWithin Wide (file_text (file_with d))) named is) told.1 in
+          subst (IsSlotLine lines (heap_of (file_with d)) p) (sym told.2) there;
+      region = λ r named. let told = region r named in subst (IsSetLine lines r) (sym told.2) told.1;
+    }
+  ],
+))
+
+-- with a line `covered` what is late for the same content with sets is late
+module _ (lines now : LineNumbers) (c d : Content) (sets : List (List ℕ)) (same : now ≡ lines) (is : d ≡ record c { covered = false; remembered = sets }) (none : NoneRemembered c) (are : AreCoverOf c sets) where
+  still_as_many : AreAsMany lines c → AreAsMany now d
+  still_as_many many = (
+    ap (λ (l : LineNumbers). length l.roots) same ∙ many.0 ∙ sym (ap (λ (x : Content). length x.roots) is),
+    ap (λ (l : LineNumbers). length l.log) same ∙ many.1 ∙ sym (ap (λ (x : Content). length x.log) is),
+  )
+
+  one_beside : (w : Wrong) → IsLate lines (record c { covered = false; remembered = sets }) w → IsLateCovered lines c w
+  one_beside (Line n e) late = inr (none, sets, are, late)
+  one_beside (Fault f) m = m
+
+  pub late_beside : {T : Type 0} (r : Result T Wrong) → AreAsMany lines c → StandsInHeap c → (AreAsMany now d → StandsInHeap d → IfErr r (IsLate now d)) → IfErr r (IsLateCovered lines c)
+  late_beside (Ok x) many stands late = tt
+  late_beside (Err w) many stands late =
+      one_beside w (subst (λ l. IsLate l (record c { covered = false; remembered = sets }) w) same (subst (λ x. IsLate now x w) is (late (still_as_many many) (subst StandsInHeap (sym is) (other_sets c sets stands)))))
 
 module _ (bytes : List ℕ) (lines : LineNumbers) (d : Content) (all : HasMeaning ImageHeading ImageLine bytes) (numbered : lines ≡ numbers_in (parts_of bytes))
     (read : (told c : Content) → HasLines bytes (lines_in bytes) → TellsAll None (lines_in bytes) (Some told) → Closes told c → d ≡ c) where
-  reported_late : (n : ℕ) → (d.covered ≡ false → IsLateLine lines d n) → IsReportedLate bytes n
-  reported_late n late = record {
+  module _ (told c : Content) (tells : TellsAll None (lines_in bytes) (Some told)) (closes : Closes told c) where
+    is_told : d ≡ c
+    is_told = read told c (record { utf8 = all.utf8; same = refl }) tells closes
+
+    as_many : AreAsMany lines d
+    as_many = (
+      ap (λ (l : LineNumbers). length l.roots) numbered ∙ roots_counted bytes told c tells closes ∙ sym (ap (λ (x : Content). length x.roots) is_told),
+      ap (λ (l : LineNumbers). length l.log) numbered ∙ log_counted bytes told c tells closes ∙ sym (ap (λ (x : Content). length x.log) is_told),
+    )
+
+    stands : StandsInHeap d
+    stands = subst StandsInHeap (sym is_told) (told_stands (lines_in bytes) told c tells closes)
+
+  reported_late : (n : ℕ) → (d.covered ≡ false → AreAsMany lines d → StandsInHeap d → IsLateLine lines d n)
+      → (d.covered ≡ true → AreAsMany lines d → StandsInHeap d → IsLateCoveredLine lines d n) → IsReportedLate bytes n
+  reported_late n late beside = record {
     forms = all;
     late = λ told c tells closes plain.
-        let same = read told c (record { utf8 = all.utf8; same = refl }) tells closes in
-        subst (λ x. IsLateLine x c n) numbered (subst (λ x. IsLateLine lines x n) same (late (ap (λ (x : Content). x.covered) same ∙ plain)));
+        let same = is_told told c tells closes in
+        subst (λ x. IsLateLine x c n) numbered (subst (λ x. IsLateLine lines x n) same (late (ap (λ (x : Content). x.covered) same ∙ plain) (as_many told c tells closes) (stands told c tells closes)));
+    covered = λ told c tells closes is.
+        let same = is_told told c tells closes in
+        subst (λ x. IsLateCoveredLine x c n) numbered (subst (λ x. IsLateCoveredLine lines x n) same (beside (ap (λ (x : Content). x.covered) same ∙ is) (as_many told c tells closes) (stands told c tells closes)));
   }
 
-  reports_late : (w : Wrong) → IsLineOrMemory w → (d.covered ≡ false → IsLate lines d w) → Reports bytes w
-  reports_late (Line n e) line late = inr (inr (reported_late n late))
-  reports_late (Fault f) m late = m
+  reports_late : (w : Wrong) → IsLineOrMemory w → (d.covered ≡ false → AreAsMany lines d → StandsInHeap d → IsLate lines d w)
+      → (d.covered ≡ true → AreAsMany lines d → StandsInHeap d → IsLateCovered lines d w) → Reports bytes w
+  reports_late (Line n e) line late beside = inr (inr (reported_late n late beside))
+  reports_late (Fault f) m late beside = m
 
-  pub all_late : {T : Type 0} (r : Result T Wrong) → IfErr r IsLineOrMemory → (d.covered ≡ false → IfErr r (IsLate lines d)) → IfErr r (Reports bytes)
-  all_late (Ok x) line late = tt
-  all_late (Err w) line late = reports_late w line late
+  pub all_late : {T : Type 0} (r : Result T Wrong) → IfErr r IsLineOrMemory → (d.covered ≡ false → AreAsMany lines d → StandsInHeap d → IfErr r (IsLate lines d))
+      → (d.covered ≡ true → AreAsMany lines d → StandsInHeap d → IfErr r (IsLateCovered lines d)) → IfErr r (Reports bytes)
+  all_late (Ok x) line late beside = tt
+  all_late (Err w) line late beside = reports_late w line late beside
 
 -- NO LINE SAYS ANYTHING
 still_taken : (lines : List (List (List ℕ))) → AreTaken ImageHeading ImageLine true lines false → ⊥

@@ -1,11 +1,11 @@
 -- Objects that find room, one after the other.
-use Rattle.std.proofs.Common.{◌≡◌, ◌≢◌, ◌≤◌, ◌<◌, inl, inr, ℕ, suc, ◌+◌, ◌-◌, ◌*◌, ◌^◌, Bool, true, false, not, ltb, List, [], ◌∷◌, ◌++◌, length, get_or, slice_index, map, set, min, append-nil, append_assoc, length-append, refl, sym, ◌∙◌, ap, subst, arith}
+use Rattle.std.proofs.Common.{◌≡◌, ◌≢◌, ◌≤◌, ◌<◌, inl, inr, ℕ, suc, ◌+◌, ◌*◌, Bool, true, false, not, ltb, List, [], ◌∷◌, ◌++◌, length, slice_index, map, set, append-nil, append_assoc, length-append, refl, sym, ◌∙◌, ap, subst, arith}
 use Rattle.std.specs.Prelude.{Option, Some, None, Result, Ok, Err, is_ok, OnOk, IfOk, IfErr, All, Contains, MatchBool}
 use Rattle.std.specs.Option.{SomeIff, ok_or}
 use Rattle.std.proofs.Math.Nat.{mul-le-mul_left}
 use Rattle.std.proofs.lemmas.Bool.{cases_lt, false≢true, lt-ltb, le-ltb}
-use Rattle.std.proofs.lemmas.List.{map-append, get_or-set_other, get_or-set_same, get_or-map, get_or_default, get_or_at}
-use Rattle.std.proofs.lemmas.List.Elements.{All-nil, All-cons, All-push, All-append, All-weaker, Contains-push, Contains-append_left, Contains-append_right}
+use Rattle.std.proofs.lemmas.List.{map-append, get_or-set_other, get_or-set_same, get_or_at}
+use Rattle.std.proofs.lemmas.List.Elements.{All-nil, All-push, All-append, Contains-push, Contains-append_left, Contains-append_right}
 use Rattle.g1_words.specs.Geometry.{Geometry, IsWithinBounds}
 use Rattle.g1_words.specs.declared.object.Object.{Object}
 use Rattle.g1_words.specs.declared.region.Region.{Region}
@@ -15,7 +15,7 @@ use Rattle.g1_text.specs.declared.placing.Entry.{Entry}
 use Rattle.g1_text.specs.Content.{Content, HasSpace, top_behind, beyond_behind}
 use Rattle.g1_text.specs.Laid.{AreLaid, IsLaid, laid_content, ArePassed, AreOrdered, IsAddress, is_large, placed, size_at}
 use Rattle.g1_text.proofs.Ends.{one_end}
-use Rattle.g1_text.proofs.Laying.{laid_empty, laid_room, laid_run}
+use Rattle.g1_text.proofs.Laying.{laid_room}
 
 pub on_ok_true : {T E P : Type 0} (r : Result T E) → is_ok r ≡ true → OnOk r P → P
 on_ok_true (Ok x) t p = p

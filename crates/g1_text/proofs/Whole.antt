@@ -6,11 +6,12 @@ use Rattle.std.specs.List.{range_with_len}
 use Rattle.std.proofs.lemmas.Bool.{cases_lt}
 use Rattle.std.proofs.lemmas.List.{map-append, set_at, get_or_at, take_more}
 use Rattle.std.proofs.lemmas.List.FromFn.{map-range_with_len_more, get_or-map-range_with_len, length-map-range_with_len}
+use Rattle.std.proofs.lemmas.List.Concat.{flat_map-append}
 use Rattle.std.proofs.lemmas.Simd.{map-map}
 use Rattle.std.proofs.Math.Seq.{take-add}
 use Rattle.std.proofs.Math.Nat.{mul-le-mul_left}
 use Rattle.g1_words.specs.Kind.{MayHoldCards}
-use Rattle.g1_words.specs.Heap.{free_region, kind, top, pinned, region, regions, start, end, objects_in, objects_by, object_at}
+use Rattle.g1_words.specs.Heap.{free_region, kind, top, pinned, region, regions, start, end, objects, objects_in, objects_by, object_at}
 use Rattle.g1_words.specs.Valid.{IsFirst, IsHumongous, IsWholeRun, HoldsBy, IsShapedBy, IsValid, Tiles}
 use Rattle.g1_words.specs.declared.object.Object.{Object}
 use Rattle.g1_words.specs.declared.region.Region.{Region}
@@ -25,7 +26,8 @@ use Rattle.g1_text.specs.Content.{Content, Line, Root, Dirty, Numbers, Remembere
 use Rattle.g1_text.proofs.Splitting.{small_at}
 use Rattle.g1_text.proofs.Bounded.{objects_few, roots_small, top_small}
 use Rattle.g1_text.proofs.OneImage.{IsPlain, plain}
-use Rattle.g1_text.proofs.Adding.{adds_both, adds_to, map_members, said_object, object_words, read_so_far, counts_at, within_region, object_adds, objects_add}
+use Rattle.g1_text.proofs.Adding.{adds_both, adds_to, map_members, said_object, object_words, address_of, read_so_far, counts_at, within_region, object_adds, objects_add}
+use Rattle.g1_text.proofs.Laying.{range_split}
 use Rattle.g1_text.proofs.OneLine.{heading_one, adds_one}
 use Rattle.g1_text.proofs.Beyond.{GoesOn, none_goes_on, none_left, none_before, past_plain, past_first, past_continuation}
 
@@ -95,7 +97,7 @@ module _ (i : Image) (good : IsImage i) where
 
 -- what is said with the first roots, and with the log if it was read
 abbrev rooted : Image → List ℕ → List ℕ → Content
-rooted i roots log = record (read_so_far i [] (replicate i.heap.geometry.n []) [] 0 []) { roots = roots; log = log }
+rooted i roots log = record (read_so_far i [] (replicate i.heap.geometry.n []) [] 0 [] []) { roots = roots; log = log }
 
 module _ (i : Image) (good : IsImage i) where
   valid : IsValid i.heap
@@ -161,9 +163,13 @@ words_said i r beyond = used_words i.heap.geometry.w (take r i.heap.regions) i.h
 abbrev pub sets_said : Image → ℕ → List (List ℕ)
 sets_said i r = take r i.remembered ++ replicate (i.heap.geometry.n - r) []
 
+-- the addresses of the objects that start below region r
+abbrev pub addresses_said : Image → ℕ → List ℕ
+addresses_said i r = map address_of (flat_map (objects_in i.heap) (range_with_len 0 r))
+
 -- what is said when r regions were read
 abbrev pub after_regions : Image → ℕ → ℕ → Content
-after_regions i r beyond = read_so_far i (take r i.heap.regions) (sets_said i r) (words_said i r beyond) beyond (map (counts_at i) (range_with_len 0 r))
+after_regions i r beyond = read_so_far i (take r i.heap.regions) (sets_said i r) (words_said i r beyond) beyond (map (counts_at i) (range_with_len 0 r)) (addresses_said i r)
 
 module _ (i : Image) (good : IsImage i) (r : ℕ) (below : r < i.heap.geometry.n) where
   regions_below : length (take r i.heap.regions) ≡ r
@@ -236,11 +242,11 @@ module _ (i : Image) (good : IsImage i) (r : ℕ) (below : r < i.heap.geometry.n
   -- ---- the objects
 
   -- what is said with the region's line, and with all its objects
-  abbrev Filled : Kind → ℕ → ℕ → Type 0
-  Filled k b after =
-      Adds (within_region i r (pinned i.heap r) (sets_said i (r + 1)) k (words_said i r b) (b - words_beyond (after_regions i r b) k) (words_beyond (after_regions i r b) k) 0)
+  abbrev Filled : Kind → ℕ → ℕ → List ℕ → Type 0
+  Filled k b after ats =
+      Adds (within_region i r (pinned i.heap r) (sets_said i (r + 1)) k (words_said i r b) (b - words_beyond (after_regions i r b) k) (words_beyond (after_regions i r b) k) 0 ats)
       (map (said_object i.heap.words) (objects_by k i.heap r))
-      (within_region i r (pinned i.heap r) (sets_said i (r + 1)) k (words_said i (r + 1) after) after (top i.heap r) (length (objects_by k i.heap r)))
+      (within_region i r (pinned i.heap r) (sets_said i (r + 1)) k (words_said i (r + 1) after) after (top i.heap r) (length (objects_by k i.heap r)) (ats ++ map address_of (objects_by k i.heap r)))
 
   objects_small : length (objects_in i.heap r) < 2 ^ 64
   objects_small = let few = objects_few (kind i.heap r) i.heap r in let small = top_small i good r below in omega (arith, few, small)
@@ -248,8 +254,9 @@ module _ (i : Image) (good : IsImage i) (r : ℕ) (below : r < i.heap.geometry.n
   members : (k : Kind) → kind i.heap r ≡ k → (o : Object) → In (objects_by k i.heap r) o → IsPlain i.heap.words o
   members k is o m = plain i good r o below (subst (λ l. In l o) (ap (λ x. objects_by x i.heap r) (sym is)) m)
 
-  filled : (k : Kind) → kind i.heap r ≡ k → IsShapedBy k i.heap r → (b : ℕ) → GoesOn i.heap r b → MayFollow (after_regions i r b) k × (after : ℕ) × GoesOn i.heap (r + 1) after × Filled k b after
-  filled Free is shaped b on =
+  filled : (ats : List ℕ) (k : Kind) → kind i.heap r ≡ k → IsShapedBy k i.heap r → (b : ℕ) → GoesOn i.heap r b
+      → MayFollow (after_regions i r b) k × (after : ℕ) × GoesOn i.heap (r + 1) after × Filled k b after ats
+  filled ats Free is shaped b on =
       let none : b ≡ 0 = none_before i.heap r b on Free is (λ e. cc) in
       let words = words_plain b 0 none (sym shaped) in
       let same : words_said i r b ≡ words_said i (r + 1) 0 = sym (append-nil (words_said i r b)) ∙ words in
@@ -257,9 +264,9 @@ module _ (i : Image) (good : IsImage i) (r : ℕ) (below : r < i.heap.geometry.n
         none,
         0,
         past_plain i.heap r b on Free is (λ e. cc) none,
-        (λ t. within_region i r (pinned i.heap r) (sets_said i (r + 1)) Free (same t) (left t) (sym shaped t) 0),
+        (λ t. within_region i r (pinned i.heap r) (sets_said i (r + 1)) Free (same t) (left t) (sym shaped t) 0 (sym (append-nil ats) t)),
       )
-  filled Ordinary is shaped b on =
+  filled ats Ordinary is shaped b on =
       let none : b ≡ 0 = none_before i.heap r b on Ordinary is (λ e. cc) in
       let w : ℕ = i.heap.geometry.w in
       let os : List Object = objects_by Ordinary i.heap r in
@@ -271,7 +278,7 @@ module _ (i : Image) (good : IsImage i) (r : ℕ) (below : r < i.heap.geometry.n
       let each : (o : Object) → In os o → IsPlain i.heap.words o × (4 * o.size ≤ 3 * w) =
       λ o m. (members Ordinary is o m, (let c = Contains-from_in shaped.2 o (subst (λ l. In l o) (sym are) m) in subst (λ (x : Object). 4 * x.size ≤ 3 * w) c.2 (shaped.4 c.0 o c.1))) in
       let few : 0 + length os < 2 ^ 64 = (let same : length os ≡ length (objects_in i.heap r) = ap (λ k. length (objects_by k i.heap r)) (sym is) in omega (arith, same, objects_small)) in
-      let added = objects_add i good r below (pinned i.heap r) (sets_said i (r + 1)) os (words_said i r b) (b - 0) 0 (top i.heap r) 0 placed shaped.1 each few in
+      let added = objects_add i good r below (pinned i.heap r) (sets_said i (r + 1)) os (words_said i r b) (b - 0) 0 (top i.heap r) 0 ats placed shaped.1 each few in
       let height : top i.heap r - 0 ≡ top i.heap r = omega arith in
       let words : words_said i r b ++ take (top i.heap r - 0) (drop (r * w + 0) i.heap.words) ≡ words_said i (r + 1) 0 =
       (λ t. words_said i r b ++ take (height t) (drop (sym from t) i.heap.words)) ∙ words_plain b (top i.heap r) none refl in
@@ -280,12 +287,12 @@ module _ (i : Image) (good : IsImage i) (r : ℕ) (below : r < i.heap.geometry.n
         none,
         0,
         past_plain i.heap r b on Ordinary is (λ e. cc) none,
-        adds_to (map (said_object i.heap.words) os) (within_region i r (pinned i.heap r) (sets_said i (r + 1)) Ordinary (words_said i r b) (b - 0) 0 0)
-            (within_region i r (pinned i.heap r) (sets_said i (r + 1)) Ordinary (words_said i r b ++ take (top i.heap r - 0) (drop (r * w + 0) i.heap.words)) (b - 0) (top i.heap r) (0 + length os))
-            (within_region i r (pinned i.heap r) (sets_said i (r + 1)) Ordinary (words_said i (r + 1) 0) 0 (top i.heap r) (length os))
-            (λ t. within_region i r (pinned i.heap r) (sets_said i (r + 1)) Ordinary (words t) (left t) (top i.heap r) (count t)) added,
+        adds_to (map (said_object i.heap.words) os) (within_region i r (pinned i.heap r) (sets_said i (r + 1)) Ordinary (words_said i r b) (b - 0) 0 0 ats)
+            (within_region i r (pinned i.heap r) (sets_said i (r + 1)) Ordinary (words_said i r b ++ take (top i.heap r - 0) (drop (r * w + 0) i.heap.words)) (b - 0) (top i.heap r) (0 + length os) (ats ++ map address_of os))
+            (within_region i r (pinned i.heap r) (sets_said i (r + 1)) Ordinary (words_said i (r + 1) 0) 0 (top i.heap r) (length os) (ats ++ map address_of os))
+            (λ t. within_region i r (pinned i.heap r) (sets_said i (r + 1)) Ordinary (words t) (left t) (top i.heap r) (count t) (ats ++ map address_of os)) added,
       )
-  filled HumongousFirst is shaped b on =
+  filled ats HumongousFirst is shaped b on =
       let none : b ≡ 0 = none_before i.heap r b on HumongousFirst is (λ e. cc) in
       let w : ℕ = i.heap.geometry.w in
       let o : Object = object_at i.heap (r * w) in
@@ -301,13 +308,13 @@ module _ (i : Image) (good : IsImage i) (r : ℕ) (below : r < i.heap.geometry.n
         o.size - w,
         past_first i.heap r b on none o shape.0 shape.3,
         (
-          within_region i r (pinned i.heap r) (sets_said i (r + 1)) HumongousFirst (words_said i r b ++ take o.size here) (o.size - w) (min w o.size) 1,
-          object_adds i good r below (pinned i.heap r) (sets_said i (r + 1)) HumongousFirst (words_said i r b) (b - 0) 0 0 o is_plain (omega arith)
+          within_region i r (pinned i.heap r) (sets_said i (r + 1)) HumongousFirst (words_said i r b ++ take o.size here) (o.size - w) (min w o.size) 1 (ats ++ o.at ∷ []),
+          object_adds i good r below (pinned i.heap r) (sets_said i (r + 1)) HumongousFirst (words_said i r b) (b - 0) 0 0 ats o is_plain (omega arith)
               (refl, shape.1, omega (arith, is_plain.within, (valid i good).word_count)) (omega arith),
-          (λ t. within_region i r (pinned i.heap r) (sets_said i (r + 1)) HumongousFirst (words t) (o.size - w) (sym shape.2 t) 1),
+          (λ t. within_region i r (pinned i.heap r) (sets_said i (r + 1)) HumongousFirst (words t) (o.size - w) (sym shape.2 t) 1 (ats ++ o.at ∷ [])),
         ),
       )
-  filled Continuation is shaped b on =
+  filled ats Continuation is shaped b on =
       let w : ℕ = i.heap.geometry.w in
       let exact = on.exact shaped.0 shaped.1 shaped.3 shaped.2 shaped.4 in
       let rest : shaped.1.size - (r - shaped.0) * w ≡ b = omega (arith, exact) in
@@ -317,8 +324,16 @@ module _ (i : Image) (good : IsImage i) (r : ℕ) (below : r < i.heap.geometry.n
         omega (arith, exact, shaped.4),
         b - w,
         past_continuation i.heap r b on is,
-        (λ t. within_region i r (pinned i.heap r) (sets_said i (r + 1)) Continuation (words t) (left t) (sym height t) 0),
+        (λ t. within_region i r (pinned i.heap r) (sets_said i (r + 1)) Continuation (words t) (left t) (sym height t) 0 (sym (append-nil ats) t)),
       )
+
+  addresses_more : addresses_said i r ++ map address_of (objects_in i.heap r) ≡ addresses_said i (r + 1)
+  addresses_more =
+      let here : 0 + r ≡ r = omega arith in
+      let more : flat_map (objects_in i.heap) (range_with_len 0 r) ++ objects_in i.heap r ≡ flat_map (objects_in i.heap) (range_with_len 0 (r + 1)) =
+      ap (λ l. flat_map (objects_in i.heap) (range_with_len 0 r) ++ l) (sym (append-nil (objects_in i.heap r))) ∙ sym (flat_map-append (objects_in i.heap) (range_with_len 0 r) (r ∷ []))
+      ∙ ap (flat_map (objects_in i.heap)) (sym (range_split 0 r 1 ∙ ap (λ n. range_with_len 0 r ++ n ∷ []) here)) in
+      sym (map-append address_of (flat_map (objects_in i.heap) (range_with_len 0 r)) (objects_in i.heap r)) ∙ ap (map address_of) more
 
   -- ONE REGION adds its line, its remembered set and its objects
   region_adds : (b : ℕ) → GoesOn i.heap r b → (after : ℕ) × GoesOn i.heap (r + 1) after × Adds (after_regions i r b) (said_region i r) (after_regions i (r + 1) after)
@@ -326,12 +341,13 @@ module _ (i : Image) (good : IsImage i) (r : ℕ) (below : r < i.heap.geometry.n
       let k : Kind = kind i.heap r in
       let p : Bool = pinned i.heap r in
       let t : ℕ = words_beyond (after_regions i r b) k in
-      let opened : Content = within_region i r p (sets_said i r) k (words_said i r b) (b - t) t 0 in
-      let remembered : Content = within_region i r p (sets_said i (r + 1)) k (words_said i r b) (b - t) t 0 in
-      let all = filled k refl ((valid i good).shaped r below).by_kind b on in
-      let closed : Content = within_region i r p (sets_said i (r + 1)) k (words_said i (r + 1) all.1) all.1 (top i.heap r) (length (objects_in i.heap r)) in
+      let ats : List ℕ = addresses_said i r in
+      let opened : Content = within_region i r p (sets_said i r) k (words_said i r b) (b - t) t 0 ats in
+      let remembered : Content = within_region i r p (sets_said i (r + 1)) k (words_said i r b) (b - t) t 0 ats in
+      let all = filled ats k refl ((valid i good).shaped r below).by_kind b on in
+      let closed : Content = within_region i r p (sets_said i (r + 1)) k (words_said i (r + 1) all.1) all.1 (top i.heap r) (length (objects_in i.heap r)) (ats ++ map address_of (objects_in i.heap r)) in
       let counts : map (counts_at i) (range_with_len 0 r) ++ counts_at i r ∷ [] ≡ map (counts_at i) (range_with_len 0 (r + 1)) = sym (map-range_with_len_more (counts_at i) 0 r r (omega arith)) in
-      let same : closed ≡ after_regions i (r + 1) all.1 = (λ s. read_so_far i (sym one_more s) (sets_said i (r + 1)) (words_said i (r + 1) all.1) all.1 (counts s)) in
+      let same : closed ≡ after_regions i (r + 1) all.1 = (λ s. read_so_far i (sym one_more s) (sets_said i (r + 1)) (words_said i (r + 1) all.1) all.1 (counts s) (addresses_more s)) in
       let small = top_small i good r below in (
         all.1,
         all.2,
@@ -365,7 +381,7 @@ current_fits (Some r) n most lt = omega (arith, most, lt)
 
 -- all that the lines of an image say
 abbrev pub content_of : Image → Content
-content_of i = read_so_far i i.heap.regions i.remembered (used_words i.heap.geometry.w i.heap.regions i.heap.words) 0 (map (counts_at i) (regions i.heap))
+content_of i = read_so_far i i.heap.regions i.remembered (used_words i.heap.geometry.w i.heap.regions i.heap.words) 0 (map (counts_at i) (regions i.heap)) (map address_of (objects i.heap))
 
 module _ (i : Image) (good : IsImage i) where
   regions_add : (r count : ℕ) → r + count ≡ i.heap.geometry.n → (b : ℕ) → GoesOn i.heap r b
@@ -381,7 +397,7 @@ module _ (i : Image) (good : IsImage i) where
       )
 
   first_content : rooted i i.heap.roots i.log ≡ after_regions i 0 0
-  first_content = let e : i.heap.geometry.n ≡ i.heap.geometry.n - 0 = omega arith in λ t. read_so_far i [] (replicate (e t) []) [] 0 []
+  first_content = let e : i.heap.geometry.n ≡ i.heap.geometry.n - 0 = omega arith in λ t. read_so_far i [] (replicate (e t) []) [] 0 [] []
 
   last_content : (b : ℕ) → b ≡ 0 → after_regions i i.heap.geometry.n b ≡ content_of i
   last_content b none =
@@ -393,7 +409,7 @@ module _ (i : Image) (good : IsImage i) where
       let sets : sets_said i n ≡ i.remembered = (λ t. every t ++ replicate (zero_left t) []) ∙ append-nil i.remembered in
       let used : words_said i n b ≡ used_words w i.heap.regions i.heap.words =
       (λ t. used_words w (all t) i.heap.words ++ take (none t) (drop (n * w) i.heap.words)) ∙ append-nil (used_words w i.heap.regions i.heap.words) in
-      λ t. read_so_far i (all t) (sets t) (used t) (none t) (map (counts_at i) (range_with_len 0 n))
+      λ t. read_so_far i (all t) (sets t) (used t) (none t) (map (counts_at i) (range_with_len 0 n)) (addresses_said i n)
 
   rows_add : Adds (rooted i i.heap.roots i.log) (flat_map (said_region i) (regions i.heap)) (content_of i)
   rows_add =

@@ -1,8 +1,7 @@
 -- When a heap carries a graph by name.
-use Rattle.std.specs.Prelude.{◌≡◌, ◌≢◌, ◌↔◌, ◌<◌, ◌+◌, ◌*◌, ◌^◌, ℕ, Option, Some, None, List, [], ◌∷◌, ◌++◌, length, map, flat_map, slice_index, slice_index_or, unwrap_or, All, AllPairs, Contains, IfSome}
+use Rattle.std.specs.Prelude.{◌≡◌, ◌≢◌, ◌↔◌, ◌<◌, ◌+◌, ℕ, Option, Some, None, List, [], ◌∷◌, ◌++◌, length, map, flat_map, slice_index, unwrap_or, All, AllPairs, Contains, IfSome}
 use Rattle.std.specs.List.{AllZip, zip}
 use Rattle.std.specs.Option.{option_map}
-use Rattle.g1_words.specs.Geometry.{Geometry}
 use Rattle.g1_words.specs.Heap.{Heap}
 use Rattle.g1_words.specs.Valid.{HasObject}
 use Rattle.g1_words.specs.Copy.{words_at}

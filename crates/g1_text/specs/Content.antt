@@ -21,7 +21,7 @@ pub record Counts : Type 0 where
   pub found : ℕ
 
 -- what lines have said: the counts of the heading, the parts of the image, the words of a humongous object
--- that no region has yet, and the counts of each region's line
+-- that no region has yet, the counts of each region's line, and the address of each object
 pub record Content : Type 0 where
   pub geometry : Geometry
   pub current : Option ℕ
@@ -35,6 +35,7 @@ pub record Content : Type 0 where
   pub beyond : ℕ
   pub covered : Bool
   pub counts : List Counts
+  pub addresses : List ℕ
 
 -- the numbers of an image file that say the same
 abbrev pub file_with : Content → File
@@ -131,6 +132,7 @@ Takes c (Holds at slots values) d =
       beyond = beyond_behind q.kind c.geometry c.beyond (size_with slots values);
       words = c.words ++ (size_with slots values * 2 ^ 32 + length slots) ∷ (slots ++ values);
       counts = earlier ++ one_found last ∷ [];
+      addresses = c.addresses ++ at ∷ [];
     })
 
 -- what lines add, one after the other
@@ -153,6 +155,7 @@ begun g current roots dirty = record {
   beyond = 0;
   covered = false;
   counts = [];
+  addresses = [];
 }
 
 -- heap W K N roots R dirty D current C

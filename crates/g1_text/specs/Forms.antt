@@ -1,5 +1,5 @@
 -- The forms of lines: which words may stand in a line, one after the other, in the full form and in the short ones.
-use Rattle.std.specs.Prelude.{◌≡◌, ◌≢◌, ◌⊎◌, ◌<◌, ◌+◌, ◌-◌, ◌*◌, ◌%◌, ◌^◌, ℕ, zero, suc, Option, Some, false, List, [], ◌∷◌, ◌++◌, length, take, codes, bit_xor, is_nan, to_bits, All, IsUtf8}
+use Rattle.std.specs.Prelude.{◌≡◌, ◌≢◌, ◌⊎◌, ◌<◌, ◌+◌, ◌-◌, ◌*◌, ◌%◌, ◌^◌, ℕ, zero, suc, Some, false, List, [], ◌∷◌, ◌++◌, length, take, codes, bit_xor, is_nan, to_bits, All, IsUtf8}
 use lib.Ieee.{Float, binary64}
 use Rattle.std.specs.List.{AllZip}
 use Rattle.std.specs.Str.Parse.{IsNumeral, digits_value}

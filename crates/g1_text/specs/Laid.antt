@@ -1,5 +1,5 @@
 -- Where the objects of lines by name are laid, region after region.
-use Rattle.std.specs.Prelude.{◌≡◌, ◌≤◌, ◌<◌, ℕ, Bool, List, [], ◌∷◌, ◌++◌, ◌+◌, ◌*◌, ◌^◌, None, length, map, flat_map, slice_index, nat_lt, not, All, Contains}
+use Rattle.std.specs.Prelude.{◌≡◌, ◌≤◌, ◌<◌, ℕ, Bool, List, [], ◌∷◌, ◌++◌, ◌+◌, ◌*◌, ◌^◌, None, length, map, flat_map, slice_index, nat_lt, All, Contains}
 use Rattle.std.specs.List.{range_with_len}
 use Rattle.g1_words.specs.Geometry.{Geometry, IsWithinBounds}
 use Rattle.g1_words.specs.declared.object.Object.{Object}

@@ -1,13 +1,15 @@
 -- The laws that public functions of this crate prove.
-use Rattle.std.specs.Prelude.{◌≡◌, ◌↔◌, ℕ, List, ◌∷◌, Option, map}
+use Rattle.std.specs.Prelude.{◌≡◌, ◌↔◌, ℕ, false, List, ◌∷◌, Option, map, All}
+use Rattle.std.specs.List.{list_any}
 use Rattle.g1_words.specs.Heap.{Heap}
 use Rattle.g1_words.specs.Valid.{IsValid}
 use Rattle.g1_words.specs.Graph.{SameGraph}
 use Rattle.g1_image.specs.Image.{Image, IsImage}
 use Rattle.g1_text.specs.Lines.{image_text, image_lines, heading}
-use Rattle.g1_text.specs.Reading.{HasLines}
+use Rattle.g1_text.specs.Reading.{HasLines, words_in, parts_of}
 use Rattle.g1_text.specs.Graphs.{NamedGraph, SaysGraph}
 use Rattle.g1_text.specs.Forms.{StandsFor}
+use Rattle.g1_text.specs.Weak.{Slot, AreSlotsOf, is_weak, IsWithoutWeak}
 use Rattle.g1_text.specs.Carried.{Carries}
 use Rattle.g1_text.specs.Renamed.{HasOwnNames, SameByName}
 use Rattle.g1_text.specs.Content.{Content, Line, Begins, Says, Adds, IsContentOf, SaysImage, words_of}
@@ -57,3 +59,12 @@ SameCarried = (g h : NamedGraph) (ats bts : List ℕ) (x y : Heap) → HasOwnNam
 -- two heaps that carry one graph by name show the same graph, wherever its objects stand
 abbrev pub SameWhereverPlaced : Type 0
 SameWhereverPlaced = (g : NamedGraph) (ats bts : List ℕ) (x y : Heap) → HasOwnNames g → IsValid x → IsValid y → Carries g ats x → Carries g bts y → SameGraph x y
+
+-- a text with weak references is read as one text
+abbrev pub TextsReadOne : Type 0
+TextsReadOne = (text a b : List ℕ) → IsWithoutWeak text a → IsWithoutWeak text b → a ≡ b
+
+-- a text without weak references is read as it is
+abbrev pub PlainTextsStay : Type 0
+PlainTextsStay = (text other : List ℕ) → All (λ line. (slots : List Slot) → AreSlotsOf (words_in line) slots → list_any is_weak slots ≡ false) (parts_of text)
+    → IsWithoutWeak text other → other ≡ text

@@ -16,3 +16,10 @@ pub mod RenamedExample
 pub mod Late
 pub mod Reported
 pub mod Short
+pub mod Weak
+pub mod Marking
+pub mod Covered
+pub mod FaultLines
+pub mod Boxes
+pub mod Marked
+pub mod Plain

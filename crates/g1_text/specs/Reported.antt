@@ -7,7 +7,7 @@ use Rattle.g1_text.specs.Reading.{words_in, says_something, parts_of, lines_in}
 use Rattle.g1_text.specs.Forms.{ImageHeading, ImageLine, HaveForms, HasMeaning}
 use Rattle.g1_text.specs.Content.{Content}
 use Rattle.g1_text.specs.Short.{Tells, TellsAll, Closes}
-use Rattle.g1_text.specs.Late.{numbers_in, IsLateLine}
+use Rattle.g1_text.specs.Late.{numbers_in, IsLateLine, IsLateCoveredLine}
 
 -- what these lines of a text say, without blank ones and comments
 abbrev pub said_in : List (List ℕ) → List (List (List ℕ))
@@ -44,11 +44,12 @@ abbrev pub IsReported : List ℕ → Wrong → Type 0
 IsReported text (Line number expected) = IsFirstWrongLine text number ⊎ IsLastLine text number
 IsReported text (Fault f) = f ≡ Memory
 
--- a line is reported once all are read: each word of each line has a meaning, and if these are lines, short or full, that follow each other without `covered`,
--- it is the line of the first late check that fails
+-- a line is reported once all are read: each word of each line has a meaning, and if these are lines, short or full, that follow each other,
+-- it is the line of the first late check that fails, without a line `covered` or with one
 pub record IsReportedLate (text : List ℕ) (number : ℕ) : Type 0 where
   pub forms : HasMeaning ImageHeading ImageLine text
   pub late : (told c : Content) → TellsAll None (lines_in text) (Some told) → Closes told c → c.covered ≡ false → IsLateLine (numbers_in (parts_of text)) c number
+  pub covered : (told c : Content) → TellsAll None (lines_in text) (Some told) → Closes told c → c.covered ≡ true → IsLateCoveredLine (numbers_in (parts_of text)) c number
 
 -- WHAT A REFUSAL REPORTS: as above, or a line once all are read
 abbrev pub Reports : List ℕ → Wrong → Type 0

@@ -43,9 +43,10 @@ pub(crate) struct Placed {
 pub(crate) struct Lines {
     pub(crate) heading: Heading,
     pub(crate) roots: Vec<u64>,
+    /// The line of each card of the log.
     pub(crate) log: Vec<u64>,
-    /// The last line with cards of a region.
-    pub(crate) remembered: Vec<u64>,
+    /// The lines with remembered cards: of which region, and the line's number.
+    pub(crate) remembered: Vec<(u64, u64)>,
     pub(crate) regions: Vec<Told>,
 }
 
@@ -76,7 +77,8 @@ impl Draft {
     ghost use Rattle.g1_words.specs.declared.object.Object.{Object};
     ghost use Rattle.g1_words.specs.declared.region.Region.{Region as RegionOf};
     ghost use Rattle.g1_words.specs.declared.region.Kind.TheVariants.{Continuation};
-    ghost use Rattle.g1_text.specs.Content.{begun, HasSpace, top_behind, beyond_behind};
+    ghost use Rattle.g1_text.specs.Content.{Content, begun, with_region, HasSpace, top_behind, beyond_behind};
+    ghost use Rattle.g1_text.specs.Short.{GoesOn, Closes};
     ghost use Rattle.g1_text.specs.Drafts.{content, numbers, Becomes};
     ghost use Rattle.g1_text.specs.Laid.{AreLaid, IsLaid, IsLaidOut, laid_content};
 
@@ -88,16 +90,15 @@ impl Draft {
         heading: Heading,
     ) -> Result<Draft, Refusal>
         ensures says { MatchResult result (λ d. content d ≡ begun geometry current heading.roots heading.dirty) (λ e. e ≡ Refusal.Memory) }
-        ensures lines { IfOk result (λ d. numbers d ≡ record { headings = heading.line ∷ []; roots = []; regions = []; objects = [] }) }
+        ensures lines { IfOk result (λ d. numbers d ≡ record { headings = heading.line ∷ []; roots = []; log = []; regions = []; remembered = []; objects = [] }) }
     {
         let count = geometry.regions() as usize;
         let remembered = empty_remembered(alloc, count)?;
-        let remembered_lines = vec![in alloc; heading.line; count]?;
         let lines = Lines {
             heading,
             roots: Vec::new(alloc),
             log: Vec::new(alloc),
-            remembered: remembered_lines,
+            remembered: Vec::new(alloc),
             regions: Vec::new(alloc),
         };
         Ok(Draft {
@@ -181,7 +182,7 @@ impl Draft {
 
     /// Adds the regions up to this one, in which the humongous object above them goes on.
     pub(crate) fn continue_run_to(&mut self, region: u64) -> Result<(), Refusal>
-        ensures says { region ≡ length (content self.old).regions → 0 < self.old.beyond → Becomes result (content self.new) (record (content self.old) { regions = (content self.old).regions ++ record { kind = Kind.Continuation; top = min self.old.geometry.w self.old.beyond; pinned = false } ∷ []; beyond = self.old.beyond - min self.old.geometry.w self.old.beyond }) }
+        ensures goes { (on : ℕ) (d : Content) → length (content self.old).regions + on ≡ region → GoesOn (content self.old) on d → 0 < d.beyond → Becomes result (content self.new) (with_region d Kind.Continuation) }
         ensures lines { OnOk result (numbers self.new ≡ numbers self.old) }
     {
         for _ in self.regions.len() as u64..region {
@@ -193,6 +194,7 @@ impl Draft {
     /// Adds all regions in which the humongous object above them goes on.
     pub(crate) fn close_run(&mut self) -> Result<(), AllocError>
         ensures same { self.old.beyond ≡ 0 → OnOk result (content self.new ≡ content self.old) }
+        ensures goes { (on : ℕ) (d : Content) → on ≤ self.old.geometry.n → GoesOn (content self.old) on d → d.beyond ≡ 0 → OnOk result (content self.new ≡ d) }
         ensures laid { (g : GeometryOf) (os : List Object) (regions : List RegionOf) (beyond : ℕ) → IsWithinBounds g.w g.k g.n → AreLaid g regions beyond os → content self.old ≡ laid_content g regions beyond → OnOk result (IsLaid g os (content self.new)) }
         ensures lines { OnOk result (numbers self.new ≡ numbers self.old) }
     {
@@ -207,7 +209,7 @@ impl Draft {
 
     /// Adds regions as `close_run` does. A line needs less of its contract than a layout.
     pub(crate) fn end_run(&mut self) -> Result<(), AllocError>
-        ensures says { self.old.beyond ≡ 0 → OnOk result (content self.new ≡ content self.old) }
+        ensures goes { (on : ℕ) (d : Content) → on ≤ self.old.geometry.n → GoesOn (content self.old) on d → d.beyond ≡ 0 → OnOk result (content self.new ≡ d) }
         ensures lines { OnOk result (numbers self.new ≡ numbers self.old) }
     {
         self.close_run()
@@ -215,7 +217,7 @@ impl Draft {
 
     /// Adds regions as `fill_up_to` does. A line needs less of its contract than a layout.
     pub(crate) fn free_up_to(&mut self, region: u64) -> Result<(), AllocError>
-        ensures says { region ≤ length (content self.old).regions → OnOk result (content self.new ≡ content self.old) }
+        ensures free { length (content self.old).regions ≤ region → OnOk result (content self.new ≡ record (content self.old) { regions = (content self.old).regions ++ replicate (region - length (content self.old).regions) free_region }) }
         ensures lines { OnOk result (numbers self.new ≡ numbers self.old) }
     {
         self.fill_up_to(region)
@@ -223,8 +225,7 @@ impl Draft {
 
     /// Adds the regions that have no line.
     pub(crate) fn close(&mut self) -> Result<(), AllocError>
-        ensures same { self.old.beyond ≡ 0 → self.old.geometry.n ≤ length (content self.old).regions → OnOk result (content self.new ≡ content self.old) }
-        ensures free { self.old.beyond ≡ 0 → length (content self.old).regions ≤ self.old.geometry.n → OnOk result (content self.new ≡ record (content self.old) { regions = (content self.old).regions ++ replicate (self.old.geometry.n - length (content self.old).regions) free_region }) }
+        ensures closes { (d : Content) → Closes (content self.old) d → OnOk result (content self.new ≡ d) }
         ensures laid { (g : GeometryOf) (os : List Object) → IsLaid g os (content self.old) → OnOk result (IsLaidOut g os (content self.new)) }
         ensures lines { OnOk result (numbers self.new ≡ numbers self.old) }
     {
@@ -261,7 +262,7 @@ fn set_top(regions: &mut Vec<Region>, top: u32)
 }
 
 // The address of the first word of a region.
-fn start_of(geometry: Geometry, region: usize) -> u64
+pub(crate) fn start_of(geometry: Geometry, region: usize) -> u64
     ensures value { region < 2 ^ 32 → result ≡ region * geometry.w }
     ensures limits { IsWithinBounds geometry.w geometry.k geometry.n }
 {

@@ -11,7 +11,7 @@ ghost use Rattle.g1_text.specs.Laid.{IsAddress};
 ghost use Rattle.g1_text.specs.Filled.{AreLocated, AreWordsOf, IsNoted, located, object_of};
 ghost use Rattle.g1_text.specs.Refused.{IsLineOrMemory};
 
-use crate::draft::{Draft, Placed};
+use crate::draft::Draft;
 use crate::expected::{Expected, Refusal, Wrong};
 use crate::named::Lines;
 use crate::placing::{Entry, Places};
@@ -135,12 +135,6 @@ fn fill_object<'a>(
     ensures noted { IsNoted found.old.stale → OnOk result (IsNoted found.new.stale) }
 {
     found.names.push((at, entry.name))?;
-    draft.objects.push(Placed {
-        at,
-        slots: u64::from(entry.slots),
-        place: draft.words.len(),
-        line: entry.number,
-    })?;
     cut_words(words, entry.line)?;
     let whole = words.as_slice();
     let (_, content) = whole.split_at(whole.len().min(3));

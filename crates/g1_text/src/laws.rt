@@ -1,4 +1,4 @@
-ghost use Rattle.g1_text.specs.Laws.{OneImage, LinesAddUp, LinesSayImage, TextsSayImage, LinesSayOne, TextsSayOne, TextsSayOneGraph, OneValue, TextsGiveOwnNames, SameCarried, SameWhereverPlaced};
+ghost use Rattle.g1_text.specs.Laws.{OneImage, LinesAddUp, LinesSayImage, TextsSayImage, LinesSayOne, TextsSayOne, TextsSayOneGraph, OneValue, TextsGiveOwnNames, SameCarried, SameWhereverPlaced, TextsReadOne, PlainTextsStay};
 ghost use Rattle.g1_text.specs.Renamed.{SameByName};
 ghost use Rattle.g1_text.specs.RenamedExample.{told, told_otherwise, exchanged};
 
@@ -45,4 +45,10 @@ pub fn same_by_name()
 pub fn same_by_name_example()
     ensures same { SameByName told told_otherwise }
     ensures another { SameByName told exchanged → ⊥ }
+{}
+
+/// A text with weak references is read as one text, and one without them as it is.
+pub fn one_reading()
+    ensures one { TextsReadOne }
+    ensures plain { PlainTextsStay }
 {}

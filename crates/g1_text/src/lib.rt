@@ -6,11 +6,13 @@
 //! 2. `make` reads lines and gives the image's bytes. Each line's numbers are compared with what
 //!    follows from the lines above it, so whatever follows may be left out: addresses, tops, counts,
 //!    free and continuation regions, and, by the word `covered`, remembered sets.
-//!    `make_graph` reads lines of objects by name, and finds a place for each.
+//!    `make_graph` reads lines of objects by name, and finds a place for each. `plain_lines` gives values and places inside
+//!    objects lines of their own, and takes weak references for ordinary ones or null.
 //! 3. What was read is written as bytes, and `decode` judges these: `make` has no rules of its own for
 //!    references and cards. A fault of `decode` is reported for the line that it comes from.
 #![tactic(auto)]
 
+mod boxes;
 mod covering;
 mod draft;
 mod expected;
@@ -20,15 +22,18 @@ mod making;
 mod named;
 mod packing;
 mod placing;
+mod plain;
 mod printing;
 mod reading;
 mod settling;
 mod values;
+mod weak;
 mod words;
 
 pub use expected::{Expected, Wrong};
 pub use making::make;
 pub use named::{Graph, is_graph, make_graph, read_graph};
+pub use plain::plain_lines;
 pub use printing::{
     image_lines, object_line, push_heading, push_log, push_object, push_region_line,
     push_remembered, push_root, region_lines,

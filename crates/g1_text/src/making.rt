@@ -1,4 +1,4 @@
-ghost use Rattle.std.specs.Prelude.{◌≡◌, ℕ, List, None, Some, false, IfOk, IfErr, OnOk, MatchResult};
+ghost use Rattle.std.specs.Prelude.{◌≡◌, ◌<◌, ℕ, List, None, Some, false, true, length, slice_index, IfOk, IfErr, OnOk, MatchResult};
 ghost use Rattle.g1_image.specs.Image.{Image as ImageOf, IsImage, IsImageTextWithin, IsTextIn};
 ghost use Rattle.g1_image.specs.declared.cursor.Version.TheVariants.{Two};
 ghost use Rattle.g1_image.specs.Parts.{CountsFit};
@@ -8,9 +8,11 @@ ghost use Rattle.g1_text.specs.Forms.{ImageHeading, ImageLine, HasMeaning};
 ghost use Rattle.g1_text.specs.Content.{Content, IsClosed, IsContentOf, SaysAll, SaysImage, file_with};
 ghost use Rattle.g1_text.specs.Short.{TellsAll, TellsImage, Closes};
 ghost use Rattle.g1_text.specs.Counted.{IsMadeOf};
-ghost use Rattle.g1_text.specs.Drafts.{content, numbers};
-ghost use Rattle.g1_text.specs.Late.{IsLate};
-ghost use Rattle.g1_text.specs.Refused.{IsLineOrMemory};
+ghost use Rattle.g1_text.specs.Covered.{IsToldBy};
+ghost use Rattle.g1_text.specs.Drafts.{AreAsMany, StandsInHeap, content, numbers};
+ghost use Rattle.g1_text.specs.FaultLines.{IsLineBelow, IsSetLine};
+ghost use Rattle.g1_text.specs.Late.{IsLate, IsLateCovered, NoneRemembered};
+ghost use Rattle.g1_text.specs.Refused.{IsAtLine, IsLineOrMemory};
 ghost use Rattle.g1_text.specs.Reported.{Reports};
 
 use crate::covering::cover;
@@ -37,6 +39,7 @@ pub fn make(alloc: Global, text: &[u8]) -> Result<Vec<u8>, Wrong>
     ensures tells { (i : ImageOf) → TellsImage text.now i → MatchResult result (λ v. IsTextIn Two v.items i) (λ e. e ≡ Wrong.Fault Fault.Memory) }
     ensures only { (lines : List (List (List ℕ))) (c : Content) → HasLines text.now lines → SaysAll None lines (Some c) → IsClosed c → CountsFit (file_with c) → IfOk result (λ v. IsMadeOf c v.items) }
     ensures counted { (lines : List (List (List ℕ))) (told c : Content) → HasLines text.now lines → TellsAll None lines (Some told) → Closes told c → c.covered ≡ false → CountsFit (file_with c) → IfOk result (λ v. IsMadeOf c v.items) }
+    ensures alone { (lines : List (List (List ℕ))) (told c : Content) → HasLines text.now lines → TellsAll None lines (Some told) → Closes told c → c.covered ≡ true → OnOk result (NoneRemembered c) }
     ensures known { OnOk result (HasMeaning ImageHeading ImageLine text.now) }
     ensures reports { IfErr result (Reports text.now) }
 {
@@ -48,12 +51,16 @@ pub fn make(alloc: Global, text: &[u8]) -> Result<Vec<u8>, Wrong>
 fn finish(alloc: Global, draft: &mut Draft) -> Result<Vec<u8>, Wrong>
     ensures image { IfOk result (λ v. IsImageTextWithin Limits.Wide v.items) }
     ensures fault { IfErr result IsLineOrMemory }
-    ensures text { (i : ImageOf) → IsContentOf (content draft.old) i → MatchResult result (λ v. IsTextIn Two v.items i) (λ e. e ≡ Wrong.Fault Fault.Memory) }
+    ensures text { (i : ImageOf) → IsToldBy (content draft.old) i → MatchResult result (λ v. IsTextIn Two v.items i) (λ e. e ≡ Wrong.Fault Fault.Memory) }
     ensures only { draft.old.covered ≡ false → CountsFit (file_with (content draft.old)) → IfOk result (λ v. IsMadeOf (content draft.old) v.items) }
-    ensures late { draft.old.covered ≡ false → IfErr result (IsLate (numbers draft.old) (content draft.old)) }
+    ensures alone { draft.old.covered ≡ true → OnOk result (NoneRemembered (content draft.old)) }
+    ensures covered { draft.old.covered ≡ true → AreAsMany (numbers draft.old) (content draft.old) → StandsInHeap (content draft.old) → IfErr result (IsLateCovered (numbers draft.old) (content draft.old)) }
+    ensures late { draft.old.covered ≡ false → AreAsMany (numbers draft.old) (content draft.old) → StandsInHeap (content draft.old) → IfErr result (IsLate (numbers draft.old) (content draft.old)) }
 {
     if draft.covered {
         cover(draft)?;
+        // The sets stand there now, as if lines had told them.
+        draft.covered = false;
     }
     check_and_pack(alloc, draft)
 }
@@ -63,7 +70,7 @@ fn check_and_pack(alloc: Global, draft: &Draft) -> Result<Vec<u8>, Wrong>
     ensures fault { IfErr result IsLineOrMemory }
     ensures text { (i : ImageOf) → IsContentOf (content draft.now) i → MatchResult result (λ v. IsTextIn Two v.items i) (λ e. e ≡ Wrong.Fault Fault.Memory) }
     ensures only { CountsFit (file_with (content draft.now)) → IfOk result (λ v. IsMadeOf (content draft.now) v.items) }
-    ensures late { IfErr result (IsLate (numbers draft.now) (content draft.now)) }
+    ensures late { AreAsMany (numbers draft.now) (content draft.now) → StandsInHeap (content draft.now) → IfErr result (IsLate (numbers draft.now) (content draft.now)) }
 {
     settle(draft)?;
     let bytes = pack(alloc, draft)?;
@@ -77,17 +84,32 @@ fn check_and_pack(alloc: Global, draft: &Draft) -> Result<Vec<u8>, Wrong>
 fn trace(draft: &Draft, fault: Fault) -> Wrong
     ensures memory { fault ≡ Fault.Memory → result ≡ Wrong.Fault Fault.Memory }
     ensures line { IsLineOrMemory result }
+    ensures dirty { (n : ℕ) → fault ≡ Fault.Card (Stand.Dirty n) → n < length (numbers draft.now).log → IsAtLine result (slice_index (numbers draft.now).log n) }
+    ensures region { (r : ℕ) → fault ≡ Fault.Card (Stand.Region r) → (n : ℕ) × IsSetLine (numbers draft.now) r n × IsAtLine result n }
+    ensures slot { (p : ℕ) → fault ≡ Fault.Reference (Place.Slot p) → (n : ℕ) × IsLineBelow (numbers draft.now) (content draft.now).addresses p n × IsAtLine result n }
+    ensures root { (n : ℕ) → fault ≡ Fault.Reference (Place.Root n) → n < length (numbers draft.now).roots → IsAtLine result (slice_index (numbers draft.now).roots n) }
 {
     let lines = &draft.lines;
     let heading = lines.heading.line;
     match fault {
         Fault::Memory => Wrong::Fault(fault),
-        Fault::Reference(Place::Root(root)) => at(&lines.roots, root, heading, Expected::Root),
+        Fault::Reference(Place::Root(root)) => at(
+            &lines.roots,
+            root as usize,
+            heading,
+            Expected::Root,
+        ),
         Fault::Reference(Place::Slot(slot)) => slot_line(draft, slot),
-        Fault::Card(Stand::Dirty(place)) => at(&lines.log, place, heading, Expected::Dirty),
-        Fault::Card(Stand::Region(region)) => {
-            at(&lines.remembered, region, heading, Expected::Cards)
-        }
+        Fault::Card(Stand::Dirty(place)) => at(
+            &lines.log,
+            place as usize,
+            heading,
+            Expected::Dirty,
+        ),
+        Fault::Card(Stand::Region(region)) => Wrong::Line {
+            number: set_line(draft, u64::from(region)),
+            expected: Expected::Cards,
+        },
         // No lines are known to reach another fault, once they are read and settled.
         _ => Wrong::Line {
             number: heading,
@@ -96,10 +118,25 @@ fn trace(draft: &Draft, fault: Fault) -> Wrong
     }
 }
 
-fn at(lines: &[u64], place: u32, heading: u64, expected: Expected) -> Wrong
-    ensures { IsLineOrMemory result }
+// The last line that tells remembered cards of this region, or the heading if none does.
+pub(crate) fn set_line(draft: &Draft, region: u64) -> u64
+    ensures { IsSetLine (numbers draft.now) region result }
 {
-    let number = match lines.get(place as usize) {
+    let mut number = draft.lines.heading.line;
+    for told in &draft.lines.remembered {
+        if told.0 == region {
+            number = told.1;
+        }
+    }
+    number
+}
+
+// What is expected in the line of this place, or in the heading if there is none.
+fn at(lines: &[u64], place: usize, heading: u64, expected: Expected) -> Wrong
+    ensures line { IsLineOrMemory result }
+    ensures there { place < length lines.now → IsAtLine result (slice_index lines.now place) }
+{
+    let number = match lines.get(place) {
         Some(number) => *number,
         None => heading,
     };
@@ -108,18 +145,16 @@ fn at(lines: &[u64], place: u32, heading: u64, expected: Expected) -> Wrong
 
 // The line of the object that a slot belongs to: the last one below the slot.
 fn slot_line(draft: &Draft, slot: u64) -> Wrong
-    ensures { IsLineOrMemory result }
+    ensures line { IsLineOrMemory result }
+    ensures object { (n : ℕ) × IsLineBelow (numbers draft.now) (content draft.now).addresses slot n × IsAtLine result n }
 {
-    for object in draft.objects.iter().rev() {
+    let mut number = draft.lines.heading.line;
+    let mut expected = Expected::Sizes;
+    for object in &draft.objects {
         if object.at < slot {
-            return Wrong::Line {
-                number: object.line,
-                expected: Expected::Slot(slot - object.at - 1),
-            };
+            number = object.line;
+            expected = Expected::Slot(slot - object.at - 1);
         }
     }
-    Wrong::Line {
-        number: draft.lines.heading.line,
-        expected: Expected::Sizes,
-    }
+    Wrong::Line { number, expected }
 }

@@ -1,14 +1,16 @@
-ghost use Rattle.std.specs.Prelude.{◌≡◌, ◌≢◌, ◌⊎◌, ◌<◌, ◌+◌, ◌^◌, ℕ, Bool, List, [], ◌∷◌, ◌++◌, Option, None, Some, Ok, true, false, IsUtf8, length, map, replicate, decimal, codes, All, IsTrue, IfSome, IfOk, IfErr, OnOk, MatchOption, MatchResult};
+ghost use Rattle.std.specs.Prelude.{◌≡◌, ◌≢◌, ◌⊎◌, ◌≤◌, ◌<◌, ◌+◌, ◌-◌, ◌^◌, ℕ, Bool, List, [], ◌∷◌, ◌++◌, Option, None, Some, Ok, true, false, IsUtf8, length, map, replicate, codes, slice_index_or, All, IsTrue, IfSome, IfOk, IfErr, OnOk, MatchOption, MatchResult};
 ghost use Rattle.g1_words.specs.declared.region.Kind.{Kind as KindOf};
 ghost use Rattle.g1_words.specs.declared.region.Region.{Region as RegionOf};
 ghost use Rattle.g1_words.specs.Geometry.{IsWithinBounds};
 ghost use Rattle.g1_words.specs.Kind.{kind_word};
-ghost use Rattle.g1_text.specs.Lines.{reference_word, current_word, cards_words, pinned_words};
+ghost use Rattle.g1_text.specs.Lines.{pinned_words};
 ghost use Rattle.std.specs.Option.{is_some};
+ghost use Rattle.std.specs.List.{AllZip};
+ghost use Rattle.std.specs.Str.Parse.{digits_value};
 ghost use Rattle.g1_text.specs.Reading.{words_in, says_something, parts_of, lines_in, HasLines};
-ghost use Rattle.g1_text.specs.Forms.{ImageHeading, ImageLine, RootLine, DirtyLine, CoveredLine, RegionLine, RememberedLine, ObjectLine, HasMeaning, Form, Spells, IsBelow, IsDataWord, HasSize, IsReferenceWord, Number, Single, Many, Maybe, Labelled, Current, Cards, Holding, Pinned, ◌▸◌, HasFront, HasFirst, HasValues};
-ghost use Rattle.g1_text.specs.Content.{Content, Counts, Root, Dirty, Remembered, words_of, Takes, MayFollow, with_region, one_found};
-ghost use Rattle.g1_text.specs.Short.{Short, RegionAs, ObjectAs, Fits, IsZeroFrom, IsCurrentPart, labelled_words, counts_words, abridged, short_words, Gives, BeginsShort, Tells, TellsAll, Closes};
+ghost use Rattle.g1_text.specs.Forms.{ImageHeading, ImageLine, RootLine, DirtyLine, CoveredLine, RegionLine, RememberedLine, ObjectLine, HasMeaning, Form, Spells, IsBelow, IsDataWord, HasSize, IsReferenceWord, Denotes, StandsFor, Number, Single, Many, Maybe, Labelled, Current, Cards, Holding, Pinned, ◌▸◌, HasFront, HasFirst, HasValues};
+ghost use Rattle.g1_text.specs.Content.{Content, Counts, Dirty, Remembered, IsCount, Takes, MayFollow, with_region, one_found};
+ghost use Rattle.g1_text.specs.Short.{Short, RootAs, DirtyAs, RegionAs, RememberedAs, ObjectAs, IsZeroFrom, IsShortLine, NamesRegion, TellsNumber, TellsCards, TellsContent, TellsCounts, TellsBehind, TellsSizes, GoesOn, Skips, MaySkip, Gives, BeginsShort, Tells, TellsAll, Closes};
 ghost use Rattle.g1_text.specs.Late.{numbers_in};
 ghost use Rattle.g1_text.specs.Drafts.{content, counts_of, line_of_region, numbers, numbers_read, with_line, Becomes, said, IsTaken, AreTaken};
 ghost use Rattle.g1_text.specs.Refused.{IsLineOrMemory};
@@ -186,7 +188,7 @@ pub(crate) struct HeapSizes {
 // W K N
 pub(crate) fn sizes(words: &mut Words<'_>) -> Result<HeapSizes, Expected>
     ensures digits { IfOk result (λ s. HasFront (Single (Spells (2 ^ 64) s.w) ▸ Single (Spells (2 ^ 64) s.k) ▸ Single (Spells (2 ^ 64) s.n)) words.old words.new) }
-    ensures full { (w k n : ℕ) (rest : List (List ℕ)) → w < 2 ^ 64 → k < 2 ^ 64 → n < 2 ^ 64 → words.old ≡ decimal w ∷ decimal k ∷ decimal n ∷ rest → (result ≡ Ok (record { w = w; k = k; n = n })) × (words.new ≡ rest) }
+    ensures full { (w k n : ℕ) (rest : List (List ℕ)) → HasFront (TellsSizes w k n) words.old rest → (result ≡ Ok (record { w = w; k = k; n = n })) × (words.new ≡ rest) }
 {
     let w = words.number("W")?;
     let k = words.number("K")?;
@@ -197,7 +199,7 @@ pub(crate) fn sizes(words: &mut Words<'_>) -> Result<HeapSizes, Expected>
 // [roots R] [dirty D] [current none|C]
 fn heading(mut words: Words<'_>, line: u64) -> Result<(Heading, Option<u32>), Expected>
     ensures form { OnOk result ((Labelled (codes "roots") ▸ Labelled (codes "dirty") ▸ Current) words.entry) }
-    ensures short { (roots dirty c : Option ℕ) (behind : List (List ℕ)) → Fits roots → Fits dirty → IfSome c (λ r. r < 2 ^ 32) → IsCurrentPart c behind → words.entry ≡ labelled_words (codes "roots") roots ++ (labelled_words (codes "dirty") dirty ++ behind) → result ≡ Ok (record { line = line; roots = roots; dirty = dirty }, c) }
+    ensures short { (roots dirty c : Option ℕ) → TellsBehind roots dirty c words.entry → result ≡ Ok (record { line = line; roots = roots; dirty = dirty }, c) }
     ensures line { IfOk result (λ p. p.0.line ≡ line) }
 {
     let roots = words.take_named("roots")?;
@@ -210,7 +212,7 @@ fn heading(mut words: Words<'_>, line: u64) -> Result<(Heading, Option<u32>), Ex
 
 fn current(words: &mut Words<'_>) -> Result<Option<u32>, Expected>
     ensures form { OnOk result (HasFront Current words.old words.new) }
-    ensures full { (c : Option ℕ) → IfSome c (λ r. r < 2 ^ 32) → words.old ≡ codes "current" ∷ current_word c ∷ [] → (result ≡ Ok c) × (words.new ≡ []) }
+    ensures full { (c : Option ℕ) (word : List ℕ) → NamesRegion c word → words.old ≡ codes "current" ∷ word ∷ [] → (result ≡ Ok c) × (words.new ≡ []) }
     ensures absent { words.old ≡ [] → (result ≡ Ok None) × (words.new ≡ []) }
 {
     if !words.take("current") {
@@ -235,7 +237,7 @@ pub(crate) fn follows(told: Option<u64>, what: &'static str, number: u64) -> Res
 impl Draft {
     // Reads the words behind the first word of a line.
     fn add(&mut self, first: &str, words: Words<'_>, line: u64) -> Result<(), Refusal>
-        ensures says { (l : Short) (c : Content) → first.now ∷ words.entry ≡ short_words l → Gives (content self.old) l c → Becomes result (content self.new) c }
+        ensures says { (l : Short) (c : Content) → IsShortLine l (first.now ∷ words.entry) → Gives (content self.old) l c → Becomes result (content self.new) c }
         ensures form { OnOk result (ImageLine (first.now ∷ words.entry)) }
         ensures lines { OnOk result (numbers self.new ≡ with_line (numbers self.old) line (first.now ∷ words.entry)) }
     {
@@ -253,8 +255,7 @@ impl Draft {
     // root [NUMBER] REFERENCE
     fn add_root(&mut self, words: Words<'_>, line: u64) -> Result<(), Refusal>
         ensures form { OnOk result (RootLine (codes "root" ∷ words.entry)) }
-        ensures full { (m x : ℕ) (c : Content) → codes "root" ∷ words.entry ≡ words_of (Root m x) → Takes (content self.old) (Root m x) c → Becomes result (content self.new) c }
-        ensures bare { (m x : ℕ) (c : Content) → words.entry ≡ reference_word x ∷ [] → Takes (content self.old) (Root m x) c → Becomes result (content self.new) c }
+        ensures short { (m : Option ℕ) (x : ℕ) (c : Content) → IsShortLine (RootAs m x) (codes "root" ∷ words.entry) → Gives (content self.old) (RootAs m x) c → Becomes result (content self.new) c }
         ensures lines { OnOk result (numbers self.new ≡ record (numbers self.old) { roots = (numbers self.old).roots ++ line ∷ [] }) }
     {
         let next = self.roots.len() as u64;
@@ -271,11 +272,12 @@ impl Draft {
     // dirty cards CARD ..
     fn add_dirty(&mut self, words: Words<'_>, line: u64) -> Result<(), Refusal>
         ensures form { OnOk result (DirtyLine (codes "dirty" ∷ words.entry)) }
-        ensures full { (cards : List ℕ) (c : Content) → codes "dirty" ∷ words.entry ≡ words_of (Dirty cards) → Takes (content self.old) (Dirty cards) c → Becomes result (content self.new) c }
-        ensures lines { OnOk result (numbers self.new ≡ numbers self.old) }
+        ensures short { (cards : List ℕ) (c : Content) → IsShortLine (DirtyAs cards) (codes "dirty" ∷ words.entry) → Takes (content self.old) (Dirty cards) c → Becomes result (content self.new) c }
+        ensures lines { OnOk result (numbers self.new ≡ record (numbers self.old) { log = (numbers self.old).log ++ replicate (length words.entry - 1) line }) }
     {
+        let count = (words.len() as u64).saturating_sub(1);
         add_cards(words, &mut self.log)?;
-        self.lines.log.resize(self.log.len(), line)?;
+        add_lines(&mut self.lines.log, count, line)?;
         Ok(())
     }
 
@@ -293,8 +295,8 @@ impl Draft {
     // remembered REGION cards CARD ..
     fn add_remembered(&mut self, mut words: Words<'_>, line: u64) -> Result<(), Refusal>
         ensures form { OnOk result (RememberedLine (codes "remembered" ∷ words.entry)) }
-        ensures full { (r : ℕ) (cards : List ℕ) (c : Content) → codes "remembered" ∷ words.entry ≡ words_of (Remembered r cards) → Takes (content self.old) (Remembered r cards) c → Becomes result (content self.new) c }
-        ensures lines { OnOk result (numbers self.new ≡ numbers self.old) }
+        ensures short { (r : ℕ) (cards : List ℕ) (c : Content) → IsShortLine (RememberedAs r cards) (codes "remembered" ∷ words.entry) → Takes (content self.old) (Remembered r cards) c → Becomes result (content self.new) c }
+        ensures lines { OnOk result (numbers self.new ≡ record (numbers self.old) { remembered = (numbers self.old).remembered ++ (digits_value 10 (slice_index_or words.entry 0 []), line) ∷ [] }) }
     {
         let region = words.number("region")?;
         let last = self.geometry.regions().saturating_sub(1);
@@ -302,14 +304,14 @@ impl Draft {
             return Err(Refusal::Expected(Expected::Region(0, last)));
         };
         add_cards(words, set)?;
-        set_line(&mut self.lines.remembered, region as usize, line);
+        self.lines.remembered.push((region, line))?;
         Ok(())
     }
 
     // region [NUMBER] KIND [top WORDS] [objects COUNT] [cards COUNT] [pinned]
     fn add_region(&mut self, mut words: Words<'_>, line: u64) -> Result<(), Refusal>
         ensures form { OnOk result (RegionLine (codes "region" ∷ words.entry)) }
-        ensures short { (r : Option ℕ) (k : KindOf) (t o m : Option ℕ) (p : Bool) (c : Content) → codes "region" ∷ words.entry ≡ short_words (RegionAs r k t o m p) → Gives (content self.old) (RegionAs r k t o m p) c → Becomes result (content self.new) c }
+        ensures short { (r : Option ℕ) (k : KindOf) (t o m : Option ℕ) (p : Bool) (c : Content) → IsShortLine (RegionAs r k t o m p) (codes "region" ∷ words.entry) → Gives (content self.old) (RegionAs r k t o m p) c → Becomes result (content self.new) c }
         ensures lines { OnOk result (numbers self.new ≡ record (numbers self.old) { regions = (numbers self.old).regions ++ line ∷ [] }) }
     {
         let told = words.take_number();
@@ -324,26 +326,32 @@ impl Draft {
 
     // Adds a region of a kind, and those below it that no line has. Returns its number.
     fn begin_region(&mut self, told: Option<u64>, kind: Kind) -> Result<usize, Refusal>
-        ensures told { told ≡ Some (length (content self.old).regions) → length (content self.old).regions < self.old.geometry.n → MayFollow (content self.old) kind → MatchResult result (λ r. (r ≡ length (content self.old).regions) × (content self.new ≡ with_region (content self.old) kind)) (λ e. e ≡ Refusal.Memory) }
-        ensures next { told ≡ None → length (content self.old).regions < self.old.geometry.n → MayFollow (content self.old) kind → MatchResult result (λ r. (r ≡ length (content self.old).regions) × (content self.new ≡ with_region (content self.old) kind)) (λ e. e ≡ Refusal.Memory) }
+        ensures skips { (on free : ℕ) (e : Content) → MaySkip told kind on free → Skips (content self.old) on free e → IsCount told (length e.regions) → length e.regions < self.old.geometry.n → MayFollow e kind → MatchResult result (λ r. (r ≡ length e.regions) × (content self.new ≡ with_region e kind)) (λ x. x ≡ Refusal.Memory) }
         ensures lines { OnOk result (numbers self.new ≡ numbers self.old) }
     {
-        if !kind.is_continuation() {
-            self.end_run()?;
-        }
-        let region = self.region_number(told)?;
         if kind.is_continuation() {
-            self.continue_run_to(region)?;
-        } else {
-            self.free_up_to(region)?;
-            self.add_empty(kind)?;
+            return self.begin_continuation(told);
         }
+        self.end_run()?;
+        let region = self.region_number(told)?;
+        self.free_up_to(region)?;
+        self.add_empty(kind)?;
         Ok(region as usize)
+    }
+
+    // Adds a region in which the humongous object above it goes on, and those between them.
+    fn begin_continuation(&mut self, told: Option<u64>) -> Result<usize, Refusal>
+        ensures goes { (on : ℕ) (e : Content) → (told ≡ None → on ≡ 0) → GoesOn (content self.old) on e → IsCount told (length e.regions) → length e.regions < self.old.geometry.n → 0 < e.beyond → MatchResult result (λ r. (r ≡ length e.regions) × (content self.new ≡ with_region e Kind.Continuation)) (λ x. x ≡ Refusal.Memory) }
+        ensures lines { OnOk result (numbers self.new ≡ numbers self.old) }
+    {
+        let number = self.region_number(told)?;
+        self.continue_run_to(number)?;
+        Ok(number as usize)
     }
 
     // The number of a region behind the last one: the next one, unless a line has another.
     fn region_number(&self, told: Option<u64>) -> Result<u64, Expected>
-        ensures told { told ≡ Some (length (content self.now).regions) → length (content self.now).regions < self.now.geometry.n → result ≡ Ok (length (content self.now).regions) }
+        ensures told { (r : ℕ) → told ≡ Some r → length (content self.now).regions ≤ r → r < self.now.geometry.n → result ≡ Ok r }
         ensures next { told ≡ None → length (content self.now).regions < self.now.geometry.n → result ≡ Ok (length (content self.now).regions) }
     {
         let next = self.regions.len() as u64;
@@ -355,7 +363,7 @@ impl Draft {
     // object [ADDRESS] SIZE/SLOTS SLOT .. WORD .. [..]
     fn add_object(&mut self, mut words: Words<'_>, line: u64) -> Result<(), Refusal>
         ensures form { OnOk result (ObjectLine (codes "object" ∷ words.entry)) }
-        ensures short { (at : Option ℕ) (slots values : List ℕ) (given : Option ℕ) (c : Content) → codes "object" ∷ words.entry ≡ short_words (ObjectAs at slots values given) → Gives (content self.old) (ObjectAs at slots values given) c → Becomes result (content self.new) c }
+        ensures short { (at : Option ℕ) (slots values : List ℕ) (given : Option ℕ) (c : Content) → IsShortLine (ObjectAs at slots values given) (codes "object" ∷ words.entry) → Gives (content self.old) (ObjectAs at slots values given) c → Becomes result (content self.new) c }
         ensures lines { OnOk result (numbers self.new ≡ record (numbers self.old) { objects = (numbers self.old).objects ++ line ∷ [] }) }
     {
         let told = words.take_number();
@@ -376,10 +384,14 @@ impl Draft {
     }
 }
 
-fn set_line(lines: &mut Vec<u64>, place: usize, line: u64) {
-    if let Some(told) = lines.get_mut(place) {
-        *told = line;
+// A line's number for each card that it has.
+fn add_lines(lines: &mut Vec<u64>, count: u64, line: u64) -> Result<(), AllocError>
+    ensures { OnOk result (lines.new.items ≡ lines.old.items ++ replicate count line) }
+{
+    for _ in 0..count {
+        lines.push(line)?;
     }
+    Ok(())
 }
 
 // Whether the last region is pinned.
@@ -409,7 +421,7 @@ fn add_content(
     count: u64,
 ) -> Result<(), Refusal>
     ensures form { slots + count < 2 ^ 64 → OnOk result (Holding IsReferenceWord slots count words.entry) }
-    ensures short { (refs values : List ℕ) (given : Option ℕ) → slots ≡ length refs → count ≡ length values → slots + count < 2 ^ 64 → All (λ x. x < 2 ^ 64) refs → All (λ x. x < 2 ^ 64) values → IsZeroFrom given (refs ++ values) → words.entry ≡ abridged (map reference_word refs ++ map decimal values) given → MatchResult result (λ _. content.new.items ≡ content.old.items ++ (refs ++ values)) (λ e. e ≡ Refusal.Memory) }
+    ensures short { (refs values : List ℕ) (given : Option ℕ) → slots ≡ length refs → count ≡ length values → slots + count < 2 ^ 64 → IsZeroFrom given (refs ++ values) → TellsContent refs values given words.entry → MatchResult result (λ _. content.new.items ≡ content.old.items ++ (refs ++ values)) (λ e. e ≡ Refusal.Memory) }
 {
     let (given, missing) = given_words(&mut words, slots, count)?;
     let references = slots.min(given);
@@ -443,7 +455,7 @@ pub(crate) fn given_words(
 
 fn add_references(words: &mut Words<'_>, content: &mut Vec<u64>, count: u64) -> Result<(), Refusal>
     ensures form { OnOk result (HasFront (Many IsReferenceWord count) words.old words.new) }
-    ensures full { (xs : List ℕ) (rest : List (List ℕ)) → count ≡ length xs → All (λ x. x < 2 ^ 64) xs → words.old ≡ map reference_word xs ++ rest → MatchResult result (λ _. (words.new ≡ rest) × (content.new.items ≡ content.old.items ++ xs)) (λ e. e ≡ Refusal.Memory) }
+    ensures full { (xs : List ℕ) (front rest : List (List ℕ)) → count ≡ length xs → AllZip Denotes xs front → words.old ≡ front ++ rest → MatchResult result (λ _. (words.new ≡ rest) × (content.new.items ≡ content.old.items ++ xs)) (λ e. e ≡ Refusal.Memory) }
 {
     for _ in 0..count {
         let reference = words.reference()?;
@@ -459,7 +471,7 @@ pub(crate) fn add_data(
 ) -> Result<(), Refusal>
     ensures form { OnOk result (HasFront (Many IsDataWord count) words.old words.new) }
     ensures stands { OnOk result ((xs : List ℕ) × HasValues count xs words.old words.new × (content.new.items ≡ content.old.items ++ xs)) }
-    ensures full { (xs : List ℕ) (rest : List (List ℕ)) → count ≡ length xs → All (λ x. x < 2 ^ 64) xs → words.old ≡ map decimal xs ++ rest → MatchResult result (λ _. (words.new ≡ rest) × (content.new.items ≡ content.old.items ++ xs)) (λ e. e ≡ Refusal.Memory) }
+    ensures full { (xs : List ℕ) (front rest : List (List ℕ)) → count ≡ length xs → AllZip StandsFor xs front → words.old ≡ front ++ rest → MatchResult result (λ _. (words.new ≡ rest) × (content.new.items ≡ content.old.items ++ xs)) (λ e. e ≡ Refusal.Memory) }
 {
     for _ in 0..count {
         let word = words.value()?;
@@ -480,8 +492,7 @@ pub(crate) fn add_zeros(content: &mut Vec<u64>, count: u64) -> Result<(), AllocE
 // [NUMBER] REFERENCE
 fn root(mut words: Words<'_>, next: u64) -> Result<u64, Expected>
     ensures form { OnOk result ((Maybe Number ▸ Single IsReferenceWord) words.entry) }
-    ensures full { (x : ℕ) → x < 2 ^ 64 → words.entry ≡ decimal next ∷ reference_word x ∷ [] → result ≡ Ok x }
-    ensures bare { (x : ℕ) → x < 2 ^ 64 → words.entry ≡ reference_word x ∷ [] → result ≡ Ok x }
+    ensures short { (m : Option ℕ) (x : ℕ) → IsCount m next → (TellsNumber m ▸ Single (Denotes x)) words.entry → result ≡ Ok x }
 {
     if words.len() > 1 {
         let told = words.take_number();
@@ -495,7 +506,7 @@ fn root(mut words: Words<'_>, next: u64) -> Result<u64, Expected>
 // cards CARD ..
 fn add_cards(mut words: Words<'_>, cards: &mut Vec<u32>) -> Result<(), Refusal>
     ensures form { OnOk result (Cards words.entry) }
-    ensures full { (xs : List ℕ) → All (λ x. x < 2 ^ 32) xs → words.entry ≡ cards_words xs → MatchResult result (λ _. cards.new.items ≡ cards.old.items ++ xs) (λ e. e ≡ Refusal.Memory) }
+    ensures short { (xs : List ℕ) → TellsCards xs words.entry → MatchResult result (λ _. cards.new.items ≡ cards.old.items ++ xs) (λ e. e ≡ Refusal.Memory) }
 {
     words.word("cards")?;
     for _ in 0..words.len() {
@@ -508,7 +519,7 @@ fn add_cards(mut words: Words<'_>, cards: &mut Vec<u32>) -> Result<(), Refusal>
 // [top WORDS] [objects COUNT] [cards COUNT]
 fn read_counts(region: usize, words: &mut Words<'_>, line: u64) -> Result<Told, Expected>
     ensures form { OnOk result (HasFront (Labelled (codes "top") ▸ Labelled (codes "objects") ▸ Labelled (codes "cards")) words.old words.new) }
-    ensures short { (top objects cards : Option ℕ) (p : Bool) → Fits top → Fits objects → Fits cards → words.old ≡ counts_words top objects cards (pinned_words p) → (result ≡ Ok (record { line = line; region = region; top = top; objects = objects; cards = cards; found = 0 })) × (words.new ≡ pinned_words p) }
+    ensures short { (top objects cards : Option ℕ) (p : Bool) → HasFront (TellsCounts top objects cards) words.old (pinned_words p) → (result ≡ Ok (record { line = line; region = region; top = top; objects = objects; cards = cards; found = 0 })) × (words.new ≡ pinned_words p) }
     ensures line { IfOk result (λ t. t.line ≡ line) }
 {
     let top = words.take_named("top")?;
@@ -528,7 +539,7 @@ fn read_counts(region: usize, words: &mut Words<'_>, line: u64) -> Result<Told, 
 fn size(words: &mut Words<'_>) -> Result<(u64, u64), Expected>
     ensures within { IfOk result (λ p. p.1 < p.0) }
     ensures form { IfOk result (λ p. HasFirst (HasSize p.0 p.1) words.old words.new) }
-    ensures full { (size slots : ℕ) (rest : List (List ℕ)) → slots < size → size < 2 ^ 64 → words.old ≡ (decimal size ++ 47 ∷ decimal slots) ∷ rest → (result ≡ Ok (size, slots)) × (words.new ≡ rest) }
+    ensures full { (size slots : ℕ) (word : List ℕ) (rest : List (List ℕ)) → slots < size → HasSize size slots word → words.old ≡ word ∷ rest → (result ≡ Ok (size, slots)) × (words.new ≡ rest) }
 {
     let Some(word) = words.next() else {
         return Err(Expected::Size);
@@ -551,7 +562,7 @@ fn is_pinned(kind: Kind, mut words: Words<'_>) -> Result<bool, Expected>
 
 // A region's number is at least the next one, and below the count of regions.
 fn check_number(number: u64, next: u64, regions: u64) -> Result<(), Expected>
-    ensures { number ≡ next → next < regions → result ≡ Ok tt }
+    ensures { next ≤ number → number < regions → result ≡ Ok tt }
 {
     if next >= regions {
         Err(Expected::NoRegion)

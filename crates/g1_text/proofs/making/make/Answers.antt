@@ -1,7 +1,8 @@
 use Rattle.std.proofs.Common.{rules, sym, ◌∙◌, ap, subst}
-use Rattle.std.specs.Prelude.{Some, None, IfOk}
+use Rattle.std.specs.Prelude.{◌≡◌, [], Some, None, IfOk, OnOk, All}
 use Rattle.g1_image.specs.Parts.{CountsFit}
-use Rattle.g1_text.specs.Content.{Content, IsContentOf, file_with}
+use Rattle.g1_text.specs.Content.{Content, file_with}
+use Rattle.g1_text.specs.Covered.{IsToldBy}
 use Rattle.g1_text.specs.Counted.{IsMadeOf}
 use Rattle.g1_text.proofs.Counted.{uncovered}
 use Rattle.g1_text.proofs.FullText.{full_text_says}
@@ -33,16 +34,16 @@ returns-in_err-draft-clause-tells c = λ i s.
 pub returns-clause-whole : goal.returns-clause-whole
 returns-clause-whole c = λ i good e.
     let s = tells_image c.args.text.now i (full_text_says i good c.args.text.now e) in
-    c.finish.ensures.text i (subst (λ x. IsContentOf x i) (sym (c.in_ok-draft.ensures.says s.lines s.told s.content s.has s.tells s.closed)) s.is)
+    c.finish.ensures.text i (subst (λ x. IsToldBy x i) (sym (c.in_ok-draft.ensures.says s.lines s.told s.content s.has s.tells s.closed)) s.is)
 
 pub returns-clause-says : goal.returns-clause-says
 returns-clause-says c = λ i says.
     let s = tells_image c.args.text.now i says in
-    c.finish.ensures.text i (subst (λ x. IsContentOf x i) (sym (c.in_ok-draft.ensures.says s.lines s.told s.content s.has s.tells s.closed)) s.is)
+    c.finish.ensures.text i (subst (λ x. IsToldBy x i) (sym (c.in_ok-draft.ensures.says s.lines s.told s.content s.has s.tells s.closed)) s.is)
 
 pub returns-clause-tells : goal.returns-clause-tells
 returns-clause-tells c = λ i s.
-    c.finish.ensures.text i (subst (λ x. IsContentOf x i) (sym (c.in_ok-draft.ensures.says s.lines s.told s.content s.has s.tells s.closed)) s.is)
+    c.finish.ensures.text i (subst (λ x. IsToldBy x i) (sym (c.in_ok-draft.ensures.says s.lines s.told s.content s.has s.tells s.closed)) s.is)
 
 pub returns-clause-only : goal.returns-clause-only
 returns-clause-only c = λ lines d has says closed fit.
@@ -56,6 +57,12 @@ returns-clause-counted c = λ lines told d has tells closed uncovered_now fit.
     let plain = ap (λ (s : Content). s.covered) same ∙ uncovered_now in
     subst (λ s. IfOk c.finish.result (λ v. IsMadeOf s v.items)) same (c.finish.ensures.only plain (subst (λ s. CountsFit (file_with s)) (sym same) fit))
 
+pub returns-clause-alone : goal.returns-clause-alone
+returns-clause-alone c = λ lines told d has tells closed covered.
+    let same = c.in_ok-draft.ensures.says lines told d has tells closed in
+    let now = ap (λ (s : Content). s.covered) same ∙ covered in
+    subst (λ s. OnOk c.finish.result (All (λ cards. cards ≡ []) s.remembered)) same (c.finish.ensures.alone now)
+
 pub returns-clause-known : goal.returns-clause-known
 returns-clause-known c = on_ok c.finish.result c.in_ok-draft.ensures.known
 
@@ -68,4 +75,4 @@ pub returns-clause-reports : goal.returns-clause-reports
 returns-clause-reports c =
     let draft = c.in_ok-draft.draft in
     all_late c.args.text.now (numbers draft) (content draft) c.in_ok-draft.ensures.known c.in_ok-draft.ensures.lines (λ told after has tells closed. c.in_ok-draft.ensures.says (lines_in c.args.text.now) told after has tells closed)
-    c.finish.result c.finish.ensures.fault c.finish.ensures.late
+    c.finish.result c.finish.ensures.fault c.finish.ensures.late c.finish.ensures.covered

@@ -1,4 +1,4 @@
-use Rattle.std.proofs.Common.{inl, inr, refl, sym, ◌∙◌, arith}
+use Rattle.std.proofs.Common.{inr, sym, ◌∙◌, arith}
 use Rattle.g1_text.proofs.Refusing.{ended}
 use Rattle.g1_text.proofs.reading.last_line.Goals as goal
 

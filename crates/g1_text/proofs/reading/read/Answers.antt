@@ -1,14 +1,12 @@
-use Rattle.std.proofs.Common.{rules, ◌≡◌, ◌≤◌, ◌-◌, ◌⊎◌, ◌++◌, ⊎_elim, inr, false, length, replicate, refl, sym, ◌∙◌, ap, subst}
+use Rattle.std.proofs.Common.{rules, ◌≡◌, inr, false, refl, sym, ◌∙◌, ap, subst}
 use Rattle.std.specs.Option.{is_some}
 use Rattle.std.proofs.lemmas.Bool.{false≢true}
 use Rattle.g1_text.specs.Reading.{parts_of, lines_in}
 use Rattle.g1_text.specs.Late.{numbers_in}
 use Rattle.g1_text.specs.Forms.{ImageHeading, ImageLine}
-use Rattle.g1_words.specs.Heap.{free_region}
-use Rattle.g1_text.specs.Content.{Content}
-use Rattle.g1_text.specs.Drafts.{content, said, numbers_read, AreTaken}
+use Rattle.g1_text.specs.Short.{Closes}
+use Rattle.g1_text.specs.Drafts.{said, numbers_read, AreTaken}
 use Rattle.g1_text.proofs.Turns.{some_one}
-use Rattle.g1_text.proofs.Telling.{none_left, either}
 use Rattle.g1_text.proofs.Formed.{meant_text}
 use Rattle.g1_text.specs.Reported.{IsReported}
 use Rattle.g1_text.proofs.Refusing.{reported, last_line_is}
@@ -20,14 +18,7 @@ returns-in_default-clause-says c = λ lines told after has all closed. absurd (f
 pub returns-clause-says : goal.returns-clause-says
 returns-clause-says c = λ lines told after has all closed.
     let e = some_one (sym (ap said c.in-Some.is) ∙ c.in_ok-parts.ensures.says lines told has all) in
-    let none = ap (λ s. s.beyond) e ∙ closed.0 in
-    let n = told.geometry.n in
-    let by : (length told.regions ≤ n) ⊎ (n ≤ length told.regions) → content c.close.new.self ≡ after =
-    λ which. ⊎_elim
-    (λ few. c.in_ok-close.ensures.free none (subst (λ (s : Content). length s.regions ≤ s.geometry.n) (sym e) few)
-    ∙ ap (λ (s : Content). record s { regions = s.regions ++ replicate (s.geometry.n - length s.regions) free_region }) e ∙ sym closed.1)
-    (λ all_there. c.in_ok-close.ensures.same none (subst (λ (s : Content). s.geometry.n ≤ length s.regions) (sym e) all_there) ∙ e ∙ none_left told all_there ∙ sym closed.1) which in
-    by (either (length told.regions) n)
+    c.in_ok-close.ensures.closes after (subst (λ s. Closes s after) (sym e) closed)
 
 pub returns-clause-known : goal.returns-clause-known
 returns-clause-known c =

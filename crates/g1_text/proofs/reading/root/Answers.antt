@@ -1,4 +1,4 @@
-use Rattle.std.proofs.Common.{refl, sym, subst}
+use Rattle.std.proofs.Common.{sym, subst}
 use Rattle.g1_text.specs.Forms.{Number, Maybe, Single, IsReferenceWord, HasFront}
 use Rattle.g1_text.proofs.Fronts.{then_all, read_all, read_one, maybe_number, no_number}
 use Rattle.g1_text.proofs.reading.root.Goals as goal

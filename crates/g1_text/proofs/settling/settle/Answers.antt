@@ -1,9 +1,9 @@
-use Rattle.std.proofs.Common.{◌≡◌, ◌<◌, ℕ, get_or, length, map, inl, inr, refl, sym, ◌∙◌, ap, subst, arith}
+use Rattle.std.proofs.Common.{◌<◌, ℕ, get_or, length, map, inl, inr, refl, sym, ◌∙◌, ap, subst, arith}
 use Rattle.std.specs.Prelude.{None, All}
 use Rattle.g1_text.specs.declared.draft.Told.{Told}
 use Rattle.g1_text.specs.Content.{CountsAgree}
 use Rattle.g1_text.specs.Drafts.{content, counts_of, line_of_region, numbers}
-use Rattle.g1_text.specs.Late.{IsWrongHeading, IsWrongRegion, IsLateLine, counts_at}
+use Rattle.g1_text.specs.Late.{IsWrongHeading, IsWrongRegion, counts_at}
 use Rattle.g1_text.proofs.Counted.{all_counts}
 use Rattle.g1_text.proofs.Results.{not_both}
 use Rattle.g1_text.proofs.Gathering.{map_at, map_count}

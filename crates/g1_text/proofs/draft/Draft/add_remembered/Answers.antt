@@ -1,12 +1,13 @@
-use Rattle.std.proofs.Common.{◌≡◌, ◌<◌, ◌^◌, ℕ, zero, suc, List, [], ◌∷◌, ◌++◌, length, get_or, drop, set, refl, sym, ◌∙◌, ap, arith, Vec, Global}
+use Rattle.std.proofs.Common.{◌≡◌, ◌<◌, ◌^◌, ℕ, zero, suc, List, [], ◌∷◌, ◌++◌, length, get_or, set, refl, sym, ◌∙◌, ap, subst, arith, Vec, Global}
 use Rattle.std.proofs.lemmas.List.{length-map}
 use Rattle.std.proofs.lemmas.Result.{err_from_is_err_and}
-use Rattle.g1_text.specs.Lines.{cards_words}
+use Rattle.g1_text.specs.Short.{RememberedAs, TellsCards, IsShortLine}
+use Rattle.g1_text.proofs.Spelled.{front_and_rest, behind_word, one_front}
 use Rattle.g1_text.specs.Drafts.{content}
 use Rattle.g1_text.proofs.Results.{ok_one, not_both}
 use Rattle.g1_text.proofs.Gathering.{map_set, map_at}
 use Rattle.std.specs.Prelude.{codes}
-use Rattle.g1_text.specs.Forms.{Number, Cards, IsBelow, ◌▸◌}
+use Rattle.g1_text.specs.Forms.{Number, Cards, Single, Spells, IsBelow, ◌▸◌, HasFirst}
 use Rattle.g1_text.proofs.Fronts.{begins_with, then_all, read_one}
 use Rattle.g1_text.proofs.draft.Draft.add_remembered.Goals as goal
 
@@ -15,31 +16,42 @@ any_default [] n d e lt = absurd (omega (arith, lt))
 any_default (x ∷ xs) zero d e lt = refl
 any_default (x ∷ xs) (suc n) d e lt = any_default xs n d e (omega (arith, lt))
 
-pub returns-in_err-region-clause-full : goal.returns-in_err-region-clause-full
-returns-in_err-region-clause-full c = λ r cards after e takes.
-    let number = c.number.ensures.full r (cards_words cards) takes.1 (ap (drop 1) e) in
+-- the number of the region, and the cards behind it
+told : (r : ℕ) (cards : List ℕ) {words : List (List ℕ)} → IsShortLine (RememberedAs r cards) (codes "remembered" ∷ words)
+    → (middle : List (List ℕ)) × HasFirst (Spells (2 ^ 64) r) words middle × TellsCards cards middle
+told r cards h =
+    let parts = front_and_rest (Single (Spells (2 ^ 64) r)) (TellsCards cards) (behind_word (codes "remembered") (codes "remembered") (Single (Spells (2 ^ 64) r) ▸ TellsCards cards) h) in
+    (parts.0, one_front (Spells (2 ^ 64) r) parts.1, parts.2)
+
+pub returns-in_err-region-clause-short : goal.returns-in_err-region-clause-short
+returns-in_err-region-clause-short c = λ r cards after e takes.
+    let parts = told r cards e in
+    let number = c.number.ensures.full r parts.1.0 parts.0 parts.1.2 parts.1.1 in
     absurd (not_both c.in_err-region.was number.0)
 
-pub returns-in_default-clause-full : goal.returns-in_default-clause-full
-returns-in_default-clause-full c = λ r cards after e takes.
-    let number = c.number.ensures.full r (cards_words cards) takes.1 (ap (drop 1) e) in
+pub returns-in_default-clause-short : goal.returns-in_default-clause-short
+returns-in_default-clause-short c = λ r cards after e takes.
+    let parts = told r cards e in
+    let number = c.number.ensures.full r parts.1.0 parts.0 parts.1.2 parts.1.1 in
     let same = ok_one c.in_ok-region.was number.0 in
     let sets = length-map c.args.self.now.remembered.items (λ (v : Vec ℕ Global). v.items) in
     absurd (omega (arith, same, sets, takes.0, c.in_default.ensures))
 
-pub returns-in_err-add_cards-clause-full : goal.returns-in_err-add_cards-clause-full
-returns-in_err-add_cards-clause-full c = λ r cards after e takes.
-    let number = c.number.ensures.full r (cards_words cards) takes.1 (ap (drop 1) e) in
+pub returns-in_err-add_cards-clause-short : goal.returns-in_err-add_cards-clause-short
+returns-in_err-add_cards-clause-short c = λ r cards after e takes.
+    let parts = told r cards e in
+    let number = c.number.ensures.full r parts.1.0 parts.0 parts.1.2 parts.1.1 in
     let left = err_from_is_err_and c.from_residual-in_err-add_cards.result c.from_residual-in_err-add_cards.ensures.1 in
-    rw (left.1, left.2) (c.in_err-add_cards.ensures.full cards takes.2 number.1)
+    rw (left.1, left.2) (c.in_err-add_cards.ensures.short cards (subst (TellsCards cards) (sym number.1) parts.2))
 
-pub returns-clause-full : goal.returns-clause-full
-returns-clause-full c = λ r cards after e takes.
+pub returns-clause-short : goal.returns-clause-short
+returns-clause-short c = λ r cards after e takes.
     let s = content c.args.self.now in
     let sets = c.args.self.now.remembered.items in
-    let number = c.number.ensures.full r (cards_words cards) takes.1 (ap (drop 1) e) in
+    let parts = told r cards e in
+    let number = c.number.ensures.full r parts.1.0 parts.0 parts.1.2 parts.1.1 in
     let same = ok_one c.in_ok-region.was number.0 in
-    let added = c.in_ok-add_cards.ensures.full cards takes.2 number.1 in
+    let added = c.in_ok-add_cards.ensures.short cards (subst (TellsCards cards) (sym number.1) parts.2) in
     let old = c.in-Some.set.now in
     let seen : old.items ≡ get_or s.remembered c.in_ok-region.region old.items =
     ap (λ (v : Vec ℕ Global). v.items) c.in-Some.ensures.value ∙ sym (map_at (λ (v : Vec ℕ Global). v.items) sets c.in_ok-region.region old) in

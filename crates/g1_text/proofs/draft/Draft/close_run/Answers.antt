@@ -1,13 +1,20 @@
 use Rattle.std.proofs.Common.{◌≡◌, ◌<◌, ◌≤◌, ◌+◌, ◌-◌, ◌*◌, ◌++◌, [], ◌∷◌, false, min, ◌∙◌, ap, arith}
 use Rattle.g1_words.specs.declared.region.Kind.TheVariants.{Continuation}
 use Rattle.g1_text.specs.Content.{Content}
+use Rattle.g1_text.specs.Drafts.{content}
 use Rattle.g1_text.proofs.Laying.{laid_more}
+use Rattle.g1_text.proofs.Skipping.{one_left, ended, goes_from}
 use Rattle.g1_text.proofs.draft.Draft.close_run.Goals as goal
 
 pub loop-preserved : goal.loop-preserved
 loop-preserved c = record {
   lines = c.in_ok-continue_run.ensures.lines ∙ c.loop.invariant.lines;
   same = λ z. let e = ap (λ (x : Content). x.beyond) (c.loop.invariant.same z) in absurd (omega (arith, c.if-self-eq0.false, e, z));
+  goes = λ on d g none.
+      let k = c.loop.invariant.goes on d g none in
+      let some : 0 < c.loop.self.beyond = omega (arith, c.if-self-eq0.false) in
+      let m = one_left (content c.loop.self) d k.0 some k.1 none in
+      (m.0, goes_from d m.0 c.in_ok-continue_run.ensures.says m.2, omega (arith, k.2, m.1));
   laid = λ g os regions beyond bounds laid is.
       let l = c.loop.invariant.laid g os regions beyond bounds laid is in
       let here : c.loop.self.beyond ≡ l.1 = ap (λ (x : Content). x.beyond) l.3 in
@@ -27,3 +34,8 @@ loop-preserved c = record {
         bound,
       );
 }
+
+pub returns-then-self-eq0-clause-goes : goal.returns-then-self-eq0-clause-goes
+returns-then-self-eq0-clause-goes c = λ on d few goes none.
+    let k = c.loop.invariant.goes on d goes none in
+    ended k.0 (omega (arith, c.if-self-eq0.true)) k.1

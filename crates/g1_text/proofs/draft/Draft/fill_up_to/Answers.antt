@@ -1,7 +1,6 @@
 use Rattle.std.proofs.Common.{◌≡◌, ◌≤◌, ◌+◌, ◌-◌, ◌++◌, [], ◌∷◌, length, replicate, append_assoc, ◌∙◌, ap, arith}
 use Rattle.std.proofs.lemmas.List.{replicate_more}
 use Rattle.g1_words.specs.Heap.{free_region}
-use Rattle.g1_words.specs.declared.region.Region.{Region}
 use Rattle.g1_text.specs.Drafts.{content}
 use Rattle.g1_text.proofs.draft.Draft.fill_up_to.Goals as goal
 
