@@ -2,3 +2,4 @@ pub mod Chunks
 pub mod TableText
 pub mod Choosing
 pub mod Counting
+pub mod Summing

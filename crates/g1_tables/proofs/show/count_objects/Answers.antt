@@ -1,5 +1,4 @@
-use Rattle.std.proofs.Common.{◌≡◌, ◌*◌, arith, ap, ◌∙◌}
-use Rattle.g1_words.specs.Heap.{start}
+use Rattle.std.proofs.Common.{◌*◌, arith, ap, ◌∙◌}
 use Rattle.g1_tables.proofs.Counting.{counting_start, counting_end, counting_here, counting_ends, counting_some, counting_step}
 use Rattle.g1_tables.proofs.show.count_objects.Goals as goal
 
