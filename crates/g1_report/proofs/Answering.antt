@@ -2,7 +2,6 @@
 use Rattle.std.proofs.Common.{◌≡◌, ℕ, List, [], ◌++◌, length, refl, sym, ◌∙◌, ap, subst, inl, inr}
 use Rattle.std.proofs.lemmas.List.{length-map}
 use Rattle.g1_same.specs.declared.difference.Difference.{Difference}
-use Rattle.g1_same.specs.declared.difference.Difference.TheVariants.{Roots, At}
 use Rattle.g1_same.specs.declared.renaming.Renaming.{Renaming}
 use Rattle.g1_same.specs.declared.comparing_stale.StaleEnd.{StaleEnd}
 use Rattle.g1_same.specs.Same.{IsRenaming}
@@ -10,12 +9,12 @@ use Rattle.g1_words.specs.Heap.{Heap}
 use Rattle.g1_kept.specs.declared.lost.Lost.{Lost}
 use Rattle.g1_report.specs.declared.reporting.Asked.{Asked}
 use Rattle.g1_report.specs.declared.verdict.Finding.{Finding}
-use Rattle.g1_report.specs.declared.verdict.Finding.TheVariants.{Same, Differ, Stale}
+use Rattle.g1_report.specs.declared.verdict.Finding.TheVariants.{Differ, Stale}
 use Rattle.g1_report.specs.Agreement.{KeepsSet}
 use Rattle.g1_report.specs.Finding.{Loses}
 use Rattle.g1_report.specs.Taken.{Adds}
-use Rattle.g1_report.specs.Wording.{Compared, roots_line, stale_line, lost_line}
-use Rattle.g1_report.specs.Answer.{NamesNothing, IsDifferenceLine, IsSameAnswer, IsAnswer, same_text}
+use Rattle.g1_report.specs.Wording.{Compared, stale_line, lost_line}
+use Rattle.g1_report.specs.Answer.{IsDifferenceLine, IsSameAnswer, IsAnswer, same_text}
 
 -- both lists of a renaming have one length
 pub same_length : (g h : Heap) (olds news : List ℕ) → IsRenaming g h olds news → length olds ≡ length news
@@ -30,22 +29,6 @@ behind_none old new text none e = e ∙ ap (λ xs. xs ++ text) none
 
 pub answer_differ : (s : Compared) (a : Asked) (f : Finding) (d : Difference) (old new : List ℕ) → f ≡ Differ d → old ≡ [] → Adds (IsDifferenceLine s d) old new → IsAnswer s a f 1 new
 answer_differ s a f d old new is none added = subst (λ x. IsAnswer s a x 1 new) (sym is) (refl, alone (IsDifferenceLine s d) old new none added)
-
--- two numbers of roots are told without names
-pub answer_roots : (plain : Type 0) (s : Compared) (a : Asked) (f : Finding) (d : Difference) (old new : List ℕ) → f ≡ Differ d → NamesNothing plain f → old ≡ []
-    → ((m n : ℕ) → d ≡ Roots m n → new ≡ old ++ roots_line m n) → IsAnswer s a f 1 new
-answer_roots plain s a f d old new is names none added = subst (λ x. IsAnswer s a x 1 new) (sym is) (refl, at d (subst (λ x. NamesNothing plain x) is names) added)
-  where
-    at : (d : Difference) → NamesNothing plain (Differ d) → ((m n : ℕ) → d ≡ Roots m n → new ≡ old ++ roots_line m n) → IsDifferenceLine s d new
-    at (Roots m n) names added = behind_none old new (roots_line m n) none (added m n refl)
-    at (At root slots how) names added = absurd names
-
--- less is told plainly
-pub names_nothing : (plain told : Type 0) (f : Finding) → (plain → told) → NamesNothing plain f → NamesNothing told f
-names_nothing plain told (Same r) weaker h = weaker h
-names_nothing plain told (Differ (Roots m n)) weaker h = h
-names_nothing plain told (Differ (At root slots how)) weaker h = absurd h
-names_nothing plain told (Stale e) weaker h = absurd h
 
 pub answer_stale : (s : Compared) (a : Asked) (f : Finding) (e : StaleEnd) (old new : List ℕ) → f ≡ Stale e → old ≡ []
     → new ≡ old ++ stale_line s e.root e.slots.items e.before e.word → IsAnswer s a f 1 new

@@ -1,6 +1,6 @@
 -- Differences that are counted as they are found.
 use Rattle.std.proofs.Common.{◌≡◌, ◌≤◌, ◌<◌, ◌+◌, ◌-◌, ◌^◌, inl, inr, ℕ, Bool, true, false, cond, List, [], ◌∷◌, ◌++◌, map, min, set, slice_index, slice_index_or, refl, sym, ◌∙◌, ap, subst, arith}
-use Rattle.std.specs.Prelude.{◌==◌, ◌⊎◌, Option, Some, IfSome, count_by, All}
+use Rattle.std.specs.Prelude.{◌==◌, ◌⊎◌, Option, Some, IfSome, count_by}
 use Rattle.std.proofs.lemmas.Bool.{cases_lt}
 use Rattle.std.proofs.lemmas.List.Sums.{sum_by_push}
 use Rattle.std.proofs.lemmas.List.Elements.{Contains-get_or}

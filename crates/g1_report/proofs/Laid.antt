@@ -1,5 +1,5 @@
 -- The words of an object are those in memory.
-use Rattle.std.proofs.Common.{◌≡◌, ℕ, zero, suc, ◌+◌, ◌<◌, ◌≤◌, List, length, Contains, refl, sym, ap, subst, ◌∙◌, arith}
+use Rattle.std.proofs.Common.{◌≡◌, ℕ, ◌+◌, ◌<◌, ◌≤◌, List, Contains, sym, ap, subst, ◌∙◌, arith}
 use Rattle.std.specs.Prelude.{slice_range}
 use Rattle.g1_words.specs.Heap.{Heap, objects, object_at}
 use Rattle.g1_words.specs.Header.{header}
@@ -7,7 +7,7 @@ use Rattle.g1_words.specs.Valid.{IsValid}
 use Rattle.g1_words.specs.Words.{AreLaid}
 use Rattle.g1_words.specs.declared.object.Object.{Object}
 use Rattle.g1_words.proofs.LaidObjects.{object_laid}
-use Rattle.g1_report.specs.Program.{WordsOf, words_at}
+use Rattle.g1_report.specs.Program.{words_at}
 
 module _ (h : Heap) (items laid : List ℕ) (n at : ℕ) (o : Object) (same : items ≡ h.words) (is : o ≡ header items at) where
   header_is : o ≡ object_at h at

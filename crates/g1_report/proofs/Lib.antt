@@ -1,4 +1,5 @@
 pub mod Answering
+pub mod Apart
 pub mod Behind
 pub mod Border
 pub mod ByName
@@ -8,13 +9,21 @@ pub mod Found
 pub mod InOrder
 pub mod Joined
 pub mod Laid
+pub mod Locating
 pub mod Lookups
+pub mod Moved
 pub mod Named
+pub mod NamesText
+pub mod NotedLines
 pub mod Opening
 pub mod Passed
+pub mod Programs
 pub mod Rising
 pub mod Runs
 pub mod SameTexts
+pub mod Sayings
+pub mod SaysNothing
+pub mod Sorting
 pub mod Starting
 pub mod Steps
 pub mod Taken

@@ -1,6 +1,6 @@
 -- What is known of the lists of names that were read in order.
-use Rattle.std.proofs.Common.{◌≡◌, ℕ, List, ◌==◌, map, refl, sym, subst, ap, ◌∙◌}
-use Rattle.std.specs.Prelude.{Option, Some, None, option_map, IfSome, bytes_eq, Vec}
+use Rattle.std.proofs.Common.{◌≡◌, ℕ, List, ◌==◌, map, sym, subst}
+use Rattle.std.specs.Prelude.{Option, Some, None, option_map, bytes_eq}
 use Rattle.std.specs.Borrow.{Bor}
 use Rattle.std.specs.Ordering.{nat_cmp}
 use Rattle.std.specs.Cmp.Lexicographic.{slice_cmp}

@@ -1,6 +1,6 @@
 -- One step, one group and one run more.
 use Rattle.std.proofs.Common.{◌≡◌, ℕ, zero, suc, ◌+◌, ◌-◌, ◌*◌, ◌^◌, ◌<◌, ◌≤◌, Bool, true, false, min, List, [], ◌∷◌, ◌++◌, length, get_or, take, drop, set, map, flat_map, refl, sym, ◌∙◌, ap, subst, arith, append_assoc, add-zero}
-use Rattle.std.specs.Prelude.{cond, if◌then◌else◌, sum_by, replicate}
+use Rattle.std.specs.Prelude.{cond, if◌then◌else◌, replicate}
 use Rattle.std.specs.Str.{bytes_eq}
 use Rattle.std.proofs.lemmas.List.{flat_map_more, map_more, append-nil, length-drop, length-map, take-map, drop-map, drop-drop}
 use Rattle.std.proofs.lemmas.List.Sums.{sum_by_push, sum_by-append, sum_by-cons, sum_by-take-le, sum_by-take-drop, get_or-le-sum_by}

@@ -1,13 +1,9 @@
 -- The words that a path leads to, and one step more.
-use Rattle.std.proofs.Common.{◌≡◌, ℕ, zero, suc, ◌+◌, ◌-◌, ◌^◌, ◌<◌, ◌≤◌, inl, inr, List, [], ◌∷◌, ◌++◌, length, get_or, take, drop, Contains, refl, sym, ◌∙◌, ap, subst, add-one, arith}
-use Rattle.std.specs.Prelude.{Option, Some, None, Result, OnOk, slice_index, slice_range}
-use Rattle.g1_words.specs.Heap.{Heap, word, object_at, objects}
-use Rattle.g1_words.specs.Valid.{IsValid, IsReference, HasObject, IsSlotOf}
-use Rattle.g1_words.specs.declared.object.Object.{Object}
+use Rattle.std.proofs.Common.{◌≡◌, ℕ, zero, suc, ◌+◌, ◌-◌, ◌^◌, ◌<◌, ◌≤◌, inl, inr, List, [], ◌∷◌, ◌++◌, length, get_or, take, drop, refl, sym, ◌∙◌, ap, subst, arith}
+use Rattle.std.specs.Prelude.{Option, Result, OnOk, slice_index, slice_range}
+use Rattle.g1_words.specs.Heap.{Heap, object_at}
+use Rattle.g1_words.specs.Valid.{IsValid, IsReference, HasObject}
 use Rattle.g1_words.proofs.Sound.{has_is}
-use Rattle.g1_words.proofs.Members.{In, Contains-from_in}
-use Rattle.g1_words.proofs.Indices.{get_or-In}
-use Rattle.g1_words.proofs.Computed.{has_contains}
 use Rattle.std.proofs.lemmas.Bool.{cases_lt}
 use Rattle.std.proofs.lemmas.List.{get_or-take, get_or-drop, get_or_past, length-take, take_more}
 use Rattle.g1_report.specs.Program.{ProgramNames, WordsOf, object_of}

@@ -3,7 +3,7 @@ use Rattle.std.proofs.Common.{ℕ, List, [], ◌++◌, ◌∙◌, sym, ap, appen
 use Rattle.std.proofs.lemmas.List.{append-nil}
 use Rattle.std.specs.Prelude.{Option, Some, None}
 use Rattle.std.specs.Io.KnownBytes.{Appends}
-use Rattle.g1_report.specs.Taken.{TakesFirst}
+use Rattle.g1_report.specs.Taken.{TakesPart, TakesFirst}
 
 -- what was taken is taken first
 pub taken_first : (old new : Option (List ℕ)) (text : List ℕ) → Appends old new text → TakesFirst old new text
@@ -32,3 +32,15 @@ pub taken_any : (old new : Option (List ℕ)) (text : List ℕ) → Appends old 
 taken_any None new text a = tt
 taken_any (Some xs) None text a = absurd a
 taken_any (Some xs) (Some ys) text a = (text, a)
+
+-- a call that fails may take a beginning
+pub taken_part : (old new : Option (List ℕ)) (text : List ℕ) → TakesPart old new text → TakesFirst old new []
+taken_part None new text a = tt
+taken_part (Some xs) None text a = absurd a
+taken_part (Some xs) (Some ys) text a = (a.0, a.3)
+
+-- what is taken behind a text is taken behind what stood before it
+pub taken_behind : (old new : Option (List ℕ)) (text : List ℕ) → TakesFirst old new text → TakesFirst old new []
+taken_behind None new text f = tt
+taken_behind (Some xs) None text f = absurd f
+taken_behind (Some xs) (Some ys) text f = (text ++ f.0, f.1)

@@ -1,5 +1,5 @@
 -- What a list of lines says once its texts are read.
-use Rattle.std.proofs.Common.{◌≡◌, ℕ, ◌<◌, ◌+◌, ◌≤◌, ◌==◌, Bool, true, false, List, [], ◌∷◌, length, get_or, map, cond, refl, sym, ◌∙◌, ap, subst, arith}
+use Rattle.std.proofs.Common.{◌≡◌, ℕ, ◌<◌, ◌+◌, ◌≤◌, Bool, true, false, List, [], ◌∷◌, length, get_or, map, cond, refl, sym, ◌∙◌, ap, subst, arith}
 use Rattle.std.specs.Prelude.{Option, Some, None, option_map, option_and_then}
 use Rattle.std.specs.Borrow.{Bor}
 use Rattle.std.specs.Map.{lookup}
@@ -30,6 +30,14 @@ module _ {K L X Y : Type 0} (g : K → L) (f : X → Y) where
       let at = get_or-map line l i d (line d) (omega (arith, le, lt)) in
       let on = get_or-map line l j d (line d) lt in
       subst (λ y. n (g (get_or l i d).0) ≤ n y.0) on (subst (λ y. n y.0 ≤ n (get_or (map line l) j (line d)).0) at (rise i j (line d) le small))
+
+  pub rise_read : (n : L → ℕ) (l : List (K × X)) → IsNonDecreasingBy (λ (e : K × X). n (g e.0)) l → IsNonDecreasingBy (λ (e : L × Y). n e.0) (map (λ (e : K × X). (g e.0, f e.1)) l)
+  rise_read n [] rise i j d le lt = absurd (omega (arith, lt))
+  rise_read n (x ∷ xs) rise i j d le lt =
+      let small : j < length (x ∷ xs) = subst (λ m. j < m) (length-map (x ∷ xs) line) lt in
+      let at = get_or-map line (x ∷ xs) i x d (omega (arith, le, small)) in
+      let on = get_or-map line (x ∷ xs) j x d small in
+      subst (λ y. n (get_or (map line (x ∷ xs)) i d).0 ≤ n y.0) (sym on) (subst (λ y. n y.0 ≤ n (g (get_or (x ∷ xs) j x).0)) (sym at) (rise i j x le small))
 
   pub sorted_unread : (cmp : L → L → Ordering) (l : List (K × X)) → IsSortedByKey (λ (e : L × Y). e.0) cmp (map (λ (e : K × X). (g e.0, f e.1)) l)
       → IsSortedByKey (λ (e : K × X). g e.0) cmp l

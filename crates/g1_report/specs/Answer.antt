@@ -1,4 +1,4 @@
--- What is handed on of a verdict on two heaps, without a program's names.
+-- What is handed on of a verdict on two heaps.
 use Rattle.std.specs.Prelude.{◌≡◌, ◌⊎◌, ℕ, Bool, true, false, List, [], ◌∷◌, ◌++◌, Option, Some, None, IfSome, codes, ◌+◌, ⊤}
 use Rattle.std.specs.List.Sorted.{IsNonDecreasingBy}
 use Rattle.g1_same.specs.declared.difference.Difference.{Difference}
@@ -11,9 +11,9 @@ use Rattle.g1_report.specs.declared.sides.Strays.{Strays}
 use Rattle.g1_report.specs.declared.reporting.Asked.{Asked}
 use Rattle.g1_report.specs.declared.verdict.Finding.{Finding}
 use Rattle.g1_report.specs.declared.verdict.Finding.TheVariants.{Same, Differ, Stale}
+use Rattle.g1_report.specs.Program.{names_told, AreInOrder}
 use Rattle.g1_report.specs.Wording.{Called, Compared, place_line, roots_line, stale_line, lost_line, same_line, have_moved, moved_line}
 use Rattle.g1_report.specs.Listed.{lists, HandedOn}
-use Rattle.g1_report.specs.Taken.{TakesFirst}
 use Rattle.g1_report.specs.Agreement.{KeepsSet}
 use Rattle.g1_report.specs.Finding.{IsFinding, Loses}
 
@@ -30,11 +30,13 @@ abbrev pub stale_names : Option Strays → Option Called
 stale_names None = None
 stale_names (Some s) = names_or_none s.names.items
 
--- two sides, and what they call things
+-- two sides, and what a program and they call things
 abbrev pub compared_of : Asked → Compared
 compared_of a = record {
   before = a.before.now.image.heap;
   after = a.after.now.image.heap;
+  names = names_told a.names;
+  names_after = names_told a.names_after;
   objects_before = labels_of a.before.now;
   objects_after = labels_of a.after.now;
   roots = a.before.now.holders.items;
@@ -59,6 +61,12 @@ pub record AreByNumber (s : Compared) : Type 0 where
   pub roots : IsByNumber s.roots
   pub stale : IfSome s.stale IsByNumber
 
+-- the names of a program are in order, if they are given; and so are the names of lines
+pub record AreNamesInOrder (s : Compared) : Type 0 where
+  pub names : IfSome s.names AreInOrder
+  pub names_after : IfSome s.names_after AreInOrder
+  pub in_order : AreByNumber s
+
 -- THE NAMES OF A SIDE ARE IN ORDER: those of its objects by address, those of its roots by number, and those that stale words
 -- stand for by word
 pub record IsInOrder (s : Side) : Type 0 where
@@ -66,10 +74,10 @@ pub record IsInOrder (s : Side) : Type 0 where
   pub roots : IsByNumber s.holders.items
   pub stale : IfSome (stale_names s.stale) IsByNumber
 
--- no names of a program are given; the sides are in order, as each one is that was opened
-pub record IsPlain (a : Asked) : Type 0 where
-  pub names : a.names ≡ None
-  pub names_after : a.names_after ≡ None
+-- ALL NAMES ARE IN ORDER: those of a program, as they are once they were read, and those of the sides, as each side is that was opened
+pub record IsInOrderAll (a : Asked) : Type 0 where
+  pub names : IfSome (compared_of a).names AreInOrder
+  pub names_after : IfSome (compared_of a).names_after AreInOrder
   pub before : IsInOrder a.before.now
   pub after : IsInOrder a.after.now
 
@@ -103,24 +111,6 @@ abbrev pub IsAnswer : Compared → Asked → Finding → ℕ → List ℕ → Ty
 IsAnswer s a (Same r) status text = IsSameAnswer s a r status text
 IsAnswer s a (Differ d) status text = (status ≡ 1) × IsDifferenceLine s d text
 IsAnswer s a (Stale e) status text = (status ≡ 1) × (text ≡ stale_line s e.root e.slots.items e.before e.word)
-
--- nothing is said of what moved, or a program has no names for the second heap: then it goes by addresses or by the names of lines
-abbrev pub TellsPlainly : Asked → Type 0
-TellsPlainly a = (a.moved ≡ false) ⊎ ((a.names_after ≡ None) × IsInOrder a.before.now × IsInOrder a.after.now)
-
--- the text has no names of a program: what is said of one graph, if it is told plainly, or that the numbers of roots differ
-abbrev pub NamesNothing : Type 0 → Finding → Type 0
-NamesNothing plain (Same r) = plain
-NamesNothing plain (Differ (Roots m n)) = ⊤
-NamesNothing plain _ = ⊥
-
--- WHAT IS HANDED ON FIRST: the text of what is found first. Where it has no names of a program, these change nothing
-pub record HandsOnFirst (a : Asked) (status : ℕ) (old new : Option (List ℕ)) : Type 0 where
-  pub finding : Finding
-  pub found : IsFinding a.before.now.image.heap a.after.now.image.heap a.after.now.stale finding
-  pub text : List ℕ
-  pub answer : NamesNothing (TellsPlainly a) finding → IsAnswer (compared_of a) a finding status text
-  pub taken : TakesFirst old new text
 
 -- WHAT IS HANDED ON: the text of what is found first of the two heaps; if all differences are asked for, further lines behind it
 pub record HandsOn (a : Asked) (status : ℕ) (old new : Option (List ℕ)) : Type 0 where

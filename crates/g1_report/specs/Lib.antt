@@ -1,4 +1,6 @@
 pub mod Program
+pub mod Sorting
+pub mod NamesText
 pub mod Agreement
 pub mod Finding
 pub mod Taken
@@ -10,3 +12,5 @@ pub mod Opened
 pub mod Runs
 pub mod Gathered
 pub mod Steps
+pub mod Noted
+pub mod Location

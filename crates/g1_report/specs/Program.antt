@@ -180,6 +180,9 @@ program_of names = record {
   labels_before = option_map (λ labels. text_lines labels.now) names.labels_before;
 }
 
+abbrev pub names_told : Option (Bor Names) → Option ProgramNames
+names_told names = option_map (λ names. program_of names.now) names
+
 abbrev pub kind_told : Option Kind → Option KindOf
 kind_told kind = option_map kind_said kind
 
@@ -188,6 +191,9 @@ word_told word = option_map (λ word. record { name = word.name.now; number = wo
 
 abbrev pub texts_told : Option (Bor (List (Bor (List ℕ)))) → Option (List (List ℕ))
 texts_told words = option_map (λ words. texts words.now) words
+
+abbrev pub labels_told : Option (Bor (List (ℕ × Bor (List ℕ)))) → Option (List (ℕ × List ℕ))
+labels_told labels = option_map (λ labels. text_lines labels.now) labels
 
 abbrev pub text_told : Option (Bor (List ℕ)) → Option (List ℕ)
 text_told text = option_map (λ text. text.now) text

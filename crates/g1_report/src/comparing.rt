@@ -1,22 +1,27 @@
 //! What two heaps show, in one line.
-ghost use Rattle.std.specs.Prelude.{◌≡◌, ◌∷◌, ◌++◌, ◌*◌, ◌^◌, ◌<◌, ℕ, List, Option, Some, None, codes, decimal, length, flat_map, sum_by, string_bytes, IfSome, OnOk};
+ghost use Rattle.std.specs.Prelude.{◌≡◌, ◌∷◌, ◌++◌, ◌*◌, ◌^◌, ◌<◌, ℕ, List, Option, Some, None, option_and_then, codes, decimal, length, flat_map, sum_by, string_bytes, IfSome, OnOk};
+ghost use Rattle.std.specs.List.{join_with_byte};
+ghost use Rattle.std.specs.Str.{byte};
 ghost use Rattle.g1_words.specs.Heap.{Heap as HeapOf, object_at};
+ghost use Rattle.g1_words.specs.Valid.{IsReference};
 ghost use Rattle.g1_same.specs.Ends.{AreValues};
 ghost use Rattle.g1_same.specs.Same.{IsDifference};
 ghost use Rattle.g1_same.specs.Behind.{ShowsAt};
-ghost use Rattle.g1_report.specs.Wording.{told, name_in, name_of, root_text_of, object_text, word_text, path_text, value_text, how_word, met_text, numbers_text, values_text, detail_text, before_text, after_text, place_line, roots_line, same_line};
-ghost use Rattle.g1_report.specs.Answer.{IsByNumber, IsDifferenceLine};
-ghost use Rattle.g1_report.specs.Given.{listed, compared, AreNamedInOrder};
+ghost use Rattle.g1_report.specs.Program.{program_of, names_told, kind_told, word_told, words_text, texts, root_name, kind_of_object, data_name, or_else, AreInOrder};
+ghost use Rattle.g1_report.specs.Steps.{object_told};
+ghost use Rattle.g1_report.specs.Wording.{told, name_in, name_of, name_of_root, root_text_of, object_text, word_text, path_text, kind_before, own_kind, like_kind, kind_after, value_text_of, quoted_text, named_value_text, value_text, word_name, how_word, met_text, numbers_text, values_text, detail_text, before_text, after_text, place_line, roots_line, same_line};
+ghost use Rattle.g1_report.specs.Answer.{IsByNumber, AreNamesInOrder, IsDifferenceLine};
+ghost use Rattle.g1_report.specs.Given.{listed, compared};
 ghost use Rattle.g1_report.specs.Listed.{found_line};
 ghost use Rattle.g1_report.specs.Taken.{Adds};
 
-use crate::names::{Kind, Names};
-use crate::naming::{push_kind, push_named_data, push_named_object, push_named_slots};
-use crate::objects::object_of;
+use crate::names::{Kind, Names, Word};
+use crate::naming::{push_named_slots, push_type, push_word_name};
+use crate::objects::{ObjectWords, object_of};
 use crate::places::value_at;
 use crate::staling::push_stale_line;
 use g1_same::{Difference, Ends, Found, How, Path, Renaming, What, ends_at, ends_of};
-use g1_words::Heap;
+use g1_words::{Heap, laws};
 use std::alloc::{AllocError, Global};
 use std::collections::HashMap;
 
@@ -81,12 +86,13 @@ pub fn push_difference_line(
     difference: &Difference,
 ) -> Result<(), AllocError>
     requires { IsDifference sides.before.now sides.after.now difference.now }
-    ensures line { AreNamedInOrder sides.entry → OnOk result (Adds (IsDifferenceLine (compared sides.entry) difference.now) (string_bytes text.old) (string_bytes text.new)) }
-    ensures roots { (m n : ℕ) → difference.now ≡ Difference.Roots m n → OnOk result (string_bytes text.new ≡ string_bytes text.old ++ roots_line m n) }
+    ensures { AreNamesInOrder (compared sides.entry) → OnOk result (Adds (IsDifferenceLine (compared sides.entry) difference.now) (string_bytes text.old) (string_bytes text.new)) }
 {
     match difference {
         Difference::Roots { before, after } => { push_roots_line(text, *before, *after) }
         Difference::At { root, slots, how } => {
+            laws::valid(sides.before);
+            laws::valid(sides.after);
             let ends = ends_of(sides.before, sides.after, difference);
             push_how_line(alloc, text, sides, (*root, slots.as_slice()), how, &ends)
         }
@@ -108,9 +114,11 @@ pub fn push_found_line(
     found: &Found,
 ) -> Result<(), AllocError>
     requires { ShowsAt sides.before.now sides.after.now (path.now.root ∷ path.now.slots.items) found.now }
-    ensures { AreNamedInOrder sides.entry → OnOk result (string_bytes text.new ≡ string_bytes text.old
+    ensures { AreNamesInOrder (compared sides.entry) → OnOk result (string_bytes text.new ≡ string_bytes text.old
         ++ found_line (compared sides.entry) path.now.root path.now.slots.items found.now.what found.now.place.before found.now.place.after) }
 {
+    laws::valid(sides.before);
+    laws::valid(sides.after);
     let ends = ends_at(sides.before, sides.after, found);
     let path = (path.root, path.slots.as_slice());
     match &found.what {
@@ -128,8 +136,10 @@ fn push_how_line(
     how: &How,
     ends: &Ends,
 ) -> Result<(), AllocError>
-    requires { AreValues sides.before.now sides.after.now how.now ends.now.before ends.now.after ends.now.word_before ends.now.word_after }
-    ensures { AreNamedInOrder sides.entry → OnOk result (string_bytes text.new ≡ string_bytes text.old ++ place_line (compared sides.entry) path.entry.0 path.entry.1.now how.now ends.now.before ends.now.after) }
+    requires values { AreValues sides.before.now sides.after.now how.now ends.now.before ends.now.after ends.now.word_before ends.now.word_after }
+    requires before { IsReference sides.before.now ends.now.before }
+    requires after { IsReference sides.after.now ends.now.after }
+    ensures { AreNamesInOrder (compared sides.entry) → OnOk result (string_bytes text.new ≡ string_bytes text.old ++ place_line (compared sides.entry) path.entry.0 path.entry.1.now how.now ends.now.before ends.now.after) }
 {
     push_differ(text, how)?;
     push_path(alloc, text, sides, path)?;
@@ -168,7 +178,7 @@ pub fn push_path(
     sides: Sides<'_>,
     path: Steps<'_>,
 ) -> Result<(), AllocError>
-    ensures { AreNamedInOrder sides.entry → OnOk result (string_bytes text.new ≡ string_bytes text.old ++ path_text (compared sides.entry).roots path.entry.0 path.entry.1.now) }
+    ensures { AreNamesInOrder (compared sides.entry) → OnOk result (string_bytes text.new ≡ string_bytes text.old ++ path_text (compared sides.entry) path.entry.0 path.entry.1.now) }
 {
     let (root, slots) = path;
     push_root(text, sides, root)?;
@@ -188,7 +198,7 @@ fn push_slots(text: &mut String, slots: &[u64]) -> Result<(), AllocError>
 }
 
 fn push_root(text: &mut String, sides: Sides<'_>, root: u64) -> Result<(), AllocError>
-    ensures { AreNamedInOrder sides.entry → OnOk result (string_bytes text.new ≡ string_bytes text.old ++ root_text_of (name_of (compared sides.entry).roots root) root) }
+    ensures { AreNamesInOrder (compared sides.entry) → OnOk result (string_bytes text.new ≡ string_bytes text.old ++ root_text_of (name_of_root (compared sides.entry).names (compared sides.entry).roots root) root) }
 {
     match root_name(sides, root) {
         Some(name) => text.push_str(name),
@@ -198,66 +208,99 @@ fn push_root(text: &mut String, sides: Sides<'_>, root: u64) -> Result<(), Alloc
 
 // The name of a root: that of the program's names, or else that of its line.
 fn root_name<'a>(sides: Sides<'a>, root: u64) -> Option<&'a str>
-    ensures { AreNamedInOrder sides.entry → told result ≡ name_of (compared sides.entry).roots root }
+    ensures { AreNamesInOrder (compared sides.entry) → told result ≡ name_of_root (compared sides.entry).names (compared sides.entry).roots root }
 {
-    if let Some(names) = sides.names
-        && let Some(name) = names.root(root)
-    {
-        return Some(name);
+    match named_root(sides.names, root) {
+        Some(name) => Some(name),
+        None => value_at(sides.holders, root),
     }
-    value_at(sides.holders, root)
+}
+
+fn named_root<'a>(names: Option<&Names<'a>>, root: u64) -> Option<&'a str>
+    ensures { IfSome (names_told names.entry) AreInOrder → told result ≡ option_and_then (λ p. root_name p root) (names_told names.entry) }
+{
+    match names {
+        Some(names) => names.root(root),
+        None => None,
+    }
 }
 
 /// What a path leads to before.
 pub fn push_before(text: &mut String, sides: Sides<'_>, word: u64) -> Result<(), AllocError>
-    ensures { AreNamedInOrder sides.entry → OnOk result (string_bytes text.new ≡ string_bytes text.old ++ before_text (compared sides.entry) word) }
+    requires { IsReference sides.before.now word }
+    ensures { AreNamesInOrder (compared sides.entry) → OnOk result (string_bytes text.new ≡ string_bytes text.old ++ before_text (compared sides.entry) word) }
 {
     push_word(text, ": ", sides.labels_before, word)?;
-    push_type_before(text, sides, word)?;
+    push_type(text, kind_before(sides, word))?;
     text.push_str(" before")
 }
 
-fn push_type_before(text: &mut String, sides: Sides<'_>, word: u64) -> Result<(), AllocError>
-    ensures { AreNamedInOrder sides.entry → string_bytes text.new ≡ string_bytes text.old }
+// The kind of the object before that a word references, if a program has names.
+fn kind_before<'a>(sides: Sides<'a>, word: u64) -> Option<Kind<'a>>
+    requires { IsReference sides.before.now word }
+    ensures { AreNamesInOrder (compared sides.entry) → kind_told result ≡ kind_before (compared sides.entry) word }
 {
-    let Some(names) = sides.names else {
-        return Ok(());
-    };
-    match object_of(sides.before, word) {
-        Some(object) => push_named_object(text, names, &object),
-        None => Ok(()),
+    match sides.names {
+        Some(names) => kind_in(names, object_of(sides.before, word)),
+        None => None,
+    }
+}
+
+fn kind_in<'a>(names: &Names<'a>, object: Option<ObjectWords<'_>>) -> Option<Kind<'a>>
+    ensures { AreInOrder (program_of names.now) → kind_told result ≡ option_and_then (kind_of_object (program_of names.now)) (object_told object.entry) }
+{
+    match object {
+        Some(object) => names.object(&object),
+        None => None,
     }
 }
 
 fn push_after(text: &mut String, sides: Sides<'_>, word: u64) -> Result<(), AllocError>
-    ensures { AreNamedInOrder sides.entry → OnOk result (string_bytes text.new ≡ string_bytes text.old ++ after_text (compared sides.entry) word) }
+    requires { IsReference sides.after.now word }
+    ensures { AreNamesInOrder (compared sides.entry) → OnOk result (string_bytes text.new ≡ string_bytes text.old ++ after_text (compared sides.entry) word) }
 {
     push_word(text, ", ", sides.labels_after, word)?;
-    push_type_after(text, sides, word)?;
+    push_type(text, kind_after(sides, word))?;
     text.push_str(" after")
 }
 
-fn push_type_after(text: &mut String, sides: Sides<'_>, word: u64) -> Result<(), AllocError>
-    ensures { AreNamedInOrder sides.entry → string_bytes text.new ≡ string_bytes text.old }
+// The kind of the object after that a word references.
+fn kind_after<'a>(sides: Sides<'a>, word: u64) -> Option<Kind<'a>>
+    requires { IsReference sides.after.now word }
+    ensures { AreNamesInOrder (compared sides.entry) → kind_told result ≡ kind_after (compared sides.entry) word }
 {
-    match kind_after(sides, word) {
-        Some(kind) => push_kind(text, kind),
-        None => Ok(()),
+    match object_of(sides.after, word) {
+        Some(object) => kind_of(sides, &object),
+        None => None,
     }
 }
 
-// The kind of the object after that a word references, by its own names, or else by its first data word.
-fn kind_after<'a>(sides: Sides<'a>, word: u64) -> Option<Kind<'a>>
-    ensures { AreNamedInOrder sides.entry → result ≡ None }
+// The kind of an object after, by its own names, or else by its first data word.
+fn kind_of<'a>(sides: Sides<'a>, object: &ObjectWords<'_>) -> Option<Kind<'a>>
+    ensures { AreNamesInOrder (compared sides.entry) → kind_told result ≡ or_else (own_kind (compared sides.entry) (words_text object.now)) (like_kind (compared sides.entry) (words_text object.now)) }
 {
-    let object = object_of(sides.after, word)?;
-    if let Some(names) = sides.names_after
-        && let Some(kind) = names.object(&object)
-    {
-        return Some(kind);
+    match own_kind(sides, object) {
+        Some(kind) => Some(kind),
+        None => like_kind(sides, object),
     }
-    let name = sides.names?.label(*object.data.first()?)?;
-    Some(Kind { name, note: "" })
+}
+
+fn own_kind<'a>(sides: Sides<'a>, object: &ObjectWords<'_>) -> Option<Kind<'a>>
+    ensures { AreNamesInOrder (compared sides.entry) → kind_told result ≡ own_kind (compared sides.entry) (words_text object.now) }
+{
+    match sides.names_after {
+        Some(names) => names.object(object),
+        None => None,
+    }
+}
+
+fn like_kind<'a>(sides: Sides<'a>, object: &ObjectWords<'_>) -> Option<Kind<'a>>
+    ensures { AreNamesInOrder (compared sides.entry) → kind_told result ≡ like_kind (compared sides.entry) (words_text object.now) }
+{
+    match sides.names {
+        Some(names) => names.kind_labelled(object.data),
+        None => None,
+    }
 }
 
 fn push_word(text: &mut String, lead: &str, labels: Labels<'_>, word: u64) -> Result<(), AllocError>
@@ -300,8 +343,9 @@ fn push_detail(
     how: &How,
     ends: &Ends,
 ) -> Result<(), AllocError>
-    requires { AreValues sides.before.now sides.after.now how.now ends.now.before ends.now.after ends.now.word_before ends.now.word_after }
-    ensures { AreNamedInOrder sides.entry → OnOk result (string_bytes text.new ≡ string_bytes text.old ++ detail_text (compared sides.entry) how.now ends.now.before ends.now.after) }
+    requires values { AreValues sides.before.now sides.after.now how.now ends.now.before ends.now.after ends.now.word_before ends.now.word_after }
+    requires before { IsReference sides.before.now ends.now.before }
+    ensures { AreNamesInOrder (compared sides.entry) → OnOk result (string_bytes text.new ≡ string_bytes text.old ++ detail_text (compared sides.entry) how.now ends.now.before ends.now.after) }
 {
     let (old_names, new_names) = (sides.labels_before, sides.labels_after);
     match how {
@@ -357,11 +401,12 @@ fn push_numbers(text: &mut String, what: &str, old: u64, new: u64) -> Result<(),
 }
 
 fn push_data(text: &mut String, sides: Sides<'_>, word: u64, ends: &Ends) -> Result<(), AllocError>
-    ensures { AreNamedInOrder sides.entry → OnOk result (string_bytes text.new ≡ string_bytes text.old
-        ++ values_text (compared sides.entry) word ends.now.word_before ends.now.word_after) }
+    requires { IsReference sides.before.now ends.now.before }
+    ensures { AreNamesInOrder (compared sides.entry) → OnOk result (string_bytes text.new ≡ string_bytes text.old
+        ++ values_text (compared sides.entry) ends.now.before word ends.now.word_before ends.now.word_after) }
 {
     write!(text, "; data word {word}")?;
-    push_word_name(text, sides, word, ends.before)?;
+    push_word_name(text, word_name(sides, ends.before, word))?;
     push_value(
         text,
         sides.names,
@@ -380,20 +425,22 @@ fn push_data(text: &mut String, sides: Sides<'_>, word: u64, ends: &Ends) -> Res
 }
 
 // The name that a program has for a data word of the object that is referenced before.
-fn push_word_name(
-    text: &mut String,
-    sides: Sides<'_>,
-    word: u64,
-    reference: u64,
-) -> Result<(), AllocError>
-    ensures { AreNamedInOrder sides.entry → string_bytes text.new ≡ string_bytes text.old }
+fn word_name<'a>(sides: Sides<'a>, reference: u64, word: u64) -> Option<Word<'a>>
+    requires { IsReference sides.before.now reference }
+    ensures { AreNamesInOrder (compared sides.entry) → word_told result ≡ word_name (compared sides.entry) reference word }
 {
-    let Some(names) = sides.names else {
-        return Ok(());
-    };
-    match object_of(sides.before, reference) {
-        Some(object) => push_named_data(text, names, &object, word),
-        None => Ok(()),
+    match sides.names {
+        Some(names) => data_in(names, object_of(sides.before, reference), word),
+        None => None,
+    }
+}
+
+fn data_in<'a>(names: &Names<'a>, object: Option<ObjectWords<'_>>, word: u64) -> Option<Word<'a>>
+    ensures { AreInOrder (program_of names.now) → word_told result ≡ option_and_then (λ o. data_name (program_of names.now) o word) (object_told object.entry) }
+{
+    match object {
+        Some(object) => names.data(&object, word),
+        None => None,
     }
 }
 
@@ -404,7 +451,7 @@ fn push_value(
     lead: &str,
     word: u64,
 ) -> Result<(), AllocError>
-    ensures { names.entry ≡ None → OnOk result (string_bytes text.new ≡ string_bytes text.old ++ (lead.now ++ value_text texts.now.entries word)) }
+    ensures { IfSome (names_told names.entry) AreInOrder → OnOk result (string_bytes text.new ≡ string_bytes text.old ++ (lead.now ++ value_text (names_told names.entry) texts.now.entries word)) }
 {
     text.push_str(lead)?;
     match names {
@@ -419,7 +466,7 @@ fn push_plain_value(
     texts: &HashMap<u64, &str>,
     word: u64,
 ) -> Result<(), AllocError>
-    ensures { OnOk result (string_bytes text.new ≡ string_bytes text.old ++ value_text texts.now.entries word) }
+    ensures { OnOk result (string_bytes text.new ≡ string_bytes text.old ++ value_text None texts.now.entries word) }
 {
     match texts.get(&word) {
         Some(said) => write!(text, "{said} ({word})"),
@@ -427,26 +474,63 @@ fn push_plain_value(
     }
 }
 
-// The same where a program has names, which count more. A number alone is there in both forms.
+// The same where a program has names, which count more.
 fn push_named_value(
     text: &mut String,
     names: &Names<'_>,
     texts: &HashMap<u64, &str>,
     word: u64,
-) -> Result<(), AllocError> {
-    match (names.text(word), texts.get(&word)) {
-        (Some(said), _) => push_text(text, said, word),
-        (None, Some(said)) => write!(text, "{said} ({word})"),
-        (None, None) => write!(text, "{word} ({word:#x})"),
+) -> Result<(), AllocError>
+    ensures { AreInOrder (program_of names.now) → OnOk result (string_bytes text.new ≡ string_bytes text.old ++ value_text (Some (program_of names.now)) texts.now.entries word) }
+{
+    match names.text(word) {
+        Some(said) => push_text(text, said, word),
+        None => push_unnamed_value(text, texts, word),
+    }
+}
+
+// A data word of which a program says nothing. A number alone is there in both forms.
+fn push_unnamed_value(
+    text: &mut String,
+    texts: &HashMap<u64, &str>,
+    word: u64,
+) -> Result<(), AllocError>
+    ensures { OnOk result (string_bytes text.new ≡ string_bytes text.old ++ named_value_text None (name_of texts.now.entries word) word) }
+{
+    match texts.get(&word) {
+        Some(said) => write!(text, "{said} ({word})"),
+        None => write!(text, "{word} (0x{word:x})"),
     }
 }
 
 // The words of a text, and the number that stands for it.
-fn push_text(text: &mut String, said: &[&str], word: u64) -> Result<(), AllocError> {
-    let mut apart = "\"";
-    for part in said {
-        write!(text, "{apart}{part}")?;
-        apart = " ";
-    }
+fn push_text(text: &mut String, said: &[&str], word: u64) -> Result<(), AllocError>
+    ensures { OnOk result (string_bytes text.new ≡ string_bytes text.old ++ value_text_of (Some (quoted_text (texts said.now))) word) }
+{
+    text.push_str("\"")?;
+    push_apart(text, said)?;
     write!(text, "\" ({word})")
+}
+
+// Words with a space between each two.
+fn push_apart(text: &mut String, words: &[&str]) -> Result<(), AllocError>
+    ensures { OnOk result (string_bytes text.new ≡ string_bytes text.old ++ join_with_byte (byte " ") (texts words.now)) }
+{
+    match words.split_first() {
+        Some((first, rest)) => {
+            text.push_str(first)?;
+            push_behind(text, rest)
+        }
+        None => Ok(()),
+    }
+}
+
+// Words with a space in front of each.
+fn push_behind(text: &mut String, words: &[&str]) -> Result<(), AllocError>
+    ensures { OnOk result (string_bytes text.new ≡ string_bytes text.old ++ flat_map (λ word. codes " " ++ word.now) words.now) }
+{
+    for word in words {
+        write!(text, " {word}")?;
+    }
+    Ok(())
 }

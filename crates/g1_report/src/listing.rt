@@ -5,7 +5,8 @@ ghost use Rattle.g1_same.specs.Underway.{IsUnderway};
 ghost use Rattle.g1_report.specs.Finding.{IsFault};
 ghost use Rattle.g1_report.specs.Taken.{TakesFirst};
 ghost use Rattle.g1_report.specs.Listed.{TakesLines, TakesAll, kind_of, roots_count, count_text, counts_line};
-ghost use Rattle.g1_report.specs.Given.{compared, AreNamedInOrder};
+ghost use Rattle.g1_report.specs.Answer.{AreNamesInOrder};
+ghost use Rattle.g1_report.specs.Given.{compared};
 
 use crate::comparing::{Sides, push_found_line};
 use crate::lines::Lines;
@@ -26,8 +27,9 @@ pub fn list_all<L: Lines>(
     out: &mut L,
 ) -> Result<(), Refused>
     ensures first { OnOk result (TakesFirst (L.taken out.old) (L.taken out.new) first.now) }
-    ensures all { AreNamedInOrder sides.entry → OnOk result (TakesAll (compared sides.entry) (L.taken out.old) (L.taken out.new) first.now) }
+    ensures all { AreNamesInOrder (compared sides.entry) → OnOk result (TakesAll (compared sides.entry) (L.taken out.old) (L.taken out.new) first.now) }
     ensures fault { IfErr result IsFault }
+    ensures grown { TakesFirst (L.taken out.old) (L.taken out.new) [] }
 {
     let mut counts = first_counts(sides.before, sides.after);
     if !out.take(first)? {
@@ -77,8 +79,8 @@ fn take_found<L: Lines>(
     requires before { walk.now.before.now ≡ sides.before.now }
     requires after { walk.now.after.now ≡ sides.after.now }
     requires there { IsThere walk.now.before.now walk.now.after.now walk.now.walk found.now }
-    ensures taken { OnOk result (TakesFirst (L.taken out.old) (L.taken out.new) []) }
-    ensures line { AreNamedInOrder sides.entry → OnOk result (TakesLines (compared sides.entry) (L.taken out.old) (L.taken out.new) []) }
+    ensures taken { TakesFirst (L.taken out.old) (L.taken out.new) [] }
+    ensures line { AreNamesInOrder (compared sides.entry) → OnOk result (TakesLines (compared sides.entry) (L.taken out.old) (L.taken out.new) []) }
     ensures fault { IfErr result IsFault }
 {
     if !listed {

@@ -1,7 +1,9 @@
 //! What is at an address where no object starts.
-ghost use Rattle.std.specs.Prelude.{◌<◌};
+ghost use Rattle.std.specs.Prelude.{◌≡◌, ◌<◌, ℕ, Some, IfOk, IfErr};
+ghost use Rattle.g1_words.specs.Heap.{kind, start, end, region_of};
+ghost use Rattle.g1_report.specs.Location.{location_text, IsLocation, GoesOn};
 
-use g1_words::{Fault, Heap, Kind, Region, objects_in, region_of};
+use g1_words::{Fault, Heap, Kind, Region, laws, objects_in, region_of};
 use std::alloc::Global;
 use std::fmt;
 
@@ -19,6 +21,8 @@ pub enum Location {
 }
 
 impl fmt::Display for Location {
+    ghost output = { λ x. Some (location_text x) };
+
     fn fmt<W: fmt::Write>(&self, f: &mut fmt::Formatter<W>) -> fmt::Result {
         match self {
             Location::Inside(at) => write!(f, "the object at {at} holds that word"),
@@ -34,7 +38,11 @@ impl fmt::Display for Location {
 /// # Errors
 ///
 /// `Fault::Memory` alone.
-pub fn locate(alloc: Global, heap: &Heap, address: u64) -> Result<Location, Fault> {
+pub fn locate(alloc: Global, heap: &Heap, address: u64) -> Result<Location, Fault>
+    ensures location { IfOk result (λ l. IsLocation heap.now address l) }
+    ensures memory { IfErr result (λ e. e ≡ Fault.Memory) }
+{
+    laws::valid(heap);
     let geometry = heap.geometry();
     let number = region_of(&geometry, address);
     if number >= geometry.regions() {
@@ -59,7 +67,9 @@ pub fn locate(alloc: Global, heap: &Heap, address: u64) -> Result<Location, Faul
 // The start of the humongous object that continues in a region.
 fn first_of_run(heap: &Heap, region: u32) -> u64
     requires { region < heap.now.geometry.n }
+    ensures { kind heap.now region ≡ Kind.Continuation → (f : ℕ) × (result ≡ start heap.now f) × GoesOn heap.now f region }
 {
+    laws::valid(heap);
     let mut first = region;
     while first > 0 && heap.region(first).kind.is_continuation() {
         first -= 1;
@@ -69,8 +79,14 @@ fn first_of_run(heap: &Heap, region: u32) -> u64
 
 // The last object of an ordinary region that starts at an address or before it.
 fn holder(alloc: Global, heap: &Heap, region: u32, address: u64) -> Result<u64, Fault>
-    requires { region < heap.now.geometry.n }
+    requires region { region < heap.now.geometry.n }
+    requires ordinary { kind heap.now region ≡ Kind.Ordinary }
+    requires here { region_of heap.now address ≡ region }
+    requires used { address < end heap.now region }
+    ensures location { IfOk result (λ at. IsLocation heap.now address (Location.Inside at)) }
+    ensures memory { IfErr result (λ e. e ≡ Fault.Memory) }
 {
+    laws::valid(heap);
     let starts = objects_in(alloc, heap, region)?;
     let mut last = heap.geometry().start(region);
     for start in starts.as_slice() {

@@ -1,11 +1,15 @@
 //! How many objects moved.
-ghost use Rattle.std.specs.Prelude.{◌≡◌, ◌≤◌, ◌++◌, cond, is_some, length, count_by, string_bytes, OnOk};
-ghost use Rattle.g1_report.specs.Wording.{has_moved, have_moved, is_yes, moved_by, moved_line, names_differ, told};
-ghost use Rattle.g1_report.specs.Given.{compared, AreMovedInOrder};
+ghost use Rattle.std.specs.Prelude.{◌≡◌, ◌≤◌, ◌++◌, cond, is_some, length, count_by, option_and_then, string_bytes, Contains, IfSome, OnOk};
+ghost use Rattle.g1_words.specs.Heap.{objects, object_at};
+ghost use Rattle.g1_same.specs.Same.{IsRenaming};
+ghost use Rattle.g1_report.specs.Program.{AreInOrder, program_of, names_told, kind_told, kind_of_object, words_at};
+ghost use Rattle.g1_report.specs.Wording.{file_way, has_moved, have_moved, identifier, identifier_of, is_elsewhere, is_yes, moved_by, moved_line, names_differ, note_of, told};
+ghost use Rattle.g1_report.specs.Answer.{AreByNumber, AreNamesInOrder};
+ghost use Rattle.g1_report.specs.Given.{compared, listed};
 
-use crate::comparing::{Sides, label};
-use crate::names::Names;
-use crate::objects::object_of;
+use crate::comparing::{Labels, Sides, label};
+use crate::names::{Kind, Names};
+use crate::objects::words_at;
 use g1_same::Renaming;
 use g1_words::Heap;
 use std::alloc::AllocError;
@@ -17,8 +21,8 @@ pub fn push_moved_line(
     sides: Sides<'_>,
     renaming: &Renaming,
 ) -> Result<(), AllocError>
-    requires { length renaming.now.before.items ≡ length renaming.now.after.items }
-    ensures { AreMovedInOrder sides.entry → OnOk result (string_bytes text.new ≡ string_bytes text.old
+    requires { IsRenaming sides.before.now sides.after.now renaming.now.before.items renaming.now.after.items }
+    ensures { AreNamesInOrder (compared sides.entry) → OnOk result (string_bytes text.new ≡ string_bytes text.old
         ++ moved_line (compared sides.entry) (have_moved (compared sides.entry) renaming.now.before.items renaming.now.after.items)) }
 {
     let (moved, all) = count_moved(sides, renaming.before.as_slice(), renaming.after.as_slice());
@@ -28,12 +32,18 @@ pub fn push_moved_line(
 
 // By identifiers if both heaps have a program's names, and else by what the files have.
 fn way_word(sides: Sides<'_>) -> &'static str
-    ensures { AreMovedInOrder sides.entry → result.now ≡ moved_by (compared sides.entry).objects_before }
+    ensures { result.now ≡ moved_by (compared sides.entry).names_after (compared sides.entry).objects_before }
 {
-    if sides.names_after.is_some() {
-        return "identifier";
+    match sides.names_after {
+        Some(_) => "identifier",
+        None => file_way(sides.labels_before),
     }
-    match sides.labels_before {
+}
+
+fn file_way(labels: Labels<'_>) -> &'static str
+    ensures { result.now ≡ file_way (listed labels.entry) }
+{
+    match labels {
         Some(_) => "name",
         None => "address",
     }
@@ -41,10 +51,12 @@ fn way_word(sides: Sides<'_>) -> &'static str
 
 // How many objects moved, and of how many that is known.
 fn count_moved(sides: Sides<'_>, before: &[u64], after: &[u64]) -> (u64, u64)
-    requires { length before.now ≡ length after.now }
-    ensures moved { AreMovedInOrder sides.entry → result.0 ≡ count_by is_yes (have_moved (compared sides.entry) before.now after.now) }
-    ensures all { AreMovedInOrder sides.entry → result.1 ≡ count_by is_some (have_moved (compared sides.entry) before.now after.now) }
+    requires lengths { length before.now ≡ length after.now }
+    requires renaming { IsRenaming sides.before.now sides.after.now before.now after.now }
+    ensures moved { AreNamesInOrder (compared sides.entry) → result.0 ≡ count_by is_yes (have_moved (compared sides.entry) before.now after.now) }
+    ensures all { AreNamesInOrder (compared sides.entry) → result.1 ≡ count_by is_some (have_moved (compared sides.entry) before.now after.now) }
 {
+    g1_words::laws::valid(sides.before);
     let (mut moved, mut all) = (0u64, 0u64);
     for place in 0..before.len() {
         let (one_moved, one) = counts_of(has_moved(sides, before[place], after[place]));
@@ -69,12 +81,23 @@ fn counts_of(moved: Option<bool>) -> (u64, u64)
 
 // Whether an object moved, if that is known.
 fn has_moved(sides: Sides<'_>, before: u64, after: u64) -> Option<bool>
-    ensures { AreMovedInOrder sides.entry → result ≡ has_moved (compared sides.entry).objects_before (compared sides.entry).objects_after before after }
+    requires before { Contains (objects sides.before.now) (object_at sides.before.now before) }
+    requires after { Contains (objects sides.after.now) (object_at sides.after.now after) }
+    ensures { AreNamesInOrder (compared sides.entry) → result ≡ has_moved (compared sides.entry) (compared sides.entry).names_after before after }
 {
-    if sides.names_after.is_some() {
-        let old = note_at(sides.before, sides.names, before);
-        return differ(old, note_at(sides.after, sides.names_after, after));
+    match sides.names_after {
+        Some(names) => differ(
+            identifier(sides.names, sides.before, before),
+            identifier_in(names, sides.after, after),
+        ),
+        None => is_elsewhere(sides, before, after),
     }
+}
+
+// Whether an object has another address, or another name in files that have names.
+fn is_elsewhere(sides: Sides<'_>, before: u64, after: u64) -> Option<bool>
+    ensures { AreByNumber (compared sides.entry) → result ≡ is_elsewhere (compared sides.entry).objects_before (compared sides.entry).objects_after before after }
+{
     if sides.labels_before.is_none() {
         return Some(before != after);
     }
@@ -94,11 +117,40 @@ fn differ(old: Option<&str>, new: Option<&str>) -> Option<bool>
     }
 }
 
-// What a program's names say of the object at an address beside its type.
-fn note_at<'a>(heap: &Heap, names: Option<&Names<'a>>, address: u64) -> Option<&'a str> {
-    let object = object_of(heap, address.saturating_add(1))?;
-    match names?.object(&object)?.note {
-        "" => None,
-        note => Some(note),
+// The identifier of the object at an address: what a program's names say of it beside its type.
+fn identifier<'a>(names: Option<&Names<'a>>, heap: &Heap, address: u64) -> Option<&'a str>
+    requires { Contains (objects heap.now) (object_at heap.now address) }
+    ensures { IfSome (names_told names.entry) AreInOrder → told result ≡ identifier (names_told names.entry) heap.now address }
+{
+    match names {
+        Some(names) => identifier_in(names, heap, address),
+        None => None,
     }
+}
+
+fn identifier_in<'a>(names: &Names<'a>, heap: &Heap, address: u64) -> Option<&'a str>
+    requires { Contains (objects heap.now) (object_at heap.now address) }
+    ensures { AreInOrder (program_of names.now) → told result
+        ≡ option_and_then identifier_of (kind_of_object (program_of names.now) (words_at heap.now address)) }
+{
+    match words_at(heap, address) {
+        Some(object) => identifier_of(names.object(&object)),
+        None => None,
+    }
+}
+
+fn identifier_of<'a>(kind: Option<Kind<'a>>) -> Option<&'a str>
+    ensures { told result ≡ option_and_then identifier_of (kind_told kind.entry) }
+{
+    match kind {
+        Some(kind) => note_of(kind.note),
+        None => None,
+    }
+}
+
+// A note, unless it is empty.
+fn note_of(note: &str) -> Option<&str>
+    ensures { told result ≡ note_of note.now }
+{
+    if note.is_empty() { None } else { Some(note) }
 }

@@ -1,11 +1,13 @@
 //! What a program calls its roots, its objects and the words in them.
-ghost use Rattle.std.specs.Prelude.{◌≡◌, ◌≤◌, ◌<◌, [], length, slice_index_or, option_map, IsTrue, None};
+ghost use Rattle.std.specs.Prelude.{◌≡◌, ◌≤◌, ◌<◌, ◌^◌, [], length, slice_index_or, option_map, IsTrue, None, MatchOption};
+ghost use Rattle.g1_text.specs.Forms.{Spells, IsBelow};
 ghost use Rattle.std.specs.List.{position_or_len};
+ghost use Rattle.g1_report.specs.NamesText.{line_of_no_text};
 ghost use Rattle.g1_report.specs.Program.{texts, text_told, kind_told, word_told, type_alone, border, slot_names, data_names, name_of_word, name_from, last_name, before_brackets, is_data, alone};
 
 use crate::comparing::Labels;
 use crate::objects::ObjectWords;
-use crate::places::{entry_at, entry_named, value_at};
+use crate::places::{entry_at, entry_named, sort_by_name, sort_by_place, value_at};
 use g1_text::data_word;
 use std::alloc::{AllocError, AllocFailed, Global};
 use std::str;
@@ -64,20 +66,32 @@ pub enum WrongNames {
 }
 
 impl From<AllocError> for WrongNames {
+    ghost use Rattle.std.specs.Prelude.{◌≡◌};
+    ghost use Rattle.g1_report.specs.declared.names.WrongNames.TheVariants.{Memory};
+
+    ghost from_gives = { λ _ e. e ≡ Memory };
+
     fn from(_error: AllocError) -> WrongNames {
         WrongNames::Memory
     }
 }
 
 impl<T: Drop> From<AllocFailed<T>> for WrongNames {
+    ghost use Rattle.std.specs.Prelude.{◌≡◌};
+    ghost use Rattle.g1_report.specs.declared.names.WrongNames.TheVariants.{Memory};
+
+    ghost from_gives = { λ _ e. e ≡ Memory };
+
     fn from(_error: AllocFailed<T>) -> WrongNames {
         WrongNames::Memory
     }
 }
 
 impl<'a> Names<'a> {
-    ghost use Rattle.std.specs.Prelude.{◌≡◌, option_and_then};
-    ghost use Rattle.g1_report.specs.Program.{program_of, text_told, kind_told, word_told, texts_told, words_text, AreInOrder, at_name, root_name, label_name, text_of_word, kind_by_line, kind_by_label, kind_of_object, type_words, slot_name, data_name};
+    ghost use Rattle.std.specs.Prelude.{◌≡◌, ◌∷◌, ℕ, List, codes, map, option_and_then, true, MatchOption, IfSome, IsSome, IfOk, IfErr, OnOk};
+    ghost use Rattle.g1_text.specs.Reading.{words_in, parts_of};
+    ghost use Rattle.g1_report.specs.Program.{program_of, text_told, kind_told, kind_said, word_told, texts, texts_told, labels_told, words_text, RiseByNumber, AreInOrder, at_name, root_name, label_name, text_of_word, kind_by_line, kind_by_label, kind_of_object, type_words, slot_name, data_name};
+    ghost use Rattle.g1_report.specs.NamesText.{IsKind, IsSaid, IsTaken, SaysNothing, has_word, IsFirstWrongLine, MatchWrong, ArePutInOrder, IsNamesText, IsWrongNames};
 
     /// The names in these bytes, of a heap whose objects have these names, if they have names.
     ///
@@ -88,7 +102,12 @@ impl<'a> Names<'a> {
         alloc: Global,
         bytes: &'a [u8],
         labels_before: Labels<'a>,
-    ) -> Result<Names<'a>, WrongNames> {
+    ) -> Result<Names<'a>, WrongNames>
+        ensures names { IfOk result (λ n. IsNamesText bytes.now (labels_told labels_before.entry) (program_of n)) }
+        ensures in_order { IfOk result (λ n. IfSome (labels_told labels_before.entry) RiseByNumber → AreInOrder (program_of n)) }
+        ensures wrong { IfErr result (IsWrongNames bytes.now (labels_told labels_before.entry)) }
+        ensures labels { IfOk result (λ n. (program_of n).labels_before ≡ labels_told labels_before.entry) }
+    {
         let Ok(text) = str::from_utf8(bytes) else {
             let number = first_no_text(bytes);
             return Err(WrongNames::Line {
@@ -111,16 +130,21 @@ impl<'a> Names<'a> {
     }
 
     // Puts each list in the order in which it is searched. Lines of one key stay in their order.
-    fn sort(&mut self) -> Result<(), AllocError> {
-        self.roots.sort_by_key(|line| line.0)?;
-        self.types.sort_by_key(|line| line.0)?;
-        self.labels.sort_by_key(|line| line.0)?;
-        self.texts.sort_by_key(|line| line.0)?;
-        self.objects.sort_by_key(|line| line.0)?;
-        self.named.sort_by_key(|line| line.0)
+    fn sort(&mut self) -> Result<(), AllocError>
+        ensures { OnOk result (ArePutInOrder (program_of self.old) (program_of self.new)) }
+    {
+        sort_by_place(&mut self.roots)?;
+        sort_by_name(&mut self.types)?;
+        sort_by_place(&mut self.labels)?;
+        sort_by_place(&mut self.texts)?;
+        sort_by_place(&mut self.objects)?;
+        sort_by_name(&mut self.named)
     }
 
-    fn add_lines(&mut self, alloc: Global, text: &'a str) -> Result<(), WrongNames> {
+    fn add_lines(&mut self, alloc: Global, text: &'a str) -> Result<(), WrongNames>
+        ensures says { OnOk result (IsSaid (program_of self.old).labels_before (map words_in (parts_of text.now)) (program_of self.old) (program_of self.new)) }
+        ensures wrong { IfErr result (λ e. MatchWrong e (IsFirstWrongLine text.now (program_of self.old).labels_before)) }
+    {
         let mut number = 0u64;
         for line in text.split('\n') {
             number = number.saturating_add(1);
@@ -132,11 +156,9 @@ impl<'a> Names<'a> {
     }
 
     // What is expected instead of this line, if it is no line of names.
-    fn add_line(
-        &mut self,
-        alloc: Global,
-        line: &'a str,
-    ) -> Result<Option<&'static str>, AllocError> {
+    fn add_line(&mut self, alloc: Global, line: &'a str) -> Result<Option<&'static str>, AllocError>
+        ensures { IfOk result (λ r. MatchOption r (IsSaid (program_of self.old).labels_before (words_in line.now ∷ []) (program_of self.old) (program_of self.new)) (λ _. (has_word (words_in line.now) ≡ true) × SaysNothing (program_of self.old).labels_before (words_in line.now))) }
+    {
         let words = line
             .split_ascii_whitespace()
             .collect::<Vec<&'a str>>(alloc)?;
@@ -152,7 +174,9 @@ impl<'a> Names<'a> {
         alloc: Global,
         first: &str,
         rest: &[&'a str],
-    ) -> Result<Option<&'static str>, AllocError> {
+    ) -> Result<Option<&'static str>, AllocError>
+        ensures { IfOk result (λ r. MatchOption r (IsTaken (first.now ∷ texts rest.now) (program_of self.old) (program_of self.new)) (λ _. SaysNothing (program_of self.old).labels_before (first.now ∷ texts rest.now))) }
+    {
         match first {
             "root" => self.add_root(rest),
             "label" => self.add_label(rest),
@@ -163,7 +187,9 @@ impl<'a> Names<'a> {
         }
     }
 
-    fn add_root(&mut self, words: &[&'a str]) -> Result<Option<&'static str>, AllocError> {
+    fn add_root(&mut self, words: &[&'a str]) -> Result<Option<&'static str>, AllocError>
+        ensures { IfOk result (λ r. MatchOption r (IsTaken (codes "root" ∷ texts words.now) (program_of self.old) (program_of self.new)) (λ _. SaysNothing (program_of self.old).labels_before (codes "root" ∷ texts words.now))) }
+    {
         let [number, name] = words else {
             return Ok(Some("'root NUMBER NAME'"));
         };
@@ -174,7 +200,9 @@ impl<'a> Names<'a> {
         Ok(None)
     }
 
-    fn add_label(&mut self, words: &[&'a str]) -> Result<Option<&'static str>, AllocError> {
+    fn add_label(&mut self, words: &[&'a str]) -> Result<Option<&'static str>, AllocError>
+        ensures { IfOk result (λ r. MatchOption r (IsTaken (codes "label" ∷ texts words.now) (program_of self.old) (program_of self.new)) (λ _. SaysNothing (program_of self.old).labels_before (codes "label" ∷ texts words.now))) }
+    {
         let [word, name] = words else {
             return Ok(Some("'label WORD TYPE'"));
         };
@@ -189,7 +217,9 @@ impl<'a> Names<'a> {
         &mut self,
         alloc: Global,
         words: &[&'a str],
-    ) -> Result<Option<&'static str>, AllocError> {
+    ) -> Result<Option<&'static str>, AllocError>
+        ensures { IfOk result (λ r. MatchOption r (IsTaken (codes "text" ∷ texts words.now) (program_of self.old) (program_of self.new)) (λ _. SaysNothing (program_of self.old).labels_before (codes "text" ∷ texts words.now))) }
+    {
         match words {
             [word, text @ ..] if !text.is_empty() => {
                 let Some(number) = data_word(word) else {
@@ -206,7 +236,9 @@ impl<'a> Names<'a> {
         &mut self,
         alloc: Global,
         words: &[&'a str],
-    ) -> Result<Option<&'static str>, AllocError> {
+    ) -> Result<Option<&'static str>, AllocError>
+        ensures { IfOk result (λ r. MatchOption r (IsTaken (codes "type" ∷ texts words.now) (program_of self.old) (program_of self.new)) (λ _. SaysNothing (program_of self.old).labels_before (codes "type" ∷ texts words.now))) }
+    {
         match words {
             [name, "slots", rest @ ..] if rest.contains(&"data") => {
                 self.types.push((*name, Vec::from_slice(alloc, rest)?))?;
@@ -216,10 +248,12 @@ impl<'a> Names<'a> {
         }
     }
 
-    fn add_object(&mut self, words: &[&'a str]) -> Result<Option<&'static str>, AllocError> {
+    fn add_object(&mut self, words: &[&'a str]) -> Result<Option<&'static str>, AllocError>
+        ensures { IfOk result (λ r. MatchOption r (IsTaken (codes "object" ∷ texts words.now) (program_of self.old) (program_of self.new)) (λ _. SaysNothing (program_of self.old).labels_before (codes "object" ∷ texts words.now))) }
+    {
         match words {
-            [address, name] => self.add_kind(address, name, ""),
-            [address, name, note] => self.add_kind(address, name, note),
+            [address, name] => self.add_kind(address, Kind { name, note: "" }),
+            [address, name, note] => self.add_kind(address, Kind { name, note }),
             _ => Ok(Some("'object ADDRESS TYPE', and at most one word more")),
         }
     }
@@ -227,16 +261,17 @@ impl<'a> Names<'a> {
     fn add_kind(
         &mut self,
         address: &'a str,
-        name: &'a str,
-        note: &'a str,
-    ) -> Result<Option<&'static str>, AllocError> {
+        kind: Kind<'a>,
+    ) -> Result<Option<&'static str>, AllocError>
+        ensures { (words : List (List ℕ)) → IsKind (kind_said kind.entry) words → IfOk result (λ r. MatchOption r (IsTaken (codes "object" ∷ address.now ∷ words) (program_of self.old) (program_of self.new)) (λ _. SaysNothing (program_of self.old).labels_before (codes "object" ∷ address.now ∷ words))) }
+    {
         if self.labels_before.is_some() {
-            return self.add_named(address, Kind { name, note });
+            return self.add_named(address, kind);
         }
         let Some(address) = whole(address) else {
             return Ok(Some("an address behind 'object'"));
         };
-        self.objects.push((address, Kind { name, note }))?;
+        self.objects.push((address, kind))?;
         Ok(None)
     }
 
@@ -245,7 +280,9 @@ impl<'a> Names<'a> {
         &mut self,
         name: &'a str,
         kind: Kind<'a>,
-    ) -> Result<Option<&'static str>, AllocError> {
+    ) -> Result<Option<&'static str>, AllocError>
+        ensures { IsSome (program_of self.old).labels_before → (words : List (List ℕ)) → IsKind (kind_said kind.entry) words → IfOk result (λ r. MatchOption r (IsTaken (codes "object" ∷ name.now ∷ words) (program_of self.old) (program_of self.new)) (λ _. SaysNothing (program_of self.old).labels_before (codes "object" ∷ name.now ∷ words))) }
+    {
         if name == "-" || name == ".." {
             return Ok(Some("the name of an object behind 'object'"));
         }
@@ -471,7 +508,9 @@ fn before_brackets(name: &str) -> Option<&str>
 }
 
 // A whole number in decimal digits alone. `parse` takes a plus.
-fn whole(text: &str) -> Option<u64> {
+fn whole(text: &str) -> Option<u64>
+    ensures { MatchOption result (IsBelow (2 ^ 64) text.now → ⊥) (λ n. Spells (2 ^ 64) n text.now) }
+{
     if text.starts_with('+') {
         return None;
     }
@@ -479,7 +518,9 @@ fn whole(text: &str) -> Option<u64> {
 }
 
 // The number of the line in which bytes begin that are not UTF-8.
-fn first_no_text(bytes: &[u8]) -> u64 {
+fn first_no_text(bytes: &[u8]) -> u64
+    ensures { result ≡ line_of_no_text bytes.now }
+{
     match bytes.utf8_chunks().next() {
         Some(chunk) => chunk.valid().split('\n').count() as u64,
         None => 1,

@@ -1,6 +1,7 @@
 //! A difference in the names that a program has for it.
 ghost use Rattle.std.specs.Prelude.{◌≡◌, ◌++◌, map, slice_index, string_bytes, OnOk, IfOk};
-ghost use Rattle.g1_report.specs.Program.{program_of, word_told, AreInOrder};
+ghost use Rattle.g1_report.specs.Program.{program_of, kind_told, kind_of_object, word_told, words_text, AreInOrder};
+ghost use Rattle.g1_report.specs.Wording.{kind_text, word_name_text};
 ghost use Rattle.g1_report.specs.Runs.{grouped};
 ghost use Rattle.g1_report.specs.Gathered.{group_of};
 ghost use Rattle.g1_report.specs.Steps.{object_told, word_in, slot_text, step_text, steps_text, named_path_text};
@@ -106,16 +107,19 @@ pub fn push_named_object(
     text: &mut String,
     names: &Names<'_>,
     object: &ObjectWords<'_>,
-) -> Result<(), AllocError> {
-    match names.object(object) {
-        Some(kind) => push_kind(text, kind),
-        None => Ok(()),
-    }
+) -> Result<(), AllocError>
+    ensures { AreInOrder (program_of names.now) → OnOk result (string_bytes text.new ≡ string_bytes text.old ++ kind_text (kind_of_object (program_of names.now) (words_text object.now))) }
+{
+    push_type(text, names.object(object))
 }
 
-/// A type, and what else is said of its object, in parentheses.
-pub fn push_kind(text: &mut String, kind: Kind<'_>) -> Result<(), AllocError> {
-    let (name, note) = (kind.name, kind.note);
+/// A type, and what else is said of its object, in parentheses, if there is one.
+pub fn push_type(text: &mut String, kind: Option<Kind<'_>>) -> Result<(), AllocError>
+    ensures { OnOk result (string_bytes text.new ≡ string_bytes text.old ++ kind_text (kind_told kind.entry)) }
+{
+    let Some(Kind { name, note }) = kind else {
+        return Ok(());
+    };
     if note.is_empty() {
         write!(text, " ({name})")
     } else {
@@ -123,21 +127,15 @@ pub fn push_kind(text: &mut String, kind: Kind<'_>) -> Result<(), AllocError> {
     }
 }
 
-/// The name of a data word, behind its number.
-pub fn push_named_data(
-    text: &mut String,
-    names: &Names<'_>,
-    object: &ObjectWords<'_>,
-    word: u64,
-) -> Result<(), AllocError> {
-    match names.data(object, word) {
-        None => Ok(()),
-        Some(Word { name, number: None }) => write!(text, ", {name},"),
-        Some(
-            Word {
-                name,
-                number: Some(number),
-            },
-        ) => write!(text, ", {name}[{number}],"),
+/// The name of a data word, behind its number, if it has one.
+pub fn push_word_name(text: &mut String, name: Option<Word<'_>>) -> Result<(), AllocError>
+    ensures { OnOk result (string_bytes text.new ≡ string_bytes text.old ++ word_name_text (word_told name.entry)) }
+{
+    let Some(Word { name, number }) = name else {
+        return Ok(());
+    };
+    match number {
+        Some(number) => write!(text, ", {name}[{number}],"),
+        None => write!(text, ", {name},"),
     }
 }

@@ -1,13 +1,13 @@
 //! What is asked of two heaps, and the answer in lines.
-ghost use Rattle.std.specs.Prelude.{◌≡◌, OnOk, IfOk, IfErr, string_bytes};
+ghost use Rattle.std.specs.Prelude.{◌≡◌, [], OnOk, IfOk, IfErr, string_bytes};
 ghost use Rattle.g1_text.specs.Graphs.{NamedGraph};
 ghost use Rattle.g1_report.specs.Finding.{IsFault, IsRefusal, IsVerdict, IsUntouched};
 ghost use Rattle.g1_report.specs.Taken.{TakesFirst};
 ghost use Rattle.g1_report.specs.Wording.{Called, Compared};
-ghost use Rattle.g1_report.specs.Answer.{compared_of, names_or_none, stale_names, IsPlain, HandsOnFirst, HandsOn};
+ghost use Rattle.g1_report.specs.Answer.{compared_of, names_or_none, stale_names, AreNamesInOrder, IsInOrderAll, HandsOn};
 ghost use Rattle.g1_report.specs.Listed.{lists, HandedOn};
 ghost use Rattle.g1_report.specs.Opened.{AsksOfGraphs, IsVerdictByName};
-ghost use Rattle.g1_report.specs.Given.{listed, compared, AreNamedInOrder};
+ghost use Rattle.g1_report.specs.Given.{listed, compared};
 
 use crate::comparing::{Labels, Sides};
 use crate::lines::Lines;
@@ -95,12 +95,12 @@ impl<T: Drop> From<AllocFailed<T>> for Refused {
 /// `Refused` says why there is no verdict. If it is the set or a stale word, `out` has taken nothing. A fault may come
 /// behind some of the lines.
 pub fn report<L: Lines>(alloc: Global, asked: &Asked<'_>, out: &mut L) -> Result<u8, Refused>
-    ensures text { IsPlain asked.now → IfOk result (λ s. HandsOn asked.now s (L.taken out.old) (L.taken out.new)) }
-    ensures first { IfOk result (λ s. HandsOnFirst asked.now s (L.taken out.old) (L.taken out.new)) }
+    ensures text { IsInOrderAll asked.now → IfOk result (λ s. HandsOn asked.now s (L.taken out.old) (L.taken out.new)) }
     ensures status { IfOk result (λ s. IsVerdict asked.now.before.now.image.heap asked.now.after.now.image.heap asked.now.after.now.stale asked.now.set.now asked.now.fill s) }
     ensures by_name { (g h : NamedGraph) → AsksOfGraphs asked.now g h → IfOk result (λ s. IsVerdictByName g h s) }
     ensures refused { IfErr result (λ e. IsRefusal asked.now.before.now.image.heap asked.now.after.now.image.heap asked.now.after.now.stale asked.now.set.now e) }
     ensures untouched { IfErr result (λ e. IsUntouched (L.taken out.old) (L.taken out.new) e) }
+    ensures grown { TakesFirst (L.taken out.old) (L.taken out.new) [] }
 {
     let sides = sides_of(asked);
     let finding = find(alloc, sides.before, sides.after, &asked.after.stale)?;
@@ -119,8 +119,9 @@ fn hand_on<L: Lines>(
     out: &mut L,
 ) -> Result<(), Refused>
     ensures first { OnOk result (TakesFirst (L.taken out.old) (L.taken out.new) (string_bytes verdict.now.text)) }
-    ensures all { AreNamedInOrder sides.entry → OnOk result (HandedOn (compared sides.entry) (lists finding.now asked.now.all) (L.taken out.old) (L.taken out.new) (string_bytes verdict.now.text)) }
+    ensures all { AreNamesInOrder (compared sides.entry) → OnOk result (HandedOn (compared sides.entry) (lists finding.now asked.now.all) (L.taken out.old) (L.taken out.new) (string_bytes verdict.now.text)) }
     ensures fault { IfErr result IsFault }
+    ensures grown { TakesFirst (L.taken out.old) (L.taken out.new) [] }
 {
     match lists(finding, asked.all) {
         None => {
@@ -146,8 +147,6 @@ fn sides_of<'a>(asked: &Asked<'a>) -> Sides<'a>
     ensures before { result.before.now ≡ asked.now.before.now.image.heap }
     ensures after { result.after.now ≡ asked.now.after.now.image.heap }
     ensures compared { compared result ≡ compared_of asked.now }
-    ensures names { result.names ≡ asked.now.names }
-    ensures names_after { result.names_after ≡ asked.now.names_after }
 {
     Sides {
         before: asked.before.image.heap(),

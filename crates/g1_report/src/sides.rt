@@ -24,13 +24,15 @@ pub struct Side<'a> {
 }
 
 impl<'a> Side<'a> {
-    ghost use Rattle.std.specs.Prelude.{◌≡◌};
-    ghost use Rattle.g1_report.specs.Answer.{labels_of};
+    ghost use Rattle.std.specs.Prelude.{◌≡◌, IfSome};
+    ghost use Rattle.g1_report.specs.Program.{labels_told, RiseByNumber};
+    ghost use Rattle.g1_report.specs.Answer.{labels_of, IsInOrder};
     ghost use Rattle.g1_report.specs.Given.{listed};
 
     /// The addresses and the names of the objects, if they have names.
     pub fn labels(&self) -> Labels<'_>
-        ensures { listed result ≡ labels_of self.now }
+        ensures value { listed result ≡ labels_of self.now }
+        ensures in_order { IsInOrder self.now → IfSome (labels_told result) RiseByNumber }
     {
         match &self.labels {
             Some(labels) => Some(labels.as_slice()),

@@ -1,9 +1,10 @@
 //! The line of a stale word.
 ghost use Rattle.std.specs.Prelude.{◌≡◌, ◌++◌, ◌<◌, ◌&&◌, ◌==◌, not, is_some, Some, IfSome, OnOk, string_bytes};
 ghost use Rattle.g1_words.specs.Heap.{region_of};
+ghost use Rattle.g1_words.specs.Valid.{IsReference};
 ghost use Rattle.g1_report.specs.Wording.{still_text, was_name, starts_at, was_text, references, was_end, region_text, behind_text, stale_text, name_in, stale_line};
-ghost use Rattle.g1_report.specs.Answer.{IsByNumber};
-ghost use Rattle.g1_report.specs.Given.{listed, compared, AreNamedInOrder};
+ghost use Rattle.g1_report.specs.Answer.{IsByNumber, AreNamesInOrder};
+ghost use Rattle.g1_report.specs.Given.{listed, compared};
 
 use crate::comparing::{Labels, Sides, Steps, label, push_before, push_path};
 use g1_words::{Heap, laws, object_at, region_of};
@@ -18,7 +19,8 @@ pub fn push_stale_line(
     old: u64,
     word: u64,
 ) -> Result<(), AllocError>
-    ensures { AreNamedInOrder sides.entry → OnOk result (string_bytes text.new ≡ string_bytes text.old ++ stale_line (compared sides.entry) path.entry.0 path.entry.1.now old word) }
+    requires { IsReference sides.before.now old }
+    ensures { AreNamesInOrder (compared sides.entry) → OnOk result (string_bytes text.new ≡ string_bytes text.old ++ stale_line (compared sides.entry) path.entry.0 path.entry.1.now old word) }
 {
     text.push_str("differ stale at ")?;
     push_path(alloc, text, sides, path)?;
@@ -28,7 +30,7 @@ pub fn push_stale_line(
 
 // A stale word: the name that it stands for, or its number and what is there.
 fn push_stale(text: &mut String, sides: Sides<'_>, old: u64, word: u64) -> Result<(), AllocError>
-    ensures { AreNamedInOrder sides.entry → OnOk result (string_bytes text.new ≡ string_bytes text.old
+    ensures { AreNamesInOrder (compared sides.entry) → OnOk result (string_bytes text.new ≡ string_bytes text.old
         ++ stale_text (compared sides.entry) old word (name_in (compared sides.entry).stale word)) }
 {
     match label(sides.stale_names, word) {

@@ -6,8 +6,8 @@ ghost use Rattle.g1_report.specs.Agreement.{used, KeepsSet};
 ghost use Rattle.g1_report.specs.Finding.{IsFinding, IsRefusal, IsVerdict, Loses};
 ghost use Rattle.g1_report.specs.declared.sides.Strays.{Strays};
 ghost use Rattle.g1_report.specs.Wording.{Compared, lost_line};
-ghost use Rattle.g1_report.specs.Answer.{NamesNothing, IsAnswer, IsSameAnswer, same_text, moved_text, kept_text};
-ghost use Rattle.g1_report.specs.Given.{compared, AreNamedInOrder, AreMovedInOrder, MovesPlainly};
+ghost use Rattle.g1_report.specs.Answer.{AreNamesInOrder, IsAnswer, IsSameAnswer, same_text, moved_text, kept_text};
+ghost use Rattle.g1_report.specs.Given.{compared};
 
 use crate::comparing::{Sides, push_difference_line, push_same_line};
 use crate::listing::words_of;
@@ -104,8 +104,7 @@ pub fn verdict_on(
     finding: &Finding,
 ) -> Result<Verdict, Refused>
     requires { IsFinding sides.before.now sides.after.now asked.now.after.now.stale finding.now }
-    ensures unnamed { NamesNothing (MovesPlainly asked.now.moved sides.entry) finding.now → IfOk result (λ v. IsAnswer (compared sides.entry) asked.now finding.now v.status (string_bytes v.text)) }
-    ensures text { AreNamedInOrder sides.entry → IfOk result (λ v. IsAnswer (compared sides.entry) asked.now finding.now v.status (string_bytes v.text)) }
+    ensures text { AreNamesInOrder (compared sides.entry) → IfOk result (λ v. IsAnswer (compared sides.entry) asked.now finding.now v.status (string_bytes v.text)) }
     ensures verdict { IfOk result (λ v. IsVerdict sides.entry.before.now sides.entry.after.now asked.now.after.now.stale asked.now.set.now asked.now.fill v.status) }
     ensures refused { IfErr result (λ e. IsRefusal sides.entry.before.now sides.entry.after.now asked.now.after.now.stale asked.now.set.now e) }
 {
@@ -119,6 +118,7 @@ pub fn verdict_on(
         Finding::Stale(end) => {
             let mut text = String::new(alloc);
             let path = (end.root, end.slots.as_slice());
+            g1_words::laws::valid(sides.before);
             push_stale_line(alloc, &mut text, sides, path, end.before, end.word)?;
             Ok(Verdict { text, status: 1 })
         }
@@ -134,8 +134,7 @@ fn verdict_on_same(
 ) -> Result<Verdict, Refused>
     requires graph { IsRenaming sides.before.now sides.after.now renaming.now.before.items renaming.now.after.items }
     requires none { asked.now.after.now.stale ≡ None }
-    ensures unnamed { asked.now.moved ≡ false → IfOk result (λ v. IsSameAnswer (compared sides.entry) asked.now renaming.now v.status (string_bytes v.text)) }
-    ensures text { AreMovedInOrder sides.entry → IfOk result (λ v. IsSameAnswer (compared sides.entry) asked.now renaming.now v.status (string_bytes v.text)) }
+    ensures text { AreNamesInOrder (compared sides.entry) → IfOk result (λ v. IsSameAnswer (compared sides.entry) asked.now renaming.now v.status (string_bytes v.text)) }
     ensures verdict { IfOk result (λ v. IsVerdict sides.entry.before.now sides.entry.after.now asked.now.after.now.stale asked.now.set.now asked.now.fill v.status) }
     ensures refused { IfErr result (λ e. IsRefusal sides.entry.before.now sides.entry.after.now asked.now.after.now.stale asked.now.set.now e) }
 {
@@ -156,8 +155,7 @@ fn push_same_text(
     renaming: &Renaming,
 ) -> Result<(), AllocError>
     requires { IsRenaming sides.before.now sides.after.now renaming.now.before.items renaming.now.after.items }
-    ensures unnamed { asked.now.moved ≡ false → OnOk result (string_bytes text.new ≡ string_bytes text.old ++ same_text (compared sides.entry) asked.now renaming.now) }
-    ensures text { AreMovedInOrder sides.entry → OnOk result (string_bytes text.new ≡ string_bytes text.old ++ same_text (compared sides.entry) asked.now renaming.now) }
+    ensures { AreNamesInOrder (compared sides.entry) → OnOk result (string_bytes text.new ≡ string_bytes text.old ++ same_text (compared sides.entry) asked.now renaming.now) }
 {
     push_same_line(text, sides.before, renaming)?;
     push_moved(text, asked.moved, sides, renaming)?;
@@ -171,9 +169,8 @@ fn push_moved(
     sides: Sides<'_>,
     renaming: &Renaming,
 ) -> Result<(), AllocError>
-    requires { length renaming.now.before.items ≡ length renaming.now.after.items }
-    ensures unnamed { moved ≡ false → OnOk result (string_bytes text.new ≡ string_bytes text.old ++ moved_text moved (compared sides.entry) renaming.now.before.items renaming.now.after.items) }
-    ensures text { AreMovedInOrder sides.entry → OnOk result (string_bytes text.new ≡ string_bytes text.old ++ moved_text moved (compared sides.entry) renaming.now.before.items renaming.now.after.items) }
+    requires { IsRenaming sides.before.now sides.after.now renaming.now.before.items renaming.now.after.items }
+    ensures { AreNamesInOrder (compared sides.entry) → OnOk result (string_bytes text.new ≡ string_bytes text.old ++ moved_text moved (compared sides.entry) renaming.now.before.items renaming.now.after.items) }
 {
     if moved {
         push_moved_line(text, sides, renaming)

@@ -1,4 +1,4 @@
-use Rattle.std.proofs.Common.{◌≡◌, ◌∷◌, ◌++◌, [], map}
+use Rattle.std.proofs.Common.{◌≡◌, ◌++◌, map}
 use Rattle.std.specs.Prelude.{replicate}
 use Rattle.g1_report.specs.Gathered.{run_of}
 use Rattle.g1_report.proofs.grouping.add_runs.Given as goal

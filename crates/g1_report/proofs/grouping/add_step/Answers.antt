@@ -1,9 +1,8 @@
-use Rattle.std.proofs.Common.{◌≡◌, ◌<◌, ◌≤◌, ◌^◌, ◌+◌, ◌-◌, ◌∷◌, ◌++◌, ◌∙◌, ℕ, List, [], length, map, set, get_or, sym, ap, refl, arith, true, false, string_bytes}
+use Rattle.std.proofs.Common.{◌≡◌, ◌<◌, ◌+◌, ◌-◌, ◌∷◌, ◌++◌, ◌∙◌, ℕ, List, [], length, map, set, get_or, sym, ap, refl, arith, true, false, string_bytes}
 use Rattle.std.specs.Str.{bytes_eq}
 use Rattle.std.specs.Vec.{vec_len}
 use Rattle.std.proofs.lemmas.List.{set-get_or, map-set, get_or-map, length-map, map-append}
 use Rattle.g1_report.specs.declared.grouping.Group.{Group}
-use Rattle.g1_report.specs.Runs.{grouped}
 use Rattle.g1_report.specs.Gathered.{group_of}
 use Rattle.g1_report.proofs.Runs.{added_last, added_other, added_first}
 use Rattle.g1_report.proofs.grouping.add_step.Goals.{in-Some+else-eq, in_default}

@@ -1,4 +1,4 @@
-use Rattle.std.proofs.Common.{◌≡◌, [], string_bytes}
+use Rattle.std.proofs.Common.{[], string_bytes}
 use Rattle.g1_report.specs.declared.grouping.Run.{Run}
 use Rattle.g1_report.specs.Gathered.{run_of}
 use Rattle.g1_report.proofs.Runs.{run_more, apart_more}

@@ -2,7 +2,7 @@ use Rattle.std.proofs.Common.{◌≡◌, ◌<◌, ◌+◌, ◌-◌, ◌^◌, ◌
 use Rattle.g1_same.specs.Behind.{ShowsAt, IsThere, IsNext}
 use Rattle.g1_report.specs.Listed.{counts_line, kind_of, IsShown}
 use Rattle.g1_report.specs.Given.{compared}
-use Rattle.g1_report.proofs.Taken.{taken_first, taken_on, taken_more}
+use Rattle.g1_report.proofs.Taken.{taken_first, taken_on, taken_more, taken_part, taken_behind}
 use Rattle.g1_report.proofs.Behind.{takes_text, takes_on, takes_no_end, takes_end}
 use Rattle.g1_report.proofs.Counting.{counted, counted_none, counted_more, kind_small, shown, some_then}
 use Rattle.g1_report.proofs.Passed.{of_heaps}
@@ -82,3 +82,33 @@ returns-clause-all g c = λ h.
     let is = c.as_str.ensures.value ∙ (c.in_ok-push_counts.ensures ∙ ap (λ xs. xs ++ counts_line counts) c.clear.ensures.bytes) in
     takes_end (compared c.args.sides) (g.L.Lines.taken c.args.out.now) (g.L.Lines.taken c.differences.out) (g.L.Lines.taken c.take-2.new.self) c.args.first.now c.as_str.result.now counts
     (c.differences.invariant.lines h) (counted (compared c.args.sides) _ _ counts c.differences.invariant.counted) is c.in_ok-take-2.ensures.ok
+
+pub returns-in_err-take_found-clause-grown : goal.returns-in_err-take_found-clause-grown
+returns-in_err-take_found-clause-grown g c =
+    let old = g.L.Lines.taken c.args.out.now in
+    let new = g.L.Lines.taken c.take_found.new.out in
+    taken_behind old new c.args.first.now (taken_on old (g.L.Lines.taken c.differences.out) new c.args.first.now c.differences.invariant.took c.in_err-take_found.ensures.taken)
+
+pub returns-then-not-branch-2-clause-grown : goal.returns-then-not-branch-2-clause-grown
+returns-then-not-branch-2-clause-grown g c =
+    let old = g.L.Lines.taken c.args.out.now in
+    let new = g.L.Lines.taken c.take_found.new.out in
+    taken_behind old new c.args.first.now (taken_on old (g.L.Lines.taken c.differences.out) new c.args.first.now c.differences.invariant.took c.in_ok-take_found.ensures.taken)
+
+pub returns-in_err-push_counts-clause-grown : goal.returns-in_err-push_counts-clause-grown
+returns-in_err-push_counts-clause-grown g c =
+    taken_behind (g.L.Lines.taken c.args.out.now) (g.L.Lines.taken c.differences.out) c.args.first.now c.differences.invariant.took
+
+pub returns-in_err-take-2-clause-grown : goal.returns-in_err-take-2-clause-grown
+returns-in_err-take-2-clause-grown g c =
+    let old = g.L.Lines.taken c.args.out.now in
+    let now = g.L.Lines.taken c.differences.out in
+    let new = g.L.Lines.taken c.take-2.new.self in
+    taken_behind old new c.args.first.now (taken_on old now new c.args.first.now c.differences.invariant.took (taken_part now new c.as_str.result.now c.in_err-take-2.ensures.err))
+
+pub returns-clause-grown : goal.returns-clause-grown
+returns-clause-grown g c =
+    let old = g.L.Lines.taken c.args.out.now in
+    let new = g.L.Lines.taken c.take-2.new.self in
+    taken_behind old new c.args.first.now
+    (taken_more old (g.L.Lines.taken c.differences.out) new c.args.first.now c.as_str.result.now c.differences.invariant.took c.in_ok-take-2.ensures.ok)

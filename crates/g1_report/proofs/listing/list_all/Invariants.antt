@@ -2,7 +2,8 @@ use Rattle.std.proofs.Common.{◌≡◌, ◌+◌, ◌-◌, ◌*◌, ◌^◌}
 use Rattle.g1_same.specs.Underway.{IsUnderway}
 use Rattle.g1_report.specs.Taken.{TakesFirst}
 use Rattle.g1_report.specs.Listed.{TakesLines}
-use Rattle.g1_report.specs.Given.{compared, AreNamedInOrder}
+use Rattle.g1_report.specs.Answer.{AreNamesInOrder}
+use Rattle.g1_report.specs.Given.{compared}
 use Rattle.g1_report.proofs.Counting.{IsCounted}
 use Rattle.g1_report.proofs.listing.list_all.Given as goal
 
@@ -11,7 +12,7 @@ invariant-differences g l = record {
   underway : IsUnderway l.walk;
   before : l.walk.before.now ≡ l.sides.before.now;
   after : l.walk.after.now ≡ l.sides.after.now;
-  lines : AreNamedInOrder l.sides → TakesLines (compared l.sides) (g.L.Lines.taken l.fn.out) (g.L.Lines.taken l.out) l.first;
+  lines : AreNamesInOrder (compared l.sides) → TakesLines (compared l.sides) (g.L.Lines.taken l.fn.out) (g.L.Lines.taken l.out) l.first;
   counted : IsCounted (compared l.sides) l.walk.way.from l.walk.way.number l.counts;
   took : TakesFirst (g.L.Lines.taken l.fn.out) (g.L.Lines.taken l.out) l.first;
 }

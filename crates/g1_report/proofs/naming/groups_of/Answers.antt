@@ -1,4 +1,4 @@
-use Rattle.std.proofs.Common.{◌≡◌, ◌<◌, ◌^◌, ◌∷◌, ◌++◌, ◌∙◌, [], List, ℕ, length, take, map, get_or, slice_index, sym, ap, subst, refl, arith, string_bytes}
+use Rattle.std.proofs.Common.{◌≡◌, ◌<◌, ◌^◌, ◌++◌, ◌∙◌, length, take, map, get_or, slice_index, sym, ap, subst, arith}
 use Rattle.g1_words.specs.Valid.{IsReference}
 use Rattle.g1_report.specs.Program.{program_of, object_of}
 use Rattle.g1_report.specs.Runs.{grouped}

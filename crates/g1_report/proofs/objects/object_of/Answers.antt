@@ -1,4 +1,4 @@
-use Rattle.std.proofs.Common.{◌≡◌, ℕ, suc, sym, ap, ◌∙◌, arith}
+use Rattle.std.proofs.Common.{◌≡◌, suc, sym, ap, ◌∙◌, arith}
 use Rattle.g1_same.proofs.Heaps.{object_named}
 use Rattle.g1_report.specs.Program.{object_of}
 use Rattle.g1_report.proofs.objects.object_of.Goals as goal

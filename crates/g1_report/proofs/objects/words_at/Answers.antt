@@ -1,4 +1,4 @@
-use Rattle.std.proofs.Common.{◌≤◌, ◌+◌, ap, sym, subst, arith}
+use Rattle.std.proofs.Common.{ap, arith}
 use Rattle.std.specs.Prelude.{Some}
 use Rattle.g1_report.proofs.Laid.{words_are, object_fits}
 use Rattle.g1_report.proofs.objects.words_at.Goals as goal

@@ -14,7 +14,7 @@ returns c = λ h.
     let t2 = string_bytes c.push_path.new.text in
     let t3 = string_bytes c.push_before.new.text in
     let last = string_bytes c.push_stale.new.text in
-    let path = path_text s.roots c.args.path.0 c.args.path.1.now in
+    let path = path_text s c.args.path.0 c.args.path.1.now in
     let b = before_text s c.args.old in
     let z = stale_text s c.args.old c.args.word (name_in s.stale c.args.word) in
     on_ok_weaker c.push_stale.result

@@ -6,8 +6,8 @@ use Rattle.g1_report.specs.Given.{compared}
 use Rattle.g1_report.proofs.Joined.{joined}
 use Rattle.g1_report.proofs.verdict.push_same_text.Goals as goal
 
-pub returns-clause-unnamed : goal.returns-clause-unnamed
-returns-clause-unnamed c = λ none.
+pub returns : goal.returns
+returns c = λ h.
     let s = compared c.args.sides in
     let a = c.args.asked.now in
     let r = c.args.renaming.now in
@@ -17,5 +17,5 @@ returns-clause-unnamed c = λ none.
     let moved = moved_text a.moved s r.before.items r.after.items in
     let kept = kept_text a.set.now in
     on_ok_weaker c.push_kept.result
-    (λ e. joined (string_bytes c.args.text.now) first last (same_line s.before r.before.items) (moved ++ kept) c.in_ok-push_same_line.ensures (joined first second last moved kept (c.in_ok-push_moved.ensures.unnamed none) e))
+    (λ e. joined (string_bytes c.args.text.now) first last (same_line s.before r.before.items) (moved ++ kept) c.in_ok-push_same_line.ensures (joined first second last moved kept (c.in_ok-push_moved.ensures h) e))
     c.push_kept.ensures
