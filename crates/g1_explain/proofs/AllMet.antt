@@ -40,7 +40,7 @@ module _ (h : Heap) (set cards found : List ℕ) (valid : IsValid h) (rising : A
       ∙ sym (filter_append p (slot_leads h set) os))
       ∙ sym (filter_append p (root_leads h) (slot_leads h set ++ os))
 
-  all_met : met found [] (root_leads h ++ (card_leads h cards ++ found_leads h found (length found))) ≡ all_finders h set found
+  pub all_met : met found [] (root_leads h ++ (card_leads h cards ++ found_leads h found (length found))) ≡ all_finders h set found
   all_met =
       met_inner found (λ a. in_set h set a) inside [] (root_leads h ++ (card_leads h cards ++ found_leads h found (length found)))
       ∙ ap (met found []) (same_inner (found_leads h found (length found)))
@@ -62,7 +62,7 @@ module _ (h : Heap) (set cards found : List ℕ) (valid : IsValid h) (rising : A
 
 -- ---- routes by more finders
 
-finder_more : (fs tail : List Finder) (j : ℕ) → j < length fs → finder_at (fs ++ tail) j ≡ finder_at fs j
+pub finder_more : (fs tail : List Finder) (j : ℕ) → j < length fs → finder_at (fs ++ tail) j ≡ finder_at fs j
 finder_more [] tail j lt = absurd (omega (arith, lt))
 finder_more (f ∷ fs) tail zero lt = refl
 finder_more (f ∷ fs) tail (suc j) lt = finder_more fs tail j (omega (arith, lt))

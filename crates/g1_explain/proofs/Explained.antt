@@ -13,7 +13,6 @@ use Rattle.g1_copy.specs.Plans.{IsPauseOf}
 use Rattle.g1_copy.specs.Prepared.{Prepared, IsMadeFor}
 use Rattle.g1_layout.specs.Plan.{Plan}
 use Rattle.g1_pause.specs.declared.settings.Choice.{Choice}
-use Rattle.g1_pause.specs.declared.steps.Outcome.{Outcome}
 use Rattle.g1_pause.specs.declared.steps.Outcome.TheVariants.{Ready, NoRoom}
 use Rattle.g1_pause.specs.declared.steps.Steps.{Steps}
 use Rattle.g1_pause.specs.Answer.{FaultOfChoice}

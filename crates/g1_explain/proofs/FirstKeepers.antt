@@ -23,7 +23,7 @@ use Rattle.g1_words.proofs.Members.{In, In-from_contains, Contains-from_in, In-f
 use Rattle.g1_words.proofs.Rising.{told_ref}
 use Rattle.g1_words.proofs.Sound.{sound, object_in}
 use Rattle.g1_image.specs.Image.{Image, card_in, region_of_card}
-use Rattle.g1_image.specs.Cards.{refined, is_refined, IsTracked}
+use Rattle.g1_image.specs.Cards.{refined, is_refined, cards_where, IsTracked}
 use Rattle.g1_image.proofs.Covers.{card_region}
 use Rattle.g1_rem.specs.Starts.{card_count}
 use Rattle.g1_rem.proofs.EntryCards.{filter_same_in}
@@ -49,7 +49,7 @@ turned true false = refl
 turned false true = refl
 turned false false = refl
 
-or_true : (b : Bool) → (b || true) ≡ true
+pub or_true : (b : Bool) → (b || true) ≡ true
 or_true true = refl
 or_true false = refl
 
@@ -64,7 +64,7 @@ module _ (h : Heap) (valid : IsValid h) (r : ℕ) (first : is_first (kind h r) �
   two = first_by_test (kind h r) first
 
   -- an object that stands in the region stands at its start
-  at_start : (a : ℕ) → Contains (objects h) (object_at h a) → region_of h a ≡ r → a ≡ start h r
+  pub at_start : (a : ℕ) → Contains (objects h) (object_at h a) → region_of h a ≡ r → a ≡ start h r
   at_start a c e =
       let o : Object = object_at h a in
       let m = flat_map_cases (objects_in h) (regions h) o (In-from_contains (objects h) o c) in
@@ -122,58 +122,55 @@ found_there h valid found are l k =
     let ref : Contains (refs h) e = told_ref h valid e o (contains_has h o valid.shaped c) (omega arith, omega (arith, t.fits)) (omega (arith, t.reads)) in
     (sound h valid).slot_named e ref
 
--- ---- the cards of the refined set
+-- ---- the cards of a set that lead into the region
 
-module _ (i : Image) (tracked : IsTracked i) (set : List ℕ) (marks : List Bool) (are : (r : ℕ) → get_or marks r false ≡ has set r) (r : ℕ) (lt : r < i.heap.geometry.n)
-    (first : is_first (kind i.heap r) ≡ true) where
+module _ (h : Heap) (valid : IsValid h) (set : List ℕ) (marks : List Bool) (are : (r : ℕ) → get_or marks r false ≡ has set r) (r : ℕ) (lt : r < h.geometry.n)
+    (first : is_first (kind h r) ≡ true) (test : ℕ → Bool) (lead : AreCards h (cards_where h test) × AreOutside h (r ∷ []) (cards_where h test) × LeadIn h (r ∷ []) (cards_where h test)) where
   abbrev window : List ℕ
-  window = set ++ run i.heap r
+  window = set ++ run h r
 
   abbrev looked : List ℕ
-  looked = filter (is_apart i.heap marks r) (refined i r)
+  looked = filter (is_apart h marks r) (cards_where h test)
 
-  outside_both : (q : ℕ) → has window q ≡ (has set q || has (run i.heap r) q)
-  outside_both q = list_any-append (λ y. eqb q y) set (run i.heap r)
+  outside_both : (q : ℕ) → has window q ≡ (has set q || has (run h r) q)
+  outside_both q = list_any-append (λ y. eqb q y) set (run h r)
 
-  apart_is : (c : ℕ) → is_apart i.heap marks r c ≡ not (has window (region_of_card i.heap c))
+  apart_is : (c : ℕ) → is_apart h marks r c ≡ not (has window (region_of_card h c))
   apart_is c =
-      let q : ℕ = region_of_card i.heap c in
-      ap (λ b. not (has (run i.heap r) q) && not b) (are q) ∙ turned (has (run i.heap r) q) (has set q) ∙ ap not (sym (outside_both q))
+      let q : ℕ = region_of_card h c in
+      ap (λ b. not (has (run h r) q) && not b) (are q) ∙ turned (has (run h r) q) (has set q) ∙ ap not (sym (outside_both q))
 
-  leads_there : AreCards i.heap (refined i r) × AreOutside i.heap (r ∷ []) (refined i r) × LeadIn i.heap (r ∷ []) (refined i r)
-  leads_there = refined_leads_in i r tracked.image tracked.covered lt
-
-  rising : AreCards i.heap looked
+  rising : AreCards h looked
   rising = record {
-    rise = Rises-increasing 0 looked (Rises-filter (is_apart i.heap marks r) 0 (refined i r) (Rises-filter (is_refined i r) 0 (range_with_len 0 (card_count i.heap)) (Rises-range 0 (card_count i.heap))));
-    below = all_from_in (λ c. c < card_count i.heap) looked (λ c k. all_in (λ x. x < card_count i.heap) (refined i r) c leads_there.0.below (filter_member (is_apart i.heap marks r) (refined i r) c k).0);
+    rise = Rises-increasing 0 looked (Rises-filter (is_apart h marks r) 0 (cards_where h test) (Rises-filter test 0 (range_with_len 0 (card_count h)) (Rises-range 0 (card_count h))));
+    below = all_from_in (λ c. c < card_count h) looked (λ c k. all_in (λ x. x < card_count h) (cards_where h test) c lead.0.below (filter_member (is_apart h marks r) (cards_where h test) c k).0);
   }
 
-  outside : AreOutside i.heap window looked
-  outside c k = not_true (card_in i.heap window c) (sym (apart_is c) ∙ (filter_member (is_apart i.heap marks r) (refined i r) c (In-from_contains looked c k)).1)
+  outside : AreOutside h window looked
+  outside c k = not_true (card_in h window c) (sym (apart_is c) ∙ (filter_member (is_apart h marks r) (cards_where h test) c (In-from_contains looked c k)).1)
 
   single : (q : ℕ) → In (r ∷ []) q → q ≡ r
   single q (inl e) = sym e
   single q (inr k) = absurd k
 
-  there : (e : Ref) → Contains (refs i.heap) e → eqb e.target (start i.heap r) ≡ true → in_set i.heap window e.slot ≡ false → Contains looked (card_of i.heap e.slot)
+  there : (e : Ref) → Contains (refs h) e → eqb e.target (start h r) ≡ true → in_set h window e.slot ≡ false → Contains looked (card_of h e.slot)
   there e c t out =
-      let q : ℕ = region_of i.heap e.slot in
-      let card : ℕ = card_of i.heap e.slot in
-      let to : region_of i.heap e.target ≡ r = ap (region_of i.heap) (eqb-true e.target (start i.heap r) t) ∙ start_there i.heap tracked.image.heap r first in
-      let into : in_set i.heap (r ∷ []) e.target ≡ true = has_from_in (r ∷ []) (region_of i.heap e.target) (inl (sym to)) in
-      let off : in_set i.heap (r ∷ []) e.slot ≡ false = false_by (has (r ∷ []) q) (λ y.
+      let q : ℕ = region_of h e.slot in
+      let card : ℕ = card_of h e.slot in
+      let to : region_of h e.target ≡ r = ap (region_of h) (eqb-true e.target (start h r) t) ∙ start_there h valid r first in
+      let into : in_set h (r ∷ []) e.target ≡ true = has_from_in (r ∷ []) (region_of h e.target) (inl (sym to)) in
+      let off : in_set h (r ∷ []) e.slot ≡ false = false_by (has (r ∷ []) q) (λ y.
       let home : q ≡ r = single q (in_from_has (r ∷ []) q y) in
-      let own : (has set q || has (run i.heap r) q) ≡ true = (λ j. has set q || (ap (has (run i.heap r)) home ∙ own_first i.heap tracked.image.heap r first lt) j) ∙ or_true (has set q) in
+      let own : (has set q || has (run h r) q) ≡ true = (λ j. has set q || (ap (has (run h r)) home ∙ own_first h valid r first lt) j) ∙ or_true (has set q) in
       false≢true (sym out ∙ outside_both q ∙ own)) in
-      let on : Contains (refined i r) card = leads_there.2 e c into off in
-      let home : region_of_card i.heap card ≡ q = card_region i.heap tracked.image.heap e.slot in
-      let apart : is_apart i.heap marks r card ≡ true = apart_is card ∙ ap (λ x. not (has window x)) home ∙ ap not out in
-      Contains-from_in looked card (In-filter (is_apart i.heap marks r) (refined i r) card (In-from_contains (refined i r) card on) apart)
+      let on : Contains (cards_where h test) card = lead.2 e c into off in
+      let home : region_of_card h card ≡ q = card_region h valid e.slot in
+      let apart : is_apart h marks r card ≡ true = apart_is card ∙ ap (λ x. not (has window x)) home ∙ ap not out in
+      Contains-from_in looked card (In-filter (is_apart h marks r) (cards_where h test) card (In-from_contains (cards_where h test) card on) apart)
 
-  -- the references of the slots on its cards are those of all slots outside
-  pub on_its_cards : leads_on i.heap marks r (refined i r) ≡ leads_at i.heap (slot_leads i.heap window) r
-  on_its_cards = by_cards i.heap window looked (λ a. eqb a (start i.heap r)) tracked.image.heap rising outside there
+  -- the references of the slots on these cards are those of all slots outside
+  pub on_these_cards : leads_on h marks r (cards_where h test) ≡ leads_at h (slot_leads h window) r
+  on_these_cards = by_cards h window looked (λ a. eqb a (start h r)) valid rising outside there
 
 -- ---- all regions
 
@@ -197,7 +194,7 @@ module _ (i : Image) (tracked : IsTracked i) (set survivors : List ℕ) (marks :
       let own : get_or sets r [] ≡ refined i r = ap (λ (l : List (List ℕ)). get_or l r []) refined_sets ∙ get_or-map-range_with_len (refined i) 0 h.geometry.n r r [] lt z in
       let roots : leads_in h (root_leads h) r ≡ leads_at h (root_leads h) r = in_or_at h valid r first (root_leads h) (root_objects h valid) in
       let slots : leads_by_cards h marks sets r ≡ leads_at h (slot_leads h (set ++ run h r)) r =
-      (λ j. cond (lt-ltb r h.geometry.n lt j) (leads_on h marks r (own j)) []) ∙ on_its_cards i tracked set marks are r lt first in
+      (λ j. cond (lt-ltb r h.geometry.n lt j) (leads_on h marks r (own j)) []) ∙ on_these_cards h valid set marks are r lt first (is_refined i r) (refined_leads_in i r tracked.image tracked.covered lt) in
       let founds : leads_in h (found_leads h survivors (length survivors)) r ≡ leads_at h (found_leads h survivors (length survivors)) r =
       in_or_at h valid r first (found_leads h survivors (length survivors)) (found_there h valid survivors objects_there) in
       let p : Lead → Bool = λ l. eqb l.target (start h r) in

@@ -91,7 +91,7 @@ trail_some : (h : Heap) (set : List ℕ) (base : ℕ) (p : List ℕ) (a : ℕ) �
 trail_some h set base p a (begin l i) = omega arith
 trail_some h set base p a (go q b s c t i fit w) = omega (arith, length_push q s)
 
-places_apart : (xs : List ℕ) → Distinct xs → (i j : ℕ) → i < length xs → j < length xs → slice_index xs i ≡ slice_index xs j → i ≡ j
+pub places_apart : (xs : List ℕ) → Distinct xs → (i j : ℕ) → i < length xs → j < length xs → slice_index xs i ≡ slice_index xs j → i ≡ j
 places_apart [] d i j li lj e = absurd (omega (arith, li))
 places_apart (x ∷ xs) d zero zero li lj e = refl
 places_apart (x ∷ xs) d zero (suc j) li lj e = absurd (d.0 (subst (In xs) (sym e) (get_or-In xs j 0 (omega (arith, lj)))))
@@ -113,10 +113,10 @@ module _ (h : Heap) (set found : List ℕ) (base : ℕ) (searched : found ≡ ta
   abbrev Route : ℕ → List Leg → Type 0
   Route n legs = IsRoute h found (all_finders h set found) n legs
 
-  fs_count : length (all_finders h set found) ≡ length found
+  pub fs_count : length (all_finders h set found) ≡ length found
   fs_count = length-map (first_leads (leads h set found)) (λ (l : Lead). l.finder) ∙ count_is h set found searched
 
-  found_once : Distinct found
+  pub found_once : Distinct found
   found_once = subst Distinct (sym (searched ∙ first_targets (leads h set found))) (Distinct-firsts (targets_of (leads h set found)))
 
   extend : (j : ℕ) (legs : List Leg) → j < length found → Route (before (at j)) legs → Route (suc j) (legs ++ leg_of j ∷ [])
@@ -125,7 +125,7 @@ module _ (h : Heap) (set found : List ℕ) (base : ℕ) (searched : found ≡ ta
   codes_push : (legs : List Leg) (j : ℕ) → codes base (legs ++ leg_of j ∷ []) ≡ codes base legs ++ code base (at j) ∷ []
   codes_push legs j = map_append (λ (l : Leg). code base l.finder) legs (leg_of j ∷ [])
 
-  earlier : (i j : ℕ) → i < j → j < length found → Earlier (at i) (at j)
+  pub earlier : (i j : ℕ) → i < j → j < length found → Earlier (at i) (at j)
   earlier i j lt le = places_in_order (first_leads (leads h set found)) (first_in_order (leads h set found) ordered) i j lt (omega (arith, le, count_is h set found searched))
 
   -- the first reference to the object that a reference leads to
@@ -134,7 +134,7 @@ module _ (h : Heap) (set found : List ℕ) (base : ℕ) (searched : found ≡ ta
     pub target : slice_index found j ≡ l.target
     pub first : (at j ≡ l.finder) ⊎ Earlier (at j) l.finder
 
-  place_of : (l : Lead) → In (leads h set found) l → (j : ℕ) × IsPlaceOf l j
+  pub place_of : (l : Lead) → In (leads h set found) l → (j : ℕ) × IsPlaceOf l j
   place_of l i =
       let f = some_first (leads h set found) l i in
       let p = place_in (first_leads (leads h set found)) f.0 f.1 in (
@@ -244,7 +244,7 @@ module _ (h : Heap) (set found : List ℕ) (base : ℕ) (searched : found ≡ ta
     pub there : slice_index found place ≡ a
     pub route : HasRoute place q
 
-  in_leads : (l : Lead) → In (root_leads h ++ (slot_leads h set ++ found_leads h found (length found))) l → in_set h set l.target ≡ true → In (leads h set found) l
+  pub in_leads : (l : Lead) → In (root_leads h ++ (slot_leads h set ++ found_leads h found (length found))) l → in_set h set l.target ≡ true → In (leads h set found) l
   in_leads l i t = In-filter (λ l. in_set h set l.target) (root_leads h ++ (slot_leads h set ++ found_leads h found (length found))) l i t
 
   -- what leads to the object first, where a root or a slot outside does
@@ -288,16 +288,16 @@ module _ (h : Heap) (set found : List ℕ) (base : ℕ) (searched : found ≡ ta
     up = subst (λ z. UpTo z (p ++ s ∷ [])) (sym (codes_push rb j ∙ ap (λ z. codes base rb ++ code base z ∷ []) ef)) (inr (up_last (codes base rb) p t s e.1 up));
   }
 
-  seed_of : (l : Lead) → In (root_leads h) l ⊎ In (slot_leads h set) l → before l.finder ≡ 0
+  pub seed_of : (l : Lead) → In (root_leads h) l ⊎ In (slot_leads h set) l → before l.finder ≡ 0
   seed_of l (inl i) = ap before (root_tells h set l i).finder
   seed_of l (inr i) = ap before (slot_tells h set l i).finder
 
-  in_all : (l : Lead) → In (root_leads h) l ⊎ In (slot_leads h set) l → In (root_leads h ++ (slot_leads h set ++ found_leads h found (length found))) l
+  pub in_all : (l : Lead) → In (root_leads h) l ⊎ In (slot_leads h set) l → In (root_leads h ++ (slot_leads h set ++ found_leads h found (length found))) l
   in_all l (inl i) = In-append_left (root_leads h) (slot_leads h set ++ found_leads h found (length found)) l i
   in_all l (inr i) =
       In-append_right (root_leads h) (slot_leads h set ++ found_leads h found (length found)) l (In-append_left (slot_leads h set) (found_leads h found (length found)) l i)
 
-  in_found : (m b s a : ℕ) → m < length found → slice_index found m ≡ b → s < (object_at h b).refs → word h (b + 1 + s) ≡ suc a
+  pub in_found : (m b s a : ℕ) → m < length found → slice_index found m ≡ b → s < (object_at h b).refs → word h (b + 1 + s) ≡ suc a
       → In (root_leads h ++ (slot_leads h set ++ found_leads h found (length found))) (record { finder = Slot m b s; target = a })
   in_found m b s a lt is fit w =
       let l : Lead = record { finder = Slot m b s; target = a } in

@@ -1,11 +1,10 @@
 -- The cards that a set has and another has not, and the lines of them.
-use Rattle.std.proofs.Common.{◌≡◌, ℕ, ◌+◌, ◌<◌, ◌==◌, false, true, not, cond, List, [], ◌∷◌, ◌++◌, length, filter, take, map, get_or, refl, sym, ◌∙◌, ap, arith, append_assoc, append-nil, eqb-true, Result, Ok, Err}
+use Rattle.std.proofs.Common.{◌≡◌, ℕ, ◌==◌, false, true, not, List, [], ◌∷◌, ◌++◌, length, map, refl, sym, ◌∙◌, ap, arith, append_assoc, append-nil, eqb-true, Result, Ok, Err}
 use Rattle.std.specs.Prelude.{codes, decimal, is_err}
 use Rattle.std.specs.List.Sorted.{IsStrictlyIncreasing, IsBinarySearchResult}
 use Rattle.std.specs.Ordering.{nat_cmp}
-use Rattle.std.proofs.lemmas.List.Elements.{filter_more}
 use Rattle.g1_words.specs.Lists.{has}
-use Rattle.g1_words.proofs.Members.{In, has_from_in}
+use Rattle.g1_words.proofs.Members.{has_from_in}
 use Rattle.g1_frontier.proofs.Places.{found_at, not_found}
 use Rattle.g1_copy.proofs.LinkingCards.{none_pass}
 use Rattle.g1_text.specs.Lines.{further, text_of}

@@ -136,7 +136,7 @@ kept_number_more h f old now after n p q =
 
 -- ---- the first reference
 
-not_by : (f : Finder) → Nothing ≡ By f → ⊥
+pub not_by : (f : Finder) → Nothing ≡ By f → ⊥
 not_by f e = false≢true (ap is_by e)
   where
     is_by : Keeper → Bool

@@ -41,7 +41,7 @@ root_lead h k a lt w =
     (subst (λ x. In (Rattle.g1_explain.specs.Finders.lead (Root k) x) l) (sym w) (inl refl))
 
 -- the root of this number references a live object
-live_root : (h : Heap) (k a : ℕ) → k < length h.roots → slice_index h.roots k ≡ suc a → Live h a
+pub live_root : (h : Heap) (k a : ℕ) → k < length h.roots → slice_index h.roots k ≡ suc a → Live h a
 live_root h k a lt w =
     seed (Contains-from_in (root_targets h) a (In-flat_map named h.roots (slice_index h.roots k) a (Rattle.g1_words.proofs.Indices.get_or-In h.roots k 0 lt) (subst (λ x. In (named x) a) (sym w) (inl refl))))
 
@@ -51,7 +51,7 @@ slot_target h b s a fit w =
     (Rattle.g1_words.proofs.Computed.In-range (b + 1) (object_at h b).refs (b + 1 + s) (omega arith) (omega (arith, fit))) (subst (λ x. In (named x) a) (sym w) (inl refl))
 
 -- what a slot of a live object references is live
-live_slot : (h : Heap) (b s a : ℕ) → Live h b → s < (object_at h b).refs → word h (b + 1 + s) ≡ suc a → Live h a
+pub live_slot : (h : Heap) (b s a : ℕ) → Live h b → s < (object_at h b).refs → word h (b + 1 + s) ≡ suc a → Live h a
 live_slot h b s a live fit w = child live (Contains-from_in (targets h b) a (slot_target h b s a fit w))
 
 path_push : (legs : List Leg) (l : Leg) → path_of (legs ++ l ∷ []) ≡ path_of legs ++ Rattle.g1_explain.specs.Keeping.number l.finder ∷ []
@@ -162,7 +162,7 @@ module _ (h : Heap) (valid : IsValid h) (r : ℕ) where
       by false e = e
       by true e = absurd (d (home a e))
 
-  slot_there : (e : Ref) → In (refs h) e → In (all_slots h) e.slot × (word h e.slot ≡ suc e.target)
+  pub slot_there : (e : Ref) → In (refs h) e → In (all_slots h) e.slot × (word h e.slot ≡ suc e.target)
   slot_there e i =
       let j : In (Rattle.std.proofs.Common.flat_map (refs_at h) (all_slots h)) e = subst (λ l. In l e) (flat_twice h (objects h)) i in
       let m = Rattle.g1_words.proofs.Members.flat_map_cases (refs_at h) (all_slots h) e j in
@@ -172,7 +172,7 @@ module _ (h : Heap) (valid : IsValid h) (r : ℕ) where
       let n = Rattle.g1_words.proofs.Sound.named_is (word h m.0) q.0 q.1 in
       (subst (In (all_slots h)) s m.1, subst (λ p. word h p ≡ suc e.target) s (omega (arith, n, t)))
 
-  ref_there : (p a : ℕ) → In (all_slots h) p → word h p ≡ suc a → In (refs h) (record { slot = p; target = a })
+  pub ref_there : (p a : ℕ) → In (all_slots h) p → word h p ≡ suc a → In (refs h) (record { slot = p; target = a })
   ref_there p a i e =
       let k : In (named (word h p)) a = subst (λ x. In (named x) a) (sym e) (inl refl) in
       let e : Ref = record { slot = p; target = a } in
@@ -185,7 +185,7 @@ module _ (h : Heap) (valid : IsValid h) (r : ℕ) where
       In-map (λ (e : Ref). record { finder = Card (card_of h e.slot) e.slot; target = e.target }) (Rattle.std.proofs.Common.filter (λ (e : Ref). Rattle.std.proofs.Common.not (in_set h (r ∷ []) e.slot)) (refs h)) e
       (Rattle.g1_words.proofs.Members.In-filter (λ (e : Ref). Rattle.std.proofs.Common.not (in_set h (r ∷ []) e.slot)) (refs h) e (ref_there p a i w) (ap Rattle.std.proofs.Common.not (away p d)))
 
-  some_within : (ss : List ℕ) (x a : ℕ) → LeadsWithin h r ss x (suc a) → (b : ℕ) × (x ≡ suc b)
+  pub some_within : (ss : List ℕ) (x a : ℕ) → LeadsWithin h r ss x (suc a) → (b : ℕ) × (x ≡ suc b)
   some_within [] x a e = (a, e)
   some_within (s ∷ ss) zero a l = absurd l
   some_within (s ∷ ss) (suc b) a l = (b, refl)

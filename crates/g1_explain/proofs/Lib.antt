@@ -15,8 +15,12 @@ pub mod Routes
 pub mod FirstPath
 pub mod NoSlots
 pub mod Kept
+pub mod Holder
+pub mod Backward
 pub mod SurvivorLines
 pub mod Reasons
+pub mod Outside
+pub mod Known
 pub mod StepLines
 pub mod Joined
 pub mod Gained

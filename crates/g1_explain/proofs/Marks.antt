@@ -17,7 +17,7 @@ none_set zero r = refl
 none_set (suc n) zero = refl
 none_set (suc n) (suc r) = none_set n r
 
-past : {A : Type 0} (xs : List A) (r : ℕ) (d : A) → length xs ≤ r → get_or xs r d ≡ d
+pub past : {A : Type 0} (xs : List A) (r : ℕ) (d : A) → length xs ≤ r → get_or xs r d ≡ d
 past [] r d le = refl
 past (x ∷ xs) zero d le = absurd (omega (arith, le))
 past (x ∷ xs) (suc r) d le = past xs r d (omega (arith, le))

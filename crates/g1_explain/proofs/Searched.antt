@@ -30,7 +30,7 @@ module _ (h : Heap) (valid : IsValid h) (r : ℕ) where
   single q (inl e) = sym e
   single q (inr k) = absurd k
 
-  exact_leads_in : AreCards h (exact h r) × AreOutside h (r ∷ []) (exact h r) × LeadIn h (r ∷ []) (exact h r)
+  pub exact_leads_in : AreCards h (exact h r) × AreOutside h (r ∷ []) (exact h r) × LeadIn h (r ∷ []) (exact h r)
   exact_leads_in = (
     record {
       rise = Rises-increasing 0 (exact h r) (Rises-filter (is_exact h r) 0 (range_with_len 0 (card_count h)) (Rises-range 0 (card_count h)));

@@ -1,5 +1,5 @@
 -- The lines of survivors, by the finders that were met.
-use Rattle.std.proofs.Common.{◌≡◌, ℕ, suc, ◌+◌, ◌<◌, ◌≤◌, List, [], ◌∷◌, ◌++◌, length, map, flat_map, slice_index, refl, sym, ◌∙◌, ap, arith, append-nil}
+use Rattle.std.proofs.Common.{◌≡◌, ℕ, suc, ◌+◌, ◌<◌, ◌≤◌, List, [], ◌∷◌, ◌++◌, length, map, min, flat_map, slice_index, refl, sym, ◌∙◌, ap, arith, append-nil}
 use Rattle.std.specs.List.{range_with_len}
 use Rattle.std.proofs.lemmas.List.{length-map, length-append}
 use Rattle.g1_words.specs.Heap.{Heap}
@@ -8,11 +8,12 @@ use Rattle.g1_text.specs.Lines.{line_text, text_of}
 use Rattle.g1_text.proofs.Printed.{text_map}
 use Rattle.g1_explain.specs.declared.finder.Finder.{Finder}
 use Rattle.g1_explain.specs.Finders.{Lead, leads, first_leads}
-use Rattle.g1_explain.specs.Searched.{finder_at, AreMet, IsSearch}
+use Rattle.g1_explain.specs.Searched.{finder_at, AreMet, AreEnough, IsSearch}
 use Rattle.g1_explain.specs.Survivors.{survivor_line, survivor_lines}
 use Rattle.g1_explain.proofs.FirstLeads.{targets_of, finders_of}
 use Rattle.g1_explain.proofs.Targets.{searched}
 use Rattle.g1_explain.proofs.AllMet.{met_first}
+use Rattle.g1_explain.proofs.Backward.{enough}
 
 -- what is made of the places of some references is made of them
 map_places : {A : Type 0} (f : Lead → A) (g : ℕ → A) (a : ℕ) (ls : List Lead) → ((j : ℕ) → j < length ls → g (a + j) ≡ f (record { finder = finder_at (finders_of ls) j; target = slice_index (targets_of ls) j }))
@@ -45,8 +46,12 @@ survivors_end h set cards found fs valid s are le =
     ∙ (λ i. survivor_line h (record { finder = finder_at (all i) j; target = slice_index (same i) j })))
 
 -- the text of these lines behind a text
-pub survivors_text : (h : Heap) (set cards found old now : List ℕ) (fs : List Finder) → IsValid h → IsSearch h set cards found → AreMet h cards found fs → length found ≤ length fs
-    → now ≡ old ++ flat_map (λ j. line_text (survivor_line h (record { finder = finder_at fs j; target = slice_index found j }))) (range_with_len 0 (length found)) → now ≡ old ++ text_of (survivor_lines h set found)
-survivors_text h set cards found old now fs valid s are le e =
-    e ∙ ap (λ l. old ++ l)
+pub survivors_text : (h : Heap) (set cards found old now : List ℕ) (fs : List Finder) → IsValid h → IsSearch h set cards found → AreMet h cards found fs → AreEnough h cards found (length found) fs
+    → now ≡ old ++ flat_map (λ j. line_text (survivor_line h (record { finder = finder_at fs j; target = slice_index found j }))) (range_with_len 0 (min (length found) (length fs)))
+    → now ≡ old ++ text_of (survivor_lines h set found)
+survivors_text h set cards found old now fs valid s are many e =
+    let le : length found ≤ length fs = enough h set cards found valid s fs (length found) (omega arith) many in
+    let all : min (length found) (length fs) ≡ length found = omega (arith, le) in
+    e ∙ ap (λ n. old ++ flat_map (λ j. line_text (survivor_line h (record { finder = finder_at fs j; target = slice_index found j }))) (range_with_len 0 n)) all
+    ∙ ap (λ l. old ++ l)
     (sym (text_map (λ j. survivor_line h (record { finder = finder_at fs j; target = slice_index found j })) (range_with_len 0 (length found))) ∙ ap text_of (survivors_end h set cards found fs valid s are le))

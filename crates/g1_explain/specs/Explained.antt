@@ -1,8 +1,8 @@
 -- THE EXPLANATION OF A PAUSE of an image: a text, and the fault for which the pause is refused, if it is.
-use Rattle.std.specs.Prelude.{◌≡◌, ℕ, List, [], ◌∷◌, ◌++◌, length, min, flat_map, Option, None, Some, IfNone, Err, ⊤}
+use Rattle.std.specs.Prelude.{◌≡◌, ℕ, List, [], ◌∷◌, ◌++◌, length, min, flat_map, Option, None, Some, IfNone, Err}
 use Rattle.std.specs.List.{range_with_len}
 use Rattle.g1_words.specs.declared.fault.Fault.{Fault}
-use Rattle.g1_words.specs.declared.fault.Fault.TheVariants.{Memory, Uncovered}
+use Rattle.g1_words.specs.declared.fault.Fault.TheVariants.{Uncovered}
 use Rattle.g1_words.specs.Heap.{Heap}
 use Rattle.g1_image.specs.Image.{Image}
 use Rattle.g1_image.specs.Cards.{uncovered, Covered}
@@ -14,8 +14,6 @@ use Rattle.g1_pause.specs.declared.steps.Steps.{Steps}
 use Rattle.g1_pause.specs.Answer.{IsSetFor, FaultOfChoice, IsEvacuated}
 use Rattle.g1_pause.specs.Bought.{IsListed}
 use Rattle.g1_text.specs.Lines.{heading, line_text, text_of}
-use Rattle.g1_explain.specs.declared.failure.Failure.{Failure}
-use Rattle.g1_explain.specs.declared.failure.Failure.TheVariants.{Fault as OfFault}
 use Rattle.g1_explain.specs.declared.form.Form.{Form}
 use Rattle.g1_explain.specs.declared.form.Form.TheVariants as form
 use Rattle.g1_explain.specs.Places.{map_line}
@@ -44,8 +42,3 @@ pub data IsMapOfPause (cost : Cost) (choice : Choice) (i : Image) : List ℕ →
 abbrev pub IsExplained : Cost → Choice → Form → Image → List ℕ → Option Fault → Type 0
 IsExplained cost choice form.Steps i text refused = IsTextOfPause cost choice i text refused
 IsExplained cost choice form.Map i text refused = IsMapOfPause cost choice i text refused
-
--- why there is no map: memory ran out; of the lines no clause says more yet
-abbrev pub IsFailureOf : Form → Failure → Type 0
-IsFailureOf form.Map f = f ≡ OfFault Memory
-IsFailureOf form.Steps f = ⊤

@@ -1,5 +1,5 @@
 -- A search that is gone over again, to see what finds each object.
-use Rattle.std.specs.Prelude.{◌≡◌, ◌<◌, ◌≤◌, ℕ, suc, Bool, ◌&&◌, ◌==◌, if◌then◌else◌, nat_lt, List, [], ◌∷◌, ◌++◌, flat_map, length, slice_index, slice_index_or, Contains}
+use Rattle.std.specs.Prelude.{◌≡◌, ◌<◌, ◌≤◌, ◌⊎◌, ℕ, suc, Bool, ◌&&◌, ◌==◌, if◌then◌else◌, nat_lt, List, [], ◌∷◌, ◌++◌, flat_map, length, slice_index, slice_index_or, Contains}
 use Rattle.std.specs.List.{All, range_with_len}
 use Rattle.g1_words.specs.Heap.{Heap, word, objects, object_at}
 use Rattle.g1_words.specs.Survivors.{Survivors}
@@ -34,6 +34,10 @@ slots_leads m a slots = flat_map (λ s. lead (Slot m a s) (slice_index slots s))
 -- the finders are those that a search meets over the slots of its first objects
 abbrev pub AreMet : Heap → List ℕ → List ℕ → List Finder → Type 0
 AreMet h cards found fs = (m : ℕ) × (m ≤ length found) × (fs ≡ met found [] (root_leads h ++ (card_leads h cards ++ found_leads h found m)))
+
+-- as many finders as are wanted, or all that a search meets
+abbrev pub AreEnough : Heap → List ℕ → List ℕ → ℕ → List Finder → Type 0
+AreEnough h cards found wanted fs = (wanted ≤ length fs) ⊎ (fs ≡ met found [] (root_leads h ++ (card_leads h cards ++ found_leads h found (length found))))
 
 -- the finder of the object at a place
 abbrev pub finder_at : List Finder → ℕ → Finder

@@ -3,12 +3,10 @@ ghost use Rattle.std.specs.Prelude.{◌≡◌, ◌≢◌, ◌++◌, [], Some, st
 ghost use Rattle.g1_image.specs.Cards.{Covered};
 ghost use Rattle.g1_pause.specs.Steps.{AreStepsOf};
 ghost use Rattle.g1_text.specs.Lines.{heading, line_text, text_of};
-ghost use Rattle.g1_explain.specs.declared.failure.Failure.TheVariants.{Fault as OfFault};
-ghost use Rattle.g1_explain.specs.Explained.{IsExplained, IsTextOfPause, IsMapOfPause, IsFailureOf};
+ghost use Rattle.g1_explain.specs.Explained.{IsExplained, IsTextOfPause, IsMapOfPause};
 ghost use Rattle.g1_explain.specs.Steps.{AreTaken, IsTextOfSteps, covered_lines, refusal_of};
 ghost use Rattle.g1_explain.specs.Unkept.{FreesUnkept};
 
-use crate::failure::Failure;
 use crate::form::Form;
 use crate::places::push_map;
 use crate::remembering::push_dirty;
@@ -35,21 +33,21 @@ pub struct Explanation {
 ///
 /// # Errors
 ///
-/// `Fault::Memory`; `Failure::Contradiction` if the references don't lead to what the steps found.
+/// `Fault::Memory`, and no other: the fault for which the pause is refused is part of the explanation.
 pub fn explain<R: Threads + Sync>(
     rt: &R,
     alloc: Global,
     image: Image,
     settings: &Settings,
     form: Form,
-) -> Result<Explanation, Failure>
+) -> Result<Explanation, Fault>
     ensures explained { IfOk result (λ x. IsExplained settings.now.cost settings.now.choice form image (string_bytes x.text) x.refused) }
-    ensures failed { IfErr result (IsFailureOf form) }
+    ensures memory { IfErr result (λ e. e ≡ Fault.Memory) }
 {
     let mut text = String::new(alloc);
     match push_explanation(rt, alloc, &mut text, image, settings, form) {
         Ok(refused) => Ok(Explanation { text, refused }),
-        Err(failure) => Err(failure),
+        Err(fault) => Err(fault),
     }
 }
 
@@ -61,9 +59,9 @@ fn push_explanation<R: Threads + Sync>(
     image: Image,
     settings: &Settings,
     form: Form,
-) -> Result<Option<Fault>, Failure>
+) -> Result<Option<Fault>, Fault>
     ensures explained { string_bytes text.old ≡ [] → IfOk result (λ o. IsExplained settings.now.cost settings.now.choice form image (string_bytes text.new) o) }
-    ensures failed { IfErr result (IsFailureOf form) }
+    ensures memory { IfErr result (λ e. e ≡ Fault.Memory) }
 {
     match form {
         Form::Steps => push_lines(rt, alloc, text, image, settings),
@@ -75,15 +73,16 @@ fn push_explanation<R: Threads + Sync>(
 ///
 /// # Errors
 ///
-/// `Fault::Memory`; `Failure::Contradiction` if the references don't lead to what the steps found.
+/// `Fault::Memory`, and no other: the fault for which the pause is refused is part of the explanation.
 pub fn explain_steps(
     alloc: Global,
     before: &Before<'_>,
     settings: &Settings,
     steps: &Steps,
-) -> Result<Explanation, Failure>
+) -> Result<Explanation, Fault>
     ensures lines { AreTaken settings.now.cost settings.now.choice before.now steps.now → IfOk result (λ x. IsTextOfSteps settings.now.cost before.now steps.now (string_bytes x.text)) }
     ensures refused { IfOk result (λ x. x.refused ≡ refusal_of steps.now.outcome) }
+    ensures memory { IfErr result (λ e. e ≡ Fault.Memory) }
     ensures freed { AreTaken settings.now.cost settings.now.choice before.now steps.now → OnOk result (FreesUnkept before.now.heap steps.now.outcome) }
 {
     let mut text = String::new(alloc);
@@ -100,8 +99,9 @@ fn push_lines<R: Threads + Sync>(
     text: &mut String,
     image: Image,
     settings: &Settings,
-) -> Result<Option<Fault>, Failure>
-    ensures { string_bytes text.old ≡ [] → IfOk result (λ o. IsTextOfPause settings.now.cost settings.now.choice image (string_bytes text.new) o) }
+) -> Result<Option<Fault>, Fault>
+    ensures lines { string_bytes text.old ≡ [] → IfOk result (λ o. IsTextOfPause settings.now.cost settings.now.choice image (string_bytes text.new) o) }
+    ensures memory { IfErr result (λ e. e ≡ Fault.Memory) }
 {
     push_heading(text, &image)?;
     match verify(rt, alloc, image) {
@@ -117,8 +117,9 @@ fn push_tracked<R: Threads + Sync>(
     text: &mut String,
     tracked: &Tracked,
     settings: &Settings,
-) -> Result<Option<Fault>, Failure>
-    ensures { string_bytes text.old ≡ line_text (heading tracked.now) → IfOk result (λ o. IsTextOfPause settings.now.cost settings.now.choice tracked.now (string_bytes text.new) o) }
+) -> Result<Option<Fault>, Fault>
+    ensures lines { string_bytes text.old ≡ line_text (heading tracked.now) → IfOk result (λ o. IsTextOfPause settings.now.cost settings.now.choice tracked.now (string_bytes text.new) o) }
+    ensures memory { IfErr result (λ e. e ≡ Fault.Memory) }
 {
     let before = Before::new(rt, alloc, tracked, settings.workers())?;
     // It states to the prover that the image is covered.
@@ -145,9 +146,9 @@ fn push_map_lines<R: Threads + Sync>(
     text: &mut String,
     image: Image,
     settings: &Settings,
-) -> Result<Option<Fault>, Failure>
+) -> Result<Option<Fault>, Fault>
     ensures map { string_bytes text.old ≡ [] → IfOk result (λ o. IsMapOfPause settings.now.cost settings.now.choice image (string_bytes text.new) o) }
-    ensures memory { IfErr result (λ e. e ≡ OfFault Fault.Memory) }
+    ensures memory { IfErr result (λ e. e ≡ Fault.Memory) }
 {
     match verify(rt, alloc, image) {
         Ok(tracked) => map_tracked(rt, alloc, text, &tracked, settings),
@@ -161,9 +162,9 @@ fn map_tracked<R: Threads + Sync>(
     text: &mut String,
     tracked: &Tracked,
     settings: &Settings,
-) -> Result<Option<Fault>, Failure>
+) -> Result<Option<Fault>, Fault>
     ensures map { string_bytes text.old ≡ [] → IfOk result (λ o. IsMapOfPause settings.now.cost settings.now.choice tracked.now (string_bytes text.new) o) }
-    ensures memory { IfErr result (λ e. e ≡ OfFault Fault.Memory) }
+    ensures memory { IfErr result (λ e. e ≡ Fault.Memory) }
 {
     let before = Before::new(rt, alloc, tracked, settings.workers())?;
     // It states to the prover that the image is covered.
@@ -179,9 +180,9 @@ fn map_steps(
     before: &Before<'_>,
     settings: &Settings,
     steps: &Steps,
-) -> Result<Option<Fault>, Failure>
+) -> Result<Option<Fault>, Fault>
     ensures map { string_bytes text.old ≡ [] → Covered before.now → AreStepsOf settings.now.cost settings.now.choice before.now steps.now → IfOk result (λ o. IsMapOfPause settings.now.cost settings.now.choice before.now (string_bytes text.new) o) }
-    ensures memory { IfErr result (λ e. e ≡ OfFault Fault.Memory) }
+    ensures memory { IfErr result (λ e. e ≡ Fault.Memory) }
 {
     match &steps.outcome {
         Outcome::NoRoom { need, free, .. } => {
@@ -198,13 +199,13 @@ fn map_steps(
 }
 
 // The fault for which a pause is refused. Running out of memory is none.
-fn refuse(fault: Fault) -> Result<Option<Fault>, Failure>
+fn refuse(fault: Fault) -> Result<Option<Fault>, Fault>
     ensures fault { IfOk result (λ o. o ≡ Some fault) }
     ensures no_memory { IfOk result (λ _. fault ≢ Fault.Memory) }
-    ensures memory { IfErr result (λ e. e ≡ OfFault Fault.Memory) }
+    ensures memory { IfErr result (λ e. e ≡ Fault.Memory) }
 {
     match fault {
-        Fault::Memory => Err(Failure::Fault(fault)),
+        Fault::Memory => Err(fault),
         _ => Ok(Some(fault)),
     }
 }

@@ -1,14 +1,13 @@
 //! What finds each object: the first reference to it, in the order of the search.
-ghost use Rattle.std.specs.Prelude.{◌≡◌, ◌≤◌, ◌++◌, ℕ, List, flat_map, length, slice_index, string_bytes, OnOk, IfOk};
+ghost use Rattle.std.specs.Prelude.{◌≡◌, ◌≤◌, ◌⊎◌, ◌++◌, ℕ, List, flat_map, length, min, slice_index, string_bytes, OnOk, IfOk};
 ghost use Rattle.std.specs.List.{range_with_len};
 ghost use Rattle.g1_words.specs.Heap.{word};
 ghost use Rattle.g1_text.specs.Lines.{line_text, text_of};
 ghost use Rattle.g1_explain.specs.declared.finder.Finder.TheVariants.{Card};
 ghost use Rattle.g1_explain.specs.Finders.{lead, root_leads, found_leads};
-ghost use Rattle.g1_explain.specs.Searched.{AreObjects, AreMet, IsSearch, finder_at, is_next, met, card_leads, slots_leads};
+ghost use Rattle.g1_explain.specs.Searched.{AreObjects, AreMet, AreEnough, IsSearch, finder_at, is_next, met, card_leads, slots_leads};
 ghost use Rattle.g1_explain.specs.Survivors.{survivor_line, survivor_lines};
 
-use crate::failure::Failure;
 use crate::finder::{Finder, push_found, push_object};
 use crate::objects::slots_at;
 use crate::walkable::Walkable;
@@ -16,25 +15,17 @@ use g1_words::Heap;
 use std::alloc::{AllocError, Global};
 
 /// Adds a line for each survivor: its numbers, and what finds it.
-///
-/// # Errors
-///
-/// `Failure::Contradiction` if these cards lead to other survivors.
 pub(crate) fn push_survivors(
     alloc: Global,
     text: &mut String,
     walkable: &Walkable<'_>,
     cards: &[u32],
     survivors: &[u64],
-) -> Result<(), Failure>
-    ensures lines { (set : List ℕ) → IsSearch walkable.now.heap set cards.now survivors.now → OnOk result (string_bytes text.new ≡ string_bytes text.old ++ text_of (survivor_lines walkable.now.heap set survivors.now)) }
+) -> Result<(), AllocError>
+    ensures { (set : List ℕ) → IsSearch walkable.now.heap set cards.now survivors.now → OnOk result (string_bytes text.new ≡ string_bytes text.old ++ text_of (survivor_lines walkable.now.heap set survivors.now)) }
 {
     let finders = finders(alloc, walkable, cards, survivors, survivors.len())?;
-    if finders.len() < survivors.len() {
-        return Err(Failure::Contradiction);
-    }
-    push_finders(text, walkable.heap(), survivors, &finders)?;
-    Ok(())
+    push_finders(text, walkable.heap(), survivors, &finders)
 }
 
 fn push_finders(
@@ -43,10 +34,9 @@ fn push_finders(
     survivors: &[u64],
     finders: &[Finder],
 ) -> Result<(), AllocError>
-    requires { length survivors.now ≤ length finders.now }
-    ensures { OnOk result (string_bytes text.new ≡ string_bytes text.old ++ flat_map (λ j. line_text (survivor_line heap.now (record { finder = finder_at finders.now j; target = slice_index survivors.now j }))) (range_with_len 0 (length survivors.now))) }
+    ensures { OnOk result (string_bytes text.new ≡ string_bytes text.old ++ flat_map (λ j. line_text (survivor_line heap.now (record { finder = finder_at finders.now j; target = slice_index survivors.now j }))) (range_with_len 0 (min (length survivors.now) (length finders.now)))) }
 {
-    for index in 0..survivors.len() {
+    for index in 0..survivors.len().min(finders.len()) {
         push_survivor(text, heap, survivors[index], finders[index])?;
     }
     Ok(())
@@ -69,7 +59,8 @@ pub(crate) fn finders(
     found: &[u64],
     wanted: usize,
 ) -> Result<Vec<Finder>, AllocError>
-    ensures { AreObjects walkable.now.heap found.now → IfOk result (λ v. AreMet walkable.now.heap cards.now found.now v.items) }
+    ensures met { AreObjects walkable.now.heap found.now → IfOk result (λ v. AreMet walkable.now.heap cards.now found.now v.items) }
+    ensures enough { AreObjects walkable.now.heap found.now → IfOk result (λ v. AreEnough walkable.now.heap cards.now found.now wanted v.items) }
 {
     let heap = walkable.heap();
     let mut finders = Vec::with_capacity(alloc, wanted)?;
@@ -152,7 +143,7 @@ fn meet_objects(
     wanted: usize,
     finders: &mut Vec<Finder>,
 ) -> Result<(), AllocError>
-    ensures { AreObjects heap.now found.now → OnOk result ((m : ℕ) × (m ≤ length found.now) × (finders.new.items ≡ met found.now finders.old.items (found_leads heap.now found.now m))) }
+    ensures { AreObjects heap.now found.now → OnOk result ((m : ℕ) × (m ≤ length found.now) × ((m ≡ length found.now) ⊎ (wanted ≤ length finders.new.items)) × (finders.new.items ≡ met found.now finders.old.items (found_leads heap.now found.now m))) }
 {
     let mut index = 0;
     'objects: while index < found.len() && finders.len() < wanted {

@@ -12,7 +12,6 @@ ghost use Rattle.g1_explain.specs.Humongous.{run, run_end, kept_line, freed_line
 ghost use Rattle.g1_explain.specs.Keepers.{AreKept, leads_in, leads_at, leads_on, leads_by_cards, all_leads, first_keeper, is_nothing, kept_by, is_apart, keepers_of};
 ghost use Rattle.g1_explain.specs.Searched.{AreObjects, slots_leads};
 
-use crate::failure::Failure;
 use crate::finder::{Finder, push_found};
 use crate::objects::slots_at;
 use crate::walkable::Walkable;
@@ -237,19 +236,14 @@ fn keep_by_slots(heap: &Heap, index: usize, at: u64, slots: &[u64], keepers: &mu
 }
 
 /// Adds a line for each humongous object: what keeps it, or the regions that are freed with it.
-///
-/// # Errors
-///
-/// `Failure::Contradiction` if the objects that nothing keeps aren't those that are freed.
 pub(crate) fn push_humongous(
     text: &mut String,
     heap: &Heap,
     keepers: &[Keeper],
-    freed: &[u32],
-) -> Result<(), Failure>
+) -> Result<(), AllocError>
     ensures { OnOk result (string_bytes text.new ≡ string_bytes text.old ++ text_of (humongous_lines heap.now keepers.now)) }
 {
-    push_fates(text, heap, heap.geometry().regions() as u32, keepers, freed)
+    push_fates(text, heap, heap.geometry().regions() as u32, keepers)
 }
 
 // The lines of the objects that begin in the first regions.
@@ -258,14 +252,12 @@ fn push_fates(
     heap: &Heap,
     count: u32,
     keepers: &[Keeper],
-    freed: &[u32],
-) -> Result<(), Failure>
+) -> Result<(), AllocError>
     ensures { OnOk result (string_bytes text.new ≡ string_bytes text.old ++ text_of (flat_map (λ r. fate_lines heap.now r (slice_index_or keepers.now r NoKeeper)) (range_with_len 0 count))) }
 {
     for region in 0..count {
         let keeper = keeper_of(keepers, region);
-        let is_freed = freed.binary_search(&region).is_ok();
-        push_fate(text, heap, region, keeper, is_freed)?;
+        push_fate(text, heap, region, keeper)?;
     }
     Ok(())
 }
@@ -281,21 +273,14 @@ fn keeper_of(keepers: &[Keeper], region: u32) -> Keeper
 }
 
 // The line of the humongous object of a region, if one begins there.
-fn push_fate(
-    text: &mut String,
-    heap: &Heap,
-    region: u32,
-    keeper: Keeper,
-    is_freed: bool,
-) -> Result<(), Failure>
+fn push_fate(text: &mut String, heap: &Heap, region: u32, keeper: Keeper) -> Result<(), AllocError>
     ensures { OnOk result (string_bytes text.new ≡ string_bytes text.old ++ text_of (fate_lines heap.now region keeper)) }
 {
     let at = heap.geometry().start(region);
     match keeper {
         Keeper::NoObject => Ok(()),
-        Keeper::By(finder) if !is_freed => Ok(push_kept(text, at, finder)?),
-        Keeper::Nothing if is_freed => Ok(push_freed(text, heap, region, at)?),
-        Keeper::By(_) | Keeper::Nothing => Err(Failure::Contradiction),
+        Keeper::Nothing => push_freed(text, heap, region, at),
+        Keeper::By(finder) => push_kept(text, at, finder),
     }
 }
 

@@ -1,7 +1,6 @@
 //! What keeps an object.
-ghost use Rattle.std.specs.Prelude.{◌≡◌, ◌<◌, ◌+◌, ◌∷◌, ℕ, true, suc, List, length, slice_index, string_bytes, Contains, IfSome, IfNone, IfOk};
-ghost use Rattle.g1_words.specs.declared.object.Object.{Object as ObjectOf};
-ghost use Rattle.g1_words.specs.Heap.{word, objects, card_of, kind, region_of, is_first};
+ghost use Rattle.std.specs.Prelude.{◌≡◌, ◌≤◌, ◌<◌, ◌^◌, ℕ, true, false, suc, List, length, slice_index, string_bytes, Contains, IfSome, IfNone, IfOk, IfErr};
+ghost use Rattle.g1_words.specs.Heap.{objects, card_of, kind, region_of, is_first};
 ghost use Rattle.g1_words.specs.Live.{Live};
 ghost use Rattle.g1_words.specs.Valid.{IsSlotOf};
 ghost use Rattle.g1_image.specs.Cards.{exact};
@@ -9,15 +8,13 @@ ghost use Rattle.g1_text.specs.Lines.{text_of};
 ghost use Rattle.g1_same.specs.Path.{LeadsTo};
 ghost use Rattle.g1_explain.specs.declared.finder.Finder.TheVariants.{Card};
 ghost use Rattle.g1_explain.specs.declared.paths.Entry.{Entry};
-ghost use Rattle.g1_explain.specs.declared.paths.Leg.{Leg as LegOf};
 ghost use Rattle.g1_explain.specs.declared.paths.Reason.{Reason};
 ghost use Rattle.g1_explain.specs.declared.paths.Reason.TheVariants as reason;
-ghost use Rattle.g1_explain.specs.Searched.{AreObjects, IsFoundPath, IsRoute, before, finder_at};
-ghost use Rattle.g1_explain.specs.Keeping.{IsReason, AreLegs, IsFirst, IsEntry, IsUnrooted, path_of};
+ghost use Rattle.g1_explain.specs.Searched.{AreObjects, IsSearch, IsFoundPath, IsRoute, before, finder_at};
+ghost use Rattle.g1_explain.specs.Keeping.{IsReason, IsReasonFault, AreLegs, IsFirst, IsEntry, IsUnrooted, IsReferring, StartsAtSlot, path_of};
 ghost use Rattle.g1_explain.specs.Lines.{reason_lines};
 
 use crate::cards::mark_regions;
-use crate::failure::Failure;
 use crate::finder::Finder;
 use crate::finders::finders;
 use crate::humongous::card_keeper;
@@ -27,9 +24,9 @@ use g1_frontier::discover;
 use g1_image::Image;
 use g1_mark::live_objects;
 use g1_rem::{Starts, cards_into_region};
-use g1_words::{Heap, Object, card_of, object_at, region_of};
+use g1_words::{Fault, Heap, region_of};
 use g1_work::{Open, Team};
-use std::alloc::Global;
+use std::alloc::{AllocError, Global};
 use std::thread::Threads;
 
 // One thread searches.
@@ -43,15 +40,10 @@ const CHUNK: u64 = 64;
 /// # Errors
 ///
 /// `Fault::Uncovered` with the lowest slot that leads into the object's region from another one and isn't
-/// covered, if no root leads to the object; `Fault::Memory`; `Failure::Contradiction` if the references don't
-/// lead to what the search found.
-pub fn why<R: Threads + Sync>(
-    rt: &R,
-    alloc: Global,
-    image: Image,
-    at: u64,
-) -> Result<String, Failure>
+/// covered, if no root leads to the object; `Fault::Memory`.
+pub fn why<R: Threads + Sync>(rt: &R, alloc: Global, image: Image, at: u64) -> Result<String, Fault>
     ensures lines { IfOk result (λ s. (r : Reason) × IsReason image at r × (string_bytes s ≡ text_of (reason_lines image at r))) }
+    ensures fault { IfErr result (IsReasonFault image at) }
 {
     lines_of(rt, alloc, &image, at)
 }
@@ -61,8 +53,9 @@ fn lines_of<R: Threads + Sync>(
     alloc: Global,
     image: &Image,
     at: u64,
-) -> Result<String, Failure>
+) -> Result<String, Fault>
     ensures lines { IfOk result (λ s. (r : Reason) × IsReason image.now at r × (string_bytes s ≡ text_of (reason_lines image.now at r))) }
+    ensures fault { IfErr result (IsReasonFault image.now at) }
 {
     let reason = reason_of(rt, alloc, image, at)?;
     let mut text = String::new(alloc);
@@ -76,8 +69,9 @@ fn reason_of<R: Threads + Sync>(
     alloc: Global,
     image: &Image,
     at: u64,
-) -> Result<Reason, Failure>
-    ensures { IfOk result (λ r. IsReason image.now at r) }
+) -> Result<Reason, Fault>
+    ensures reason { IfOk result (λ r. IsReason image.now at r) }
+    ensures fault { IfErr result (IsReasonFault image.now at) }
 {
     let starts = Starts::build(alloc, image.heap())?;
     let walkable = Walkable {
@@ -96,9 +90,10 @@ fn live_path<R: Threads + Sync>(
     alloc: Global,
     walkable: &Walkable<'_>,
     at: u64,
-) -> Result<Option<Vec<Leg>>, Failure>
+) -> Result<Option<Vec<Leg>>, Fault>
     ensures some { IfOk result (λ o. IfSome o (λ v. AreLegs walkable.now.heap v.items at × IsFirst (λ p. LeadsTo walkable.now.heap p (suc at)) (path_of v.items))) }
     ensures none { IfOk result (λ o. IfNone o (Live walkable.now.heap at → ⊥)) }
+    ensures memory { IfErr result (λ e. e ≡ Fault.Memory) }
 {
     let team = Team::new(WORKERS, CHUNK);
     let heap = walkable.heap();
@@ -114,10 +109,12 @@ fn path_to(
     cards: &[u32],
     found: &[u64],
     at: u64,
-) -> Result<Option<Vec<Leg>>, Failure>
+) -> Result<Option<Vec<Leg>>, Fault>
     requires objects { AreObjects walkable.now.heap found.now }
+    requires search { (set : List ℕ) × IsSearch walkable.now.heap set cards.now found.now }
     ensures some { IfOk result (λ o. IfSome o (λ v. IsFoundPath walkable.now.heap cards.now found.now at v.items)) }
     ensures none { IfOk result (λ o. IfNone o (Contains found.now at → ⊥)) }
+    ensures memory { IfErr result (λ e. e ≡ Fault.Memory) }
 {
     let Some(index) = index_of(found, at) else {
         return Ok(None);
@@ -146,40 +143,33 @@ fn path_back(
     found: &[u64],
     finders: &[Finder],
     index: usize,
-) -> Result<Vec<Leg>, Failure>
-    requires { index < length found.now }
+) -> Result<Vec<Leg>, AllocError>
+    requires within { index < length found.now }
+    requires found_by { index < length finders.now }
+    requires backward { (j : ℕ) → j ≤ index → before (finder_at finders.now j) ≤ j }
     ensures { IfOk result (λ v. IsRoute heap.now found.now finders.now (suc index) v.items) }
 {
     let mut path = Vec::new(alloc);
     let mut from = index + 1;
     'legs: while from > 0 {
         let place = from - 1;
-        if place >= finders.len() || place >= found.len() {
-            return Err(Failure::Contradiction);
-        }
         let finder = finders[place];
         let object = heap.words().header(found[place]);
         path.push(Leg { object, finder })?;
-        from = before(finder, place)?;
+        from = before(finder);
     }
     path.reverse();
     Ok(path)
 }
 
-// 1 more than the place of the object whose slot this finder of the object at a place is, or 0.
-fn before(finder: Finder, place: usize) -> Result<usize, Failure>
-    ensures value { IfOk result (λ from. from ≡ before finder) }
-    ensures below { IfOk result (λ from. from < place + 1) }
+// 1 more than the place of the object whose slot this finder is, or 0.
+fn before(finder: Finder) -> usize
+    requires { before finder < 2 ^ 64 }
+    ensures { result ≡ before finder }
 {
     match finder {
-        Finder::Root { .. } | Finder::Card { .. } => Ok(0),
-        Finder::Object { index, .. } => {
-            if index < place {
-                Ok(index + 1)
-            } else {
-                Err(Failure::Contradiction)
-            }
-        }
+        Finder::Root { .. } | Finder::Card { .. } => 0,
+        Finder::Object { index, .. } => index + 1,
     }
 }
 
@@ -190,14 +180,16 @@ fn dead_reason<R: Threads + Sync>(
     alloc: Global,
     walkable: &Walkable<'_>,
     at: u64,
-) -> Result<Reason, Failure>
+) -> Result<Reason, Fault>
     requires dead { Live walkable.now.heap at → ⊥ }
-    ensures { IfOk result (λ r. IsReason walkable.now at r) }
+    ensures reason { IfOk result (λ r. IsReason walkable.now at r) }
+    ensures fault { IfErr result (IsReasonFault walkable.now at) }
 {
     let heap = walkable.heap();
     let number = region_of(&heap.geometry(), at);
     if number >= heap.geometry().regions() {
-        return Err(Failure::Contradiction);
+        // No object starts there.
+        return Ok(Reason::Garbage);
     }
     let region = number as u32;
     let cards = cards_into_region(alloc, walkable.image, region)?;
@@ -216,12 +208,14 @@ fn ordinary_reason<R: Threads + Sync>(
     region: u32,
     at: u64,
     cards: &[u32],
-) -> Result<Reason, Failure>
+) -> Result<Reason, Fault>
     requires unrooted { IsUnrooted walkable.now at }
     requires within { region < walkable.now.heap.geometry.n }
     requires region { region ≡ region_of walkable.now.heap at }
+    requires plain { is_first (kind walkable.now.heap region) ≡ false }
     requires cards { cards.now ≡ exact walkable.now.heap region }
-    ensures { IfOk result (λ r. IsReason walkable.now at r) }
+    ensures reason { IfOk result (λ r. IsReason walkable.now at r) }
+    ensures memory { IfErr result (λ e. e ≡ Fault.Memory) }
 {
     let window = [region];
     let found = discover(
@@ -236,101 +230,65 @@ fn ordinary_reason<R: Threads + Sync>(
         &Open,
     )?;
     match path_to(alloc, walkable, cards, &found, at)? {
-        Some(path) => kept_by(walkable, path),
+        Some(path) => Ok(kept_by(walkable, path)),
         None => Ok(Reason::Garbage),
     }
 }
 
-// A humongous object: a slot of another object keeps it, or it is garbage.
+// A humongous object: the first slot outside that references it keeps it, or it is garbage.
 fn humongous_reason(
     alloc: Global,
     walkable: &Walkable<'_>,
     region: u32,
     at: u64,
     cards: &[u32],
-) -> Result<Reason, Failure>
+) -> Result<Reason, Fault>
     requires unrooted { IsUnrooted walkable.now at }
     requires within { region < walkable.now.heap.geometry.n }
     requires region { region ≡ region_of walkable.now.heap at }
-    requires kind { is_first (kind walkable.now.heap region) ≡ true }
+    requires large { is_first (kind walkable.now.heap region) ≡ true }
     requires cards { cards.now ≡ exact walkable.now.heap region }
-    ensures { IfOk result (λ r. IsReason walkable.now at r) }
+    ensures reason { IfOk result (λ r. IsReason walkable.now at r) }
+    ensures memory { IfErr result (λ e. e ≡ Fault.Memory) }
 {
     let heap = walkable.heap();
+    if at != heap.geometry().start(region) {
+        // No object starts there.
+        return Ok(Reason::Garbage);
+    }
     let none = mark_regions(alloc, heap, &[])?;
     match card_keeper(alloc, walkable, &none, region, cards) {
         None => Ok(Reason::Garbage),
         Some(finder) => {
-            if !leads_to(heap, finder, at) {
-                return Ok(Reason::Garbage);
-            }
             let object = heap.words().header(at);
             let path = vec![in alloc; Leg { object, finder }]?;
-            kept_by(walkable, path)
+            Ok(kept_by(walkable, path))
         }
     }
 }
 
-// Whether the slot on a card references the object at an address.
-fn leads_to(heap: &Heap, finder: Finder, at: u64) -> bool
-    ensures { result ≡ true → (p : ℕ) × (c : ℕ) × (finder ≡ Card c p) × (word heap.now p ≡ suc at) }
-{
-    match finder {
-        Finder::Card { slot, .. } => heap.words().at(slot).checked_sub(1) == Some(at),
-        Finder::Root { .. } | Finder::Object { .. } => false,
-    }
-}
-
 // That a path keeps an object, to the first leg of which a slot on a card leads.
-fn kept_by(walkable: &Walkable<'_>, path: Vec<Leg>) -> Result<Reason, Failure>
-    ensures { IfOk result (λ r. (entry : Entry) × (r ≡ reason.Kept entry path) × IsEntry walkable.now.heap entry path.items) }
+fn kept_by(walkable: &Walkable<'_>, path: Vec<Leg>) -> Reason
+    requires { StartsAtSlot walkable.now.heap path.items }
+    ensures { (entry : Entry) × (result ≡ reason.Kept entry path) × IsEntry walkable.now.heap entry path.items }
 {
-    let Some(finder) = first_finder(&path) else {
-        return Err(Failure::Contradiction);
-    };
-    let entry = entry_of(walkable, finder)?;
-    Ok(Reason::Kept(entry, path))
-}
-
-fn first_finder(path: &[Leg]) -> Option<Finder>
-    ensures { IfSome result (λ f. (object : ObjectOf) × (rest : List LegOf) × (path.now ≡ record { object = object; finder = f } ∷ rest)) }
-{
-    if path.is_empty() {
-        None
-    } else {
-        Some(path[0].finder)
-    }
+    let entry = entry_of(walkable, path[0].finder);
+    Reason::Kept(entry, path)
 }
 
 // The slot on a card, and the object that holds it.
-fn entry_of(walkable: &Walkable<'_>, finder: Finder) -> Result<Entry, Failure>
-    ensures finder { IfOk result (λ e. finder ≡ Card e.card e.slot) }
-    ensures card { IfOk result (λ e. e.card ≡ card_of walkable.now.heap e.slot) }
-    ensures holder { IfOk result (λ e. Contains (objects walkable.now.heap) e.holder × IsSlotOf e.holder e.slot) }
+fn entry_of(walkable: &Walkable<'_>, finder: Finder) -> Entry
+    requires { (slot : ℕ) × (finder ≡ Card (card_of walkable.now.heap slot) slot) × IsReferring walkable.now.heap slot }
+    ensures finder { finder ≡ Card result.card result.slot }
+    ensures card { result.card ≡ card_of walkable.now.heap result.slot }
+    ensures holder { Contains (objects walkable.now.heap) result.holder × IsSlotOf result.holder result.slot }
 {
-    let Finder::Card { card, slot } = finder else {
-        return Err(Failure::Contradiction);
-    };
-    let heap = walkable.heap();
-    let Some(holder) = holder_of(walkable, card, slot) else {
-        return Err(Failure::Contradiction);
-    };
-    if card_of(&heap.geometry(), slot) == u64::from(card) {
-        Ok(Entry { card, slot, holder })
-    } else {
-        Err(Failure::Contradiction)
-    }
-}
-
-// The object that holds a slot on a card.
-fn holder_of(walkable: &Walkable<'_>, card: u32, slot: u64) -> Option<Object>
-    ensures { IfSome result (λ o. Contains (objects walkable.now.heap) o × IsSlotOf o slot) }
-{
-    let at = walkable.holder(card, slot)?;
-    let object = object_at(walkable.heap(), at)?;
-    if object.at < slot && slot - object.at <= object.refs {
-        Some(object)
-    } else {
-        None
+    match finder {
+        Finder::Root { .. } | Finder::Object { .. } => unreachable!(),
+        Finder::Card { card, slot } => Entry {
+            card,
+            slot,
+            holder: walkable.holder(card, slot),
+        },
     }
 }

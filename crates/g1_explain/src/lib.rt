@@ -7,8 +7,8 @@
 //! 2. What finds a survivor is the first reference to it. The survivors are in the order of their first
 //!    references, so one pass over the references, in the order of the search, meets each in its turn:
 //!    a reference that is the first one to a survivor leads to the next one of the list.
-//! 3. What keeps a humongous object is the first reference to it, in the same order. If a survivor or a
-//!    humongous object that stays has no such reference, or one that is freed has one, there are no lines.
+//! 3. What keeps a humongous object is the first reference to it, in the same order. The pause frees exactly
+//!    those that have none.
 //! 4. `why` asks the same search for all that the roots reach, and goes back from an object to a root. If no
 //!    root leads there, it asks for the survivors of the object's region alone, from the cards that lead into
 //!    it. A slot that leads into it and isn't covered is the refusal.
@@ -18,7 +18,6 @@ mod cards;
 mod changes;
 mod choosing;
 mod explaining;
-mod failure;
 mod finder;
 mod finders;
 mod form;
@@ -33,6 +32,5 @@ mod totals;
 mod walkable;
 
 pub use explaining::{Explanation, explain, explain_steps};
-pub use failure::Failure;
 pub use form::Form;
 pub use keeping::why;

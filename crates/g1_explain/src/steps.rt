@@ -1,5 +1,5 @@
 //! The lines of a pause's steps.
-ghost use Rattle.std.specs.Prelude.{◌≡◌, ◌++◌, List, ℕ, length, string_bytes, OnOk, IfOk, All};
+ghost use Rattle.std.specs.Prelude.{◌≡◌, ◌++◌, List, ℕ, length, string_bytes, OnOk, IfOk, IfErr, All};
 ghost use Rattle.std.specs.List.Sorted.{IsStrictlyIncreasing};
 ghost use Rattle.g1_text.specs.Lines.{text_of};
 ghost use Rattle.g1_frontier.specs.Window.{AreCards, AreOutside, LeadIn};
@@ -15,7 +15,6 @@ use crate::changes::{
     free_count, kept_patches, push_heading_changes, push_patches, push_regions, push_roots,
 };
 use crate::choosing::push_bought;
-use crate::failure::Failure;
 use crate::finders::push_survivors;
 use crate::humongous::{keepers, push_humongous};
 use crate::places::push_places;
@@ -32,16 +31,17 @@ use std::alloc::{AllocError, Global};
 ///
 /// # Errors
 ///
-/// `Fault::Memory`; `Failure::Contradiction` if the references don't lead to what the steps found.
+/// `Fault::Memory`.
 pub(crate) fn push_steps(
     alloc: Global,
     text: &mut String,
     before: &Before<'_>,
     settings: &Settings,
     steps: &Steps,
-) -> Result<Option<Fault>, Failure>
+) -> Result<Option<Fault>, Fault>
     ensures lines { AreTaken settings.now.cost settings.now.choice before.now steps.now → OnOk result (string_bytes text.new ≡ string_bytes text.old ++ text_of (step_lines settings.now.cost before.now steps.now)) }
     ensures refused { IfOk result (λ o. o ≡ refusal_of steps.now.outcome) }
+    ensures memory { IfErr result (λ e. e ≡ Fault.Memory) }
 {
     // It states to the prover that the image is tracked.
     let _ = before.image();
@@ -64,9 +64,10 @@ fn push_outcome(
     before: &Before<'_>,
     cards: &[u32],
     outcome: &Outcome,
-) -> Result<Option<Fault>, Failure>
+) -> Result<Option<Fault>, Fault>
     ensures lines { (set : List ℕ) → AreCards before.now.heap cards.now → AreOutside before.now.heap set cards.now → LeadIn before.now.heap set cards.now → IsOutcome before.now set outcome.now → OnOk result (string_bytes text.new ≡ string_bytes text.old ++ text_of (outcome_lines before.now set (length cards.now) outcome.now)) }
     ensures refused { IfOk result (λ o. o ≡ refusal_of outcome.now) }
+    ensures memory { IfErr result (λ e. e ≡ Fault.Memory) }
 {
     match outcome {
         Outcome::NoRoom {
@@ -89,9 +90,10 @@ fn push_lacking(
     survivors: &Vec<u64>,
     need: u64,
     free: u64,
-) -> Result<Option<Fault>, Failure>
+) -> Result<Option<Fault>, Fault>
     ensures lines { (set : List ℕ) → AreCards before.now.heap cards.now → AreOutside before.now.heap set cards.now → LeadIn before.now.heap set cards.now → IsOutcome before.now set (NoRoom survivors.now need free) → OnOk result (string_bytes text.new ≡ string_bytes text.old ++ text_of (outcome_lines before.now set (length cards.now) (NoRoom survivors.now need free))) }
     ensures refused { IfOk result (λ o. o ≡ refusal_of (NoRoom survivors.now need free)) }
+    ensures memory { IfErr result (λ e. e ≡ Fault.Memory) }
 {
     let walkable = Walkable::of(before);
     push_survivors(alloc, text, &walkable, cards, survivors)?;
@@ -106,9 +108,10 @@ fn push_made(
     cards: &[u32],
     plan: &Plan,
     prepared: &Prepared,
-) -> Result<Option<Fault>, Failure>
+) -> Result<Option<Fault>, Fault>
     ensures lines { (set : List ℕ) → AreCards before.now.heap cards.now → AreOutside before.now.heap set cards.now → LeadIn before.now.heap set cards.now → IsOutcome before.now set (Ready plan.now prepared.now) → OnOk result (string_bytes text.new ≡ string_bytes text.old ++ text_of (outcome_lines before.now set (length cards.now) (Ready plan.now prepared.now))) }
     ensures refused { IfOk result (λ o. o ≡ refusal_of (Ready plan.now prepared.now)) }
+    ensures memory { IfErr result (λ e. e ≡ Fault.Memory) }
 {
     let walkable = Walkable::of(before);
     push_survivors(alloc, text, &walkable, cards, plan.survivors())?;
@@ -124,14 +127,14 @@ fn push_ready(
     cards: &[u32],
     plan: &Plan,
     prepared: &Prepared,
-) -> Result<(), Failure>
+) -> Result<(), AllocError>
     ensures { (set : List ℕ) → IsPauseOf before.now.heap set plan.now → All IsStrictlyIncreasing prepared.now.remembered → OnOk result (string_bytes text.new ≡ string_bytes text.old ++ text_of (ready_lines before.now (length cards.now) plan.now prepared.now)) }
 {
     let heap = before.image().heap();
     let patches = kept_patches(alloc, heap, prepared)?;
     push_room(text, plan.need(), free_count(heap.regions()))?;
     push_moves(text, heap, plan, prepared, &patches)?;
-    push_humongous_objects(alloc, text, before, plan, prepared)?;
+    push_humongous_objects(alloc, text, before, plan)?;
     push_table_changes(alloc, text, before, prepared)?;
     let written = Written {
         plan,
@@ -139,8 +142,7 @@ fn push_ready(
         cards: cards.len(),
         slots: patches.len(),
     };
-    push_totals(text, heap, &written)?;
-    Ok(())
+    push_totals(text, heap, &written)
 }
 
 // Adds the lines of where the survivors go, and of the roots and slots that reference them.
@@ -179,8 +181,7 @@ fn push_humongous_objects(
     text: &mut String,
     before: &Before<'_>,
     plan: &Plan,
-    prepared: &Prepared,
-) -> Result<(), Failure>
+) -> Result<(), AllocError>
     ensures { (set : List ℕ) → IsPauseOf before.now.heap set plan.now → OnOk result (string_bytes text.new ≡ string_bytes text.old ++ text_of (humongous_lines before.now.heap (keepers_of before.now.heap plan.now.set plan.now.survivors))) }
 {
     let walkable = Walkable::of(before);
@@ -193,5 +194,5 @@ fn push_humongous_objects(
         &set,
         plan.survivors(),
     )?;
-    push_humongous(text, heap, &keepers, prepared.humongous())
+    push_humongous(text, heap, &keepers)
 }

@@ -1,12 +1,11 @@
 //! What a pause writes, its totals, and its refusal.
-ghost use Rattle.std.specs.Prelude.{◌*◌, ◌≡◌, ◌≢◌, ◌++◌, Some, length, filter, string_bytes, OnOk, IfOk};
+ghost use Rattle.std.specs.Prelude.{◌*◌, ◌≡◌, ◌≢◌, ◌++◌, Some, length, filter, string_bytes, OnOk, IfOk, IfErr};
 ghost use Rattle.g1_words.specs.Heap.{is_free};
 ghost use Rattle.g1_text.specs.Lines.{line_text, further, text_of};
 ghost use Rattle.g1_explain.specs.Places.{within_64};
 ghost use Rattle.g1_explain.specs.Totals.{room_line, refusal_lines, totals_line, counts_words};
 
 use crate::changes::free_count;
-use crate::failure::Failure;
 use g1_copy::Prepared;
 use g1_layout::Plan;
 use g1_words::{Fault, Heap};
@@ -31,13 +30,14 @@ pub(crate) fn push_room(text: &mut String, need: u64, free: u64) -> Result<(), A
 }
 
 /// Adds the refusal of a pause, and returns its fault. Running out of memory is none.
-pub(crate) fn push_refusal(text: &mut String, fault: Fault) -> Result<Option<Fault>, Failure>
+pub(crate) fn push_refusal(text: &mut String, fault: Fault) -> Result<Option<Fault>, Fault>
     ensures lines { OnOk result (string_bytes text.new ≡ string_bytes text.old ++ text_of (refusal_lines fault)) }
     ensures fault { IfOk result (λ o. o ≡ Some fault) }
     ensures no_memory { IfOk result (λ _. fault ≢ Fault.Memory) }
+    ensures memory { IfErr result (λ e. e ≡ Fault.Memory) }
 {
     if fault == Fault::Memory {
-        return Err(Failure::Fault(fault));
+        return Err(fault);
     }
     if let Fault::Room { need, free } = fault {
         push_room(text, need, free)?;

@@ -1,12 +1,15 @@
 //! A heap whose objects can be found from its cards.
-ghost use Rattle.std.specs.Prelude.{◌≡◌, ◌<◌};
+ghost use Rattle.std.specs.Prelude.{◌≡◌, ◌<◌, Contains};
+ghost use Rattle.g1_words.specs.Heap.{objects, card_of};
+ghost use Rattle.g1_words.specs.Valid.{IsSlotOf};
 ghost use Rattle.g1_image.specs.Image.{IsImage};
 ghost use Rattle.g1_rem.specs.Slots.{slots_on};
+ghost use Rattle.g1_explain.specs.Keeping.{IsReferring, ReachesHolder};
 
 use g1_image::Image;
 use g1_pause::Before;
 use g1_rem::{Starts, slots_on};
-use g1_words::Heap;
+use g1_words::{Heap, Object, laws};
 use smallvec::SmallVec;
 use std::alloc::Global;
 use std::marker::Model;
@@ -60,20 +63,31 @@ impl<'a> Walkable<'a> {
     }
 
     /// The object that holds a slot on a card: from the one over the card's first word, an object at a time.
-    pub(crate) fn holder(&self, card: u32, slot: u64) -> Option<u64> {
+    pub(crate) fn holder(&self, card: u32, slot: u64) -> Object
+        requires card { card ≡ card_of self.now.heap slot }
+        requires slot { IsReferring self.now.heap slot }
+        ensures there { Contains (objects self.now.heap) result }
+        ensures holds { IsSlotOf result slot }
+    {
         let heap = self.image.heap();
-        let geometry = heap.geometry();
-        if u64::from(card) >= geometry.cards() {
-            return None;
-        }
-        let mut at = u64::from(self.starts.first(card)?);
-        for _ in 0..geometry.card_words() {
-            let next = at.saturating_add(heap.words().header(at).size);
-            if slot < next {
-                break;
-            }
-            at = next;
-        }
-        Some(at)
+        let Some(first) = self.starts.first(card) else {
+            unreachable!()
+        };
+        holder_from(heap, u64::from(first), slot)
     }
+}
+
+// The object that holds a slot, from one on that stands in the same row.
+fn holder_from(heap: &Heap, first: u64, slot: u64) -> Object
+    requires { ReachesHolder heap.now first slot }
+    ensures there { Contains (objects heap.now) result }
+    ensures holds { IsSlotOf result slot }
+{
+    laws::valid(heap);
+    let words = heap.words();
+    let mut object = words.header(first);
+    'objects: while object.at + object.size <= slot {
+        object = words.header(object.at + object.size);
+    }
+    object
 }

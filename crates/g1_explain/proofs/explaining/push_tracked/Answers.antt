@@ -7,8 +7,8 @@ use Rattle.g1_explain.specs.Steps.{AreTaken}
 use Rattle.g1_explain.proofs.Explained.{bad_set_end, taken_end}
 use Rattle.g1_explain.proofs.explaining.push_tracked.Goals as goal
 
-pub returns-in-Ok : goal.returns-in-Ok
-returns-in-Ok g c = λ head.
+pub returns-in-Ok-clause-lines : goal.returns-in-Ok-clause-lines
+returns-in-Ok-clause-lines g c = λ head.
     let s = c.args.settings.now in
     let i : Image = c.in_ok-before.before in
     let taken : AreTaken s.cost s.choice i c.in-Ok.steps =
@@ -18,8 +18,8 @@ returns-in-Ok g c = λ head.
     c.image.ensures.tracked.covered taken c.in-Ok.ensures.listed (head ∙ ap (λ (j : Image). line_text (heading j)) (sym c.in_ok-before.ensures.image))
     c.in_ok-push_covered.ensures (c.push_steps.ensures.lines taken) c.push_steps.ensures.refused)
 
-pub returns : goal.returns
-returns g c = λ head.
+pub returns-clause-lines : goal.returns-clause-lines
+returns-clause-lines g c = λ head.
     let s = c.args.settings.now in
     let i : Image = c.in_ok-before.before in
     subst (λ (j : Image). IfOk c.push_refusal.result (λ o. IsTextOfPause s.cost s.choice j (string_bytes c.push_refusal.new.text) o)) c.in_ok-before.ensures.image

@@ -10,10 +10,10 @@ use Rattle.g1_explain.proofs.humongous.push_fates.Goals as goal
 pub loop-region-preserved : goal.loop-region-preserved
 loop-region-preserved c =
     one_number_more (λ r. text_of (fate_lines c.args.heap.now r (slice_index_or c.args.keepers.now r NoObject))) (string_bytes c.args.text.now) (string_bytes c.loop-region.text)
-    (string_bytes c.push_fate.new.text) c.loop-region.region-counter c.loop-region.invariant
-    (c.in_ok-push_fate.ensures ∙ ap (λ (k : Keeper). string_bytes c.loop-region.text ++ text_of (fate_lines c.args.heap.now c.loop-region.region-counter k)) c.keeper_of-keeper.ensures)
+    (string_bytes c.push_fate.new.text) c.loop-region.region c.loop-region.invariant
+    (c.in_ok-push_fate.ensures ∙ ap (λ (k : Keeper). string_bytes c.loop-region.text ++ text_of (fate_lines c.args.heap.now c.loop-region.region k)) c.keeper_of-keeper.ensures)
 
 pub returns : goal.returns
 returns c =
-    lines_end (λ r. fate_lines c.args.heap.now r (slice_index_or c.args.keepers.now r NoObject)) (string_bytes c.args.text.now) (string_bytes c.loop-region.text) c.loop-region.region-counter
-    c.args.count (omega (arith, c.loop-region-test.false, c.loop-region.auto.region-counter-end)) c.loop-region.invariant
+    lines_end (λ r. fate_lines c.args.heap.now r (slice_index_or c.args.keepers.now r NoObject)) (string_bytes c.args.text.now) (string_bytes c.loop-region.text) c.loop-region.region
+    c.args.count (omega (arith, c.loop-region-test.false, c.loop-region.auto.region-end)) c.loop-region.invariant

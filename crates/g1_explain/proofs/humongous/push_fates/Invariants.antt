@@ -7,4 +7,4 @@ use Rattle.g1_explain.specs.Humongous.{fate_lines}
 use Rattle.g1_explain.proofs.humongous.push_fates.Given as goal
 
 abbrev pub invariant-loop-region : goal.invariant-loop-region
-invariant-loop-region l = string_bytes l.text ≡ string_bytes l.initial.text ++ flat_map (λ r. text_of (fate_lines l.heap r (slice_index_or l.keepers r NoObject))) (range_with_len 0 l.region-counter)
+invariant-loop-region l = string_bytes l.text ≡ string_bytes l.initial.text ++ flat_map (λ r. text_of (fate_lines l.heap r (slice_index_or l.keepers r NoObject))) (range_with_len 0 l.region)

@@ -3,7 +3,7 @@ use Rattle.std.specs.Prelude.{IfSome}
 use Rattle.g1_words.specs.Heap.{Heap}
 use Rattle.g1_words.specs.Survivors.{Survivors}
 use Rattle.g1_explain.specs.Searched.{IsFoundPath}
-use Rattle.g1_explain.proofs.Reasons.{found_objects, kept_reason}
+use Rattle.g1_explain.proofs.Reasons.{found_objects, kept_legs, kept_reason}
 use Rattle.g1_explain.proofs.Searched.{region_cards}
 use Rattle.g1_explain.proofs.keeping.ordinary_reason.Goals as goal
 
@@ -21,14 +21,28 @@ path_to-requires g c =
     let h : Heap = c.args.walkable.now.heap in
     let found : Survivors h (c.args.region ∷ []) c.deref.result.now =
     subst (Survivors h (c.args.region ∷ [])) (sym c.deref.ensures.value) (subst (λ (g : Heap). Survivors g (c.args.region ∷ []) c.in_ok-found.found.items) c.heap.ensures.same c.in_ok-found.ensures.ok) in
-    record { objects = found_objects h (c.args.region ∷ []) c.deref.result.now c.heap.ensures.valid.heap found }
+    let cards = region_cards h h refl c.heap.ensures.valid.heap c.args.region c.args.cards.now c.args.cards.now refl c.requires.cards in
+    record {
+      objects = found_objects h (c.args.region ∷ []) c.deref.result.now c.heap.ensures.valid.heap found;
+      search = (c.args.region ∷ [], record { rising = cards.0; outside = cards.1; lead_in = cards.2; survivors = found });
+    }
 
-pub returns-in-Some : goal.returns-in-Some
-returns-in-Some g c =
+pub kept_by-requires : goal.kept_by-requires
+kept_by-requires g c =
     let h : Heap = c.args.walkable.now.heap in
     let found : Survivors h (c.args.region ∷ []) c.deref.result.now =
     subst (Survivors h (c.args.region ∷ [])) (sym c.deref.ensures.value) (subst (λ (g : Heap). Survivors g (c.args.region ∷ []) c.in_ok-found.found.items) c.heap.ensures.same c.in_ok-found.ensures.ok) in
     let cards = region_cards h h refl c.heap.ensures.valid.heap c.args.region c.args.cards.now c.args.cards.now refl c.requires.cards in
-    kept_reason c.args.walkable.now c.heap.ensures.valid.heap c.args.at c.args.region c.requires.region c.requires.unrooted c.args.cards.now c.deref.result.now cards.0 cards.1 cards.2 found
-    c.in-Some.path c.kept_by.result
+    kept_legs c.args.walkable.now c.heap.ensures.valid.heap c.args.at c.args.region c.requires.region c.requires.unrooted c.requires.plain c.args.cards.now c.deref.result.now
+    (record { rising = cards.0; outside = cards.1; lead_in = cards.2; survivors = found }) c.in-Some.path.items
+    (subst (λ o. IfSome o (λ v. IsFoundPath h c.args.cards.now c.deref.result.now c.args.at v.items)) c.in-Some.is c.in_ok-path.ensures.some)
+
+pub returns-in-Some-clause-reason : goal.returns-in-Some-clause-reason
+returns-in-Some-clause-reason g c =
+    let h : Heap = c.args.walkable.now.heap in
+    let found : Survivors h (c.args.region ∷ []) c.deref.result.now =
+    subst (Survivors h (c.args.region ∷ [])) (sym c.deref.ensures.value) (subst (λ (g : Heap). Survivors g (c.args.region ∷ []) c.in_ok-found.found.items) c.heap.ensures.same c.in_ok-found.ensures.ok) in
+    let cards = region_cards h h refl c.heap.ensures.valid.heap c.args.region c.args.cards.now c.args.cards.now refl c.requires.cards in
+    kept_reason c.args.walkable.now c.heap.ensures.valid.heap c.args.at c.args.region c.requires.region c.requires.unrooted c.requires.plain c.args.cards.now c.deref.result.now
+    (record { rising = cards.0; outside = cards.1; lead_in = cards.2; survivors = found }) c.in-Some.path c.kept_by.result
     (subst (λ o. IfSome o (λ v. IsFoundPath h c.args.cards.now c.deref.result.now c.args.at v.items)) c.in-Some.is c.in_ok-path.ensures.some) c.kept_by.ensures

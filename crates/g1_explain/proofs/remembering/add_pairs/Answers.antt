@@ -1,4 +1,4 @@
-use Rattle.std.proofs.Common.{ℕ, ◌++◌, ap, map, ◌∙◌}
+use Rattle.std.proofs.Common.{◌++◌, ap, map, ◌∙◌}
 use Rattle.g1_text.proofs.Printed.{take_all}
 use Rattle.g1_explain.proofs.Gained.{pairs_more}
 use Rattle.g1_explain.proofs.remembering.add_pairs.Goals as goal

@@ -1,4 +1,4 @@
-use Rattle.std.proofs.Common.{◌≡◌, ◌<◌, ℕ, ◌++◌, [], List, length, map, get_or, arith, ap, ◌∙◌}
+use Rattle.std.proofs.Common.{◌≡◌, ◌<◌, ℕ, ◌++◌, [], List, length, map, get_or, arith, ◌∙◌}
 use Rattle.std.specs.Prelude.{min}
 use Rattle.g1_explain.proofs.Gained.{pairs_of, region_more, set_at, rises_there, sets_many, gained_end, firsts_rise}
 use Rattle.g1_explain.specs.Remembered.{joined}

@@ -1,4 +1,4 @@
-use Rattle.std.proofs.Common.{◌≡◌, [], All, map, flat_map}
+use Rattle.std.proofs.Common.{◌≡◌, All, map, flat_map}
 use Rattle.std.specs.List.{range_with_len}
 use Rattle.std.specs.List.Sorted.{IsStrictlyIncreasing}
 use Rattle.g1_explain.proofs.Gained.{pairs_of}

@@ -1,4 +1,4 @@
-use Rattle.std.proofs.Common.{◌≡◌, ◌<◌, ℕ, ◌++◌, [], List, length, map, get_or, arith, ap, ◌∙◌, string_bytes}
+use Rattle.std.proofs.Common.{◌≡◌, ◌<◌, ℕ, ◌++◌, [], List, length, map, get_or, arith, ◌∙◌, string_bytes}
 use Rattle.std.specs.Prelude.{min, slice_index_or}
 use Rattle.g1_text.specs.Lines.{text_of}
 use Rattle.g1_text.proofs.Printed.{one_number_more, lines_end}

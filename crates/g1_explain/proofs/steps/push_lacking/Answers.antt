@@ -13,4 +13,4 @@ returns-clause-lines c = λ set rising outside lead found.
     let search = search_there i c.of-walkable.result.heap set c.args.cards.now c.deref.result.now heap rising outside lead (subst (Survivors i.heap set) (sym c.deref.ensures.value) found.found) in
     on_ok_weaker c.push_refusal.result
     (lacking_end i set (length c.args.cards.now) (NoRoom c.args.survivors.now c.args.need c.args.free) c.args.survivors.now c.args.need c.args.free c.of-walkable.result.heap c.deref.result.now
-    (string_bytes c.args.text.now) (string_bytes c.push_survivors.new.text) (string_bytes c.push_refusal.new.text) refl heap c.deref.ensures.value (c.in_ok-push_survivors.ensures.lines set search)) c.push_refusal.ensures.lines
+    (string_bytes c.args.text.now) (string_bytes c.push_survivors.new.text) (string_bytes c.push_refusal.new.text) refl heap c.deref.ensures.value (c.in_ok-push_survivors.ensures set search)) c.push_refusal.ensures.lines
