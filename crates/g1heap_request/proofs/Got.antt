@@ -1,19 +1,20 @@
 -- What is read of the values that clap found.
-use Rattle.std.proofs.Common.{◌≡◌, ◌≢◌, ◌∙◌, ◌<◌, ◌+◌, ◌++◌, ℕ, zero, suc, List, [], ◌∷◌, length, get_or, take, map, Bool, true, false, Option, Some, None, refl, sym, ap, subst, eqb, ne_eqb, arith}
+use Rattle.std.proofs.Common.{◌≡◌, ◌≢◌, ◌∙◌, ◌<◌, ◌+◌, ◌++◌, ℕ, zero, suc, List, [], ◌∷◌, length, get_or, take, map, Bool, true, false, Option, Some, None, is_some, ◌^◌, refl, sym, ap, subst, eqb, ne_eqb, arith}
 use Rattle.std.specs.Prelude.{String, codes, option_map, unwrap_or}
 use Rattle.std.specs.Borrow.{Bor}
-use Rattle.std.specs.List.{All, IsDistinct, slice_split}
+use Rattle.std.specs.List.{All, IsDistinct, join_with_byte, slice_split}
 use Rattle.std.specs.Str.Parse.{AllDigits, digits_value}
 use Rattle.std.proofs.lemmas.List.{map-append, take_more}
-use Rattle.std.proofs.lemmas.List.Splits.{slice_split_at, slice_split_none}
+use Rattle.std.proofs.lemmas.List.Splits.{join_with_byte-slice_split, slice_split_at, slice_split_none}
 use Rattle.std.proofs.lemmas.Str.Parse.{IsNumeralModel, not_in_digits, numerals_by_value, tells_digits}
 use Rattle.std.proofs.lemmas.Str.Pattern.{IsSplitOnceResult, split_parts}
-use Rattle.clap.specs.Words.{Text, first_of, first_value, matched_of, one_text, raw_values, rows_of}
-use Rattle.g1_command.specs.Values.{IfGiven, IsNumber, texts_of}
+use Rattle.clap.specs.Words.{Row, Text, first_of, first_value, matched_of, one_text, raw_values, rows_of}
+use Rattle.g1_command.specs.Values.{IfGiven, IsBelow, IsNumber, texts_of}
 use Rattle.g1heap_request.specs.declared.dump.HeapSizes.{HeapSizes}
 use Rattle.g1heap_request.specs.declared.options.ImageAfter.{ImageAfter}
-use Rattle.g1heap_request.specs.Asks.{AreSizesIn, IsImageAfter}
+use Rattle.g1heap_request.specs.Asks.{AreSizesIn, IsBesideNone, IsImageAfter}
 use Rattle.g1_command.specs.Lists.{AreRegionsIn}
+use Rattle.g1heap_request.specs.Wrong.{AreNoSizes}
 use Rattle.clap.specs.declared.parser.matches.Found.{Found}
 use Rattle.clap.proofs.WalkLemmas.{first_value-rows, one_text-rows, raw_values-rows}
 use Rattle.g1heap_request.specs.Values.{GoesTo, IsCount, IsFlag, IsNameOf, standard}
@@ -27,6 +28,13 @@ flag_got f id b absent on off = (λ e. absent (one_text-rows f id ∙ e), λ e. 
 module _ (f : Found) (id : Text) (got : Option (Bor Text)) (is : option_map (λ s. s.now) got ≡ first_value f id) where
   pub first_got : option_map (λ s. s.now) got ≡ first_of id (rows_of f)
   first_got = is ∙ first_value-rows f id
+
+  pub given_got : is_some got ≡ is_some (first_of id (rows_of f))
+  given_got = by got ∙ ap is_some first_got
+    where
+      by : (o : Option (Bor Text)) → is_some o ≡ is_some (option_map (λ s. s.now) o)
+      by None = refl
+      by (Some s) = refl
 
   pub name_got : (d u : Bor Text) → u ≡ unwrap_or got d → d.now ≡ standard → IsNameOf (rows_of f) id u.now
   name_got d u e dash = ap (λ (s : Bor Text). s.now) e ∙ by got ∙ ap (λ o. unwrap_or o d.now) first_got ∙ ap (unwrap_or (first_of id (rows_of f))) dash
@@ -83,6 +91,10 @@ no_comma bs lacks k d lt = ne_eqb _ 44 (λ e. lacks k lt (same bs k d lt ∙ e))
     same (x ∷ xs) zero d lt = refl
     same (x ∷ xs) (suc k) d lt = same xs k d (omega (arith, lt))
 
+-- the number that a text is, is one number
+pub same_number : (m n : ℕ) (text : Text) → IsNumber m text → IsNumber n text → m ≡ n
+same_number m n text a b = sym a.1 ∙ b.1
+
 by_value : IsNumeralModel (AllDigits 10) (digits_value 10)
 by_value = numerals_by_value (AllDigits 10) tells_digits
 
@@ -98,6 +110,43 @@ three_numbers text x y h k sizes words card count =
     let alone = slice_split_none (λ b. eqb b 44) y.1.now (no_comma y.1.now (not_in_digits by_value y.1.now 44 count.0.1 (λ q. let low = q.0 in omega (arith, low)))) in
     subst (λ parts. AreSizesIn parts sizes) (sym (cut text x h ∙ ap (λ l. x.0.now ∷ l) (cut x.1.now y k ∙ ap (λ l. y.0.now ∷ l) alone))) (words, card, count)
 
+-- a text that was not cut at two commas, or has no number in one of its parts, is no sizes
+uncut : (text : Text) → IsSplitOnceResult 44 text None → slice_split (λ b. eqb b 44) text ≡ text ∷ []
+uncut text h = slice_split_none (λ b. eqb b 44) text (no_comma text (split_parts 44 text None h (omega arith)))
+
+pub one_part : (text : Text) → IsSplitOnceResult 44 text None → AreNoSizes text
+one_part text h = λ sizes s. subst (λ parts. AreSizesIn parts sizes) (uncut text h) s
+
+-- the parts of three numbers
+are_three : (a b : Text) (rest : List Text) (sizes : HeapSizes) → AreSizesIn (a ∷ b ∷ rest) sizes
+    → (c : Text) × (rest ≡ c ∷ []) × IsNumber sizes.region_words a × IsNumber sizes.card_words b × IsNumber sizes.regions c
+are_three a b [] sizes s = absurd s
+are_three a b (c ∷ []) sizes s = (c, refl, s.0, s.1, s.2)
+are_three a b (c ∷ d ∷ more) sizes s = absurd s
+
+module _ (text : Text) (x : Bor Text × Bor Text) (first : IsSplitOnceResult 44 text (Some x)) where
+  pub two_parts : IsSplitOnceResult 44 x.1.now None → AreNoSizes text
+  two_parts k = λ sizes s. subst (λ parts. AreSizesIn parts sizes) (cut text x first ∙ ap (λ l. x.0.now ∷ l) (uncut x.1.now k)) s
+
+  module _ (y : Bor Text × Bor Text) (second : IsSplitOnceResult 44 x.1.now (Some y)) where
+    three_parts : (sizes : HeapSizes) → AreSizesIn (slice_split (λ b. eqb b 44) text) sizes
+        → (c : Text) × (slice_split (λ b. eqb b 44) y.1.now ≡ c ∷ []) × IsNumber sizes.region_words x.0.now × IsNumber sizes.card_words y.0.now × IsNumber sizes.regions c
+    three_parts sizes s =
+        are_three x.0.now y.0.now (slice_split (λ b. eqb b 44) y.1.now) sizes
+        (subst (λ parts. AreSizesIn parts sizes) (cut text x first ∙ ap (λ l. x.0.now ∷ l) (cut x.1.now y second)) s)
+
+    pub no_words : (IsBelow (2 ^ 64) x.0.now → ⊥) → AreNoSizes text
+    no_words bad = λ sizes s. bad (sizes.region_words, (three_parts sizes s).2)
+
+    pub no_card : (IsBelow (2 ^ 64) y.0.now → ⊥) → AreNoSizes text
+    no_card bad = λ sizes s. bad (sizes.card_words, (three_parts sizes s).3)
+
+    pub no_regions : (IsBelow (2 ^ 64) y.1.now → ⊥) → AreNoSizes text
+    no_regions bad = λ sizes s.
+        let parts = three_parts sizes s in
+        let alone : parts.0 ≡ y.1.now = ap (join_with_byte 44) (sym parts.1) ∙ join_with_byte-slice_split 44 y.1.now in
+        bad (sizes.regions, subst (IsNumber sizes.regions) alone parts.4)
+
 -- the number and the file of an image after a command
 pub image_got : (texts : List Text) (xs : List (Bor Text)) (d e : Bor Text) → map (λ v. v.now) xs ≡ texts → length xs ≡ 2
     → (after : ImageAfter) → IsCount after.command (get_or xs 0 d).now → GoesTo (Some (get_or xs 1 e).now) after.output → IsImageAfter texts (Some after)
@@ -111,3 +160,18 @@ no_image_got texts [] is other = subst (λ ts. IsImageAfter ts None) is tt
 no_image_got texts (x ∷ []) is other = subst (λ ts. IsImageAfter ts None) is tt
 no_image_got texts (x ∷ y ∷ []) is other = absurd (other refl)
 no_image_got texts (x ∷ y ∷ z ∷ xs) is other = subst (λ ts. IsImageAfter ts None) is tt
+
+-- words that are two are those at the first two places
+pub two_texts : (texts : List Text) (xs : List (Bor Text)) (d e : Bor Text) → map (λ v. v.now) xs ≡ texts → length xs ≡ 2
+    → texts ≡ (get_or xs 0 d).now ∷ (get_or xs 1 e).now ∷ []
+two_texts texts [] d e is two = absurd (omega (arith, two))
+two_texts texts (x ∷ []) d e is two = absurd (omega (arith, two))
+two_texts texts (x ∷ y ∷ []) d e is two = sym is
+two_texts texts (x ∷ y ∷ z ∷ xs) d e is two = absurd (omega (arith, two))
+
+-- other texts than two have no file among replies
+pub not_two : (rows : List Row) (texts : List Text) (xs : List (Bor Text)) → map (λ v. v.now) xs ≡ texts → length xs ≢ 2 → IsBesideNone rows texts
+not_two rows texts [] is other = subst (IsBesideNone rows) is tt
+not_two rows texts (x ∷ []) is other = subst (IsBesideNone rows) is tt
+not_two rows texts (x ∷ y ∷ []) is other = absurd (other refl)
+not_two rows texts (x ∷ y ∷ z ∷ xs) is other = subst (IsBesideNone rows) is tt

@@ -1,6 +1,6 @@
 -- From what clap finds in the words to the request that they ask for.
 use Rattle.std.proofs.Common.{◌≡◌, ◌≢◌, ◌⊎◌, ◌∙◌, inl, inr, List, Result, Ok, Err, Some, subst, sym, ap}
-use Rattle.std.specs.Prelude.{IfOk}
+use Rattle.std.specs.Prelude.{IfErr, IfOk}
 use Rattle.std.specs.Borrow.{Bor}
 use Rattle.clap.specs.Words.{App, Row, Text, HasMatchesOf, fault_of, found_of, is_simple, rows_of, subcommand_of, subcommand_rows_of}
 use Rattle.clap.specs.Kinds.{IsAmong}
@@ -10,8 +10,9 @@ use Rattle.clap.specs.declared.parser.matches.ArgMatches.{ArgMatches}
 use Rattle.g1_command.specs.declared.refusal.Refusal.{Refusal}
 use Rattle.g1_command.specs.declared.refusal.Refusal.TheVariants as refusal
 use Rattle.g1_command.specs.declared.values.Misuse.{Misuse}
+use Rattle.g1_command.specs.declared.values.Misuse.TheVariants as misuse
 use Rattle.g1_command.specs.declared.table.Program.{Program}
-use Rattle.g1_command.specs.Values.{IsValue}
+use Rattle.g1_command.specs.Values.{Because, IsValue}
 use Rattle.g1_command.specs.Table.{program_by}
 use Rattle.g1_command.specs.Tied.{AreTied}
 use Rattle.g1_command.specs.Requests.{HasNoCommand, IsMistake, IsRead, IsSaid, IsUsageIf}
@@ -19,19 +20,21 @@ use Rattle.g1heap_request.specs.declared.options.Request.{Request}
 use Rattle.g1heap_request.specs.declared.options.Request.TheVariants as request
 use Rattle.g1heap_request.specs.Options.{g1heap}
 use Rattle.g1heap_request.specs.Asks.{Asks}
-use Rattle.g1heap_request.specs.Words.{AskedOf, IsReadAs, IsReadOf, IsRetold, IsWrongOf, StopsBy}
+use Rattle.g1heap_request.specs.Words.{AskedOf, IsReadAs, IsReadOf, IsWrongOf, StopsBy}
+use Rattle.g1heap_request.specs.Tips.{IsRetold}
 use Rattle.g1heap_request.specs.Words.IsWrongOf.{mistaken, without, valued}
+use Rattle.g1heap_request.specs.Wrong.{IsRefused}
 use Rattle.g1heap_request.proofs.Tabled.{is_simple_table}
 
 pub usage_so : {P Q : Type 0} → (P → Q) → (r : Refusal) → IsUsageIf P r → IsUsageIf Q r
 usage_so f (refusal.Told status text) h = (h.0, f h.1)
 usage_so f (refusal.Fault fault) h = h
 
-pub retold : (P : Type 0) (old new : Refusal) → IsRetold old new → IsUsageIf P old → IsUsageIf P new
-retold P (refusal.Told status text) (refusal.Told s t) h k = (h ∙ k.0, k.1)
-retold P (refusal.Told status text) (refusal.Fault fault) h k = h
-retold P (refusal.Fault old) (refusal.Told s t) h k = absurd h
-retold P (refusal.Fault old) (refusal.Fault fault) h k = h ∙ k
+pub retold : (P : Type 0) (kind : ErrorKind) (words : List Text) (old new : Refusal) → IsRetold kind words old new → IsUsageIf P old → IsUsageIf P new
+retold P kind words (refusal.Told status text) (refusal.Told s t) h k = (h.0 ∙ k.0, k.1)
+retold P kind words (refusal.Told status text) (refusal.Fault fault) h k = h
+retold P kind words (refusal.Fault old) (refusal.Told s t) h k = absurd h
+retold P kind words (refusal.Fault old) (refusal.Fault fault) h k = h ∙ k
 
 asked : (words : List Text) (name : Text) (rows : List Row) (r : Request) → subcommand_of g1heap words ≡ Some (name, rows) → Asks name rows r → AskedOf words r
 asked words name rows (request.Help text) e a = absurd a
@@ -45,16 +48,22 @@ asked words name rows (request.Trace trace) e a = (name, rows, e, a)
 asked words name rows (request.Ask ask) e a = (name, rows, e, a)
 asked words name rows (request.Rewrite rewrite) e a = (name, rows, e, a)
 
+value_wrong : {P : Type 0} (m : Misuse) → IsValue m → Because P m → P
+value_wrong misuse.Memory v h = absurd v
+value_wrong (misuse.Value message) v h = h
+
 module _ (words : List Text) (program : Program) (is : program_by program ≡ g1heap) where
   module _ (m : ArgMatches) (matches : HasMatchesOf (program_by program) words m) where
     entered : subcommand_rows_of m ≡ subcommand_of g1heap words
     entered = (matches (ap is_simple is ∙ is_simple_table)).1 ∙ ap (λ (a : App). subcommand_of a words) is
 
     module _ (Says : Bor Text → Bor ArgMatches → Result Request Misuse → Type 0)
-        (asks : (name : Bor Text) (values : Bor ArgMatches) (said : Result Request Misuse) → Says name values said → IfOk said (Asks name.now (rows_of (found_of values.now)))) where
+        (asks : (name : Bor Text) (values : Bor ArgMatches) (said : Result Request Misuse) → Says name values said → IfOk said (Asks name.now (rows_of (found_of values.now))))
+        (refuses : (name : Bor Text) (values : Bor ArgMatches) (said : Result Request Misuse) → Says name values said → IfErr said (Because (IsRefused name.now (rows_of (found_of values.now))))) where
       wrong : HasNoCommand program m ⊎ ((misuse : Misuse) × IsValue misuse × IsSaid Says program m (Err misuse)) → IsWrongOf words
       wrong (inl none) = without program is (λ name rows e listed. none name rows (record { found = entered ∙ e; listed = listed }))
-      wrong (inr (misuse, value, said)) = valued (sym entered ∙ said.command.found)
+      wrong (inr (misuse, value, said)) =
+          valued (sym entered ∙ said.command.found) (value_wrong misuse value (refuses said.name said.values (Err misuse) said.says))
 
       pub read_as : (r : Result Request Refusal) → IsRead Says program m r → IsReadOf words r
       read_as (Ok request) said = asked words _ _ request (sym entered ∙ said.command.found) (asks said.name said.values (Ok request) said.says)

@@ -3,9 +3,7 @@ use Rattle.std.specs.Prelude.{◌≡◌, List, Some, Result, Ok, Err, is_some, t
 use Rattle.clap.specs.Words.{Row, Text, fault_of, subcommand_of}
 use Rattle.clap.specs.Kinds.{IsAmong}
 use Rattle.clap.specs.declared.error.kind.ErrorKind.{ErrorKind}
-use Rattle.g1_words.specs.declared.fault.Fault.TheVariants.{Memory}
 use Rattle.g1_command.specs.declared.refusal.Refusal.{Refusal}
-use Rattle.g1_command.specs.declared.refusal.Refusal.TheVariants as refusal
 use Rattle.g1_command.specs.declared.table.Program.{Program}
 use Rattle.g1_command.specs.Table.{program_by, command_called}
 use Rattle.g1_command.specs.Tied.{AreTied}
@@ -14,6 +12,7 @@ use Rattle.g1heap_request.specs.declared.options.Request.{Request}
 use Rattle.g1heap_request.specs.declared.options.Request.TheVariants.{Help}
 use Rattle.g1heap_request.specs.Asks.{Asks}
 use Rattle.g1heap_request.specs.Options.{g1heap}
+use Rattle.g1heap_request.specs.Wrong.{IsRefused}
 
 -- clap stops at the words with an error of this kind
 abbrev pub StopsBy : List Text → ErrorKind → Type 0
@@ -25,19 +24,12 @@ AskedOf words (Help text) = (kind : ErrorKind) × StopsBy words kind × (IsMista
 AskedOf words request = (name : Text) × (rows : List Row) × (subcommand_of g1heap words ≡ Some (name, rows)) × Asks name rows request
 
 -- why such words are no request: by their mistake; without one of the program's commands; or with a command whose values are
--- refused, for reasons that are not said here
+-- refused
 pub data IsWrongOf (words : List Text) : Type 0 where
   mistaken : {kind : ErrorKind} → StopsBy words kind → IsMistake kind → IsWrongOf words
   without : (program : Program) → program_by program ≡ g1heap
       → ((name : Text) (rows : List Row) → subcommand_of g1heap words ≡ Some (name, rows) → is_some (command_called name program) ≡ true → ⊥) → IsWrongOf words
-  valued : {name : Text} {rows : List Row} → subcommand_of g1heap words ≡ Some (name, rows) → IsWrongOf words
-
--- a refusal with another text, for which memory may have been wanted
-abbrev pub IsRetold : Refusal → Refusal → Type 0
-IsRetold (refusal.Told old text) (refusal.Told status longer) = status ≡ old
-IsRetold (refusal.Told old text) (refusal.Fault fault) = fault ≡ Memory
-IsRetold (refusal.Fault old) (refusal.Fault fault) = fault ≡ old
-IsRetold _ _ = ⊥
+  valued : {name : Text} {rows : List Row} → subcommand_of g1heap words ≡ Some (name, rows) → IsRefused name rows → IsWrongOf words
 
 -- what such words are read as
 abbrev pub IsReadOf : List Text → Result Request Refusal → Type 0

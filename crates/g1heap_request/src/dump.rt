@@ -1,12 +1,15 @@
 //! What the values of `convert` ask for.
-ghost use Rattle.std.specs.Prelude.{IfOk, IfSome, codes};
+ghost use Rattle.std.specs.Prelude.{◌≡◌, ◌≢◌, IfErr, IfOk, MatchOption, OnOk, Some, codes};
 ghost use Rattle.clap.specs.Words.{first_of, found_of, rows_of};
 ghost use Rattle.g1_command.specs.Lists.{parts_of};
-ghost use Rattle.g1heap_request.specs.Values.{AreTextsOf, IsNameIfGiven};
+ghost use Rattle.g1_command.specs.Values.{Because};
+ghost use Rattle.g1heap_request.specs.Values.{AreTextsOf, IsNameIfGiven, standard};
 ghost use Rattle.g1heap_request.specs.Asks.{Asks, AreSizesIfGiven, AreSizesIn};
+ghost use Rattle.g1heap_request.specs.Wrong.{AreNoSizes, HasWrongValue, IsRefused};
 
+use crate::checks::{check_part, is_standard, refuse_if};
 use crate::options::{Request, name_if_given, name_of, output_of};
-use crate::output::{Output, STANDARD_STREAM};
+use crate::output::Output;
 use crate::usage as table;
 use clap::ArgMatches;
 use g1_command::{Argument, Misuse, whole};
@@ -59,13 +62,13 @@ static SIZES: Argument = table::SIZES;
 
 /// What the values of the command ask for.
 pub(crate) fn convert_of(alloc: Global, values: &ArgMatches<'_>) -> Result<Request, Misuse>
-    ensures { IfOk result (Asks (codes "convert") (rows_of (found_of values.now))) }
+    ensures asks { IfOk result (Asks (codes "convert") (rows_of (found_of values.now))) }
+    ensures refused { IfErr result (Because (IsRefused (codes "convert") (rows_of (found_of values.now)))) }
 {
-    let from = words_of(alloc, values, &FROM)?;
-    check_part(alloc, values, from.is_empty())?;
+    check_part(alloc, values)?;
     Ok(Request::Convert(Convert {
         dump: name_of(alloc, values, &DUMP)?,
-        from,
+        from: words_of(alloc, values, &FROM)?,
         without: words_of(alloc, values, &WITHOUT)?,
         weak: values.get_flag(WEAK.id),
         dangling_null: values.get_flag(DANGLING_NULL.id),
@@ -74,23 +77,6 @@ pub(crate) fn convert_of(alloc: Global, values: &ArgMatches<'_>) -> Result<Reque
         sizes: sizes_of(alloc, values)?,
         output: output_of(alloc, values)?,
     }))
-}
-
-// Refuses what is only for a part of a dump, if all of it is wanted.
-fn check_part(alloc: Global, values: &ArgMatches<'_>, is_whole: bool) -> Result<(), Misuse> {
-    if !is_whole {
-        return Ok(());
-    }
-    if values.get_strs(WITHOUT.id).is_some() {
-        return Err(WITHOUT.needs(alloc, &FROM)?);
-    }
-    if values.get_flag(WEAK.id) {
-        return Err(WEAK.needs(alloc, &FROM)?);
-    }
-    if values.get_flag(DANGLING_NULL.id) {
-        return Err(DANGLING_NULL.needs(alloc, &FROM)?);
-    }
-    Ok(())
 }
 
 // The values of an argument that may be given several times.
@@ -110,17 +96,18 @@ fn words_of(
 
 // The file of the names, which is none of the standard streams.
 fn names_made_of(alloc: Global, values: &ArgMatches<'_>) -> Result<Option<String>, Misuse>
-    ensures { IfOk result (IsNameIfGiven (rows_of (found_of values.now)) (codes "names")) }
+    ensures names { IfOk result (IsNameIfGiven (rows_of (found_of values.now)) (codes "names")) }
+    ensures file { OnOk result (first_of (codes "names") (rows_of (found_of values.now)) ≢ Some standard) }
+    ensures refused { IfErr result (Because (first_of (codes "names") (rows_of (found_of values.now)) ≡ Some standard)) }
 {
-    if values.get_str(NAMES_MADE.id) == Some(STANDARD_STREAM) {
-        let message = "the names need a file";
-        return Err(Misuse::Value(String::from_str(alloc, message)?));
-    }
+    let is_no_file = is_standard(values, &NAMES_MADE);
+    refuse_if(alloc, is_no_file, "the names need a file")?;
     Ok(name_if_given(alloc, values, &NAMES_MADE)?)
 }
 
 fn sizes_of(alloc: Global, values: &ArgMatches<'_>) -> Result<Option<HeapSizes>, Misuse>
-    ensures { IfOk result (AreSizesIfGiven (first_of (codes "sizes") (rows_of (found_of values.now)))) }
+    ensures sizes { IfOk result (AreSizesIfGiven (first_of (codes "sizes") (rows_of (found_of values.now)))) }
+    ensures refused { IfErr result (Because (HasWrongValue (rows_of (found_of values.now)))) }
 {
     let Some(text) = values.get_str(SIZES.id) else {
         return Ok(None);
@@ -138,7 +125,7 @@ fn sizes_of(alloc: Global, values: &ArgMatches<'_>) -> Result<Option<HeapSizes>,
 
 // Three numbers with commas between them.
 fn sizes_in(text: &str) -> Option<HeapSizes>
-    ensures { IfSome result (AreSizesIn (parts_of text.now)) }
+    ensures { MatchOption result (AreNoSizes text.now) (AreSizesIn (parts_of text.now)) }
 {
     let (region_words, rest) = text.split_once(',')?;
     let (card_words, regions) = rest.split_once(',')?;

@@ -1,13 +1,19 @@
 //! The command line.
-ghost use Rattle.std.specs.Prelude.{map, IfOk, codes, option_to_list};
+ghost use Rattle.std.specs.Prelude.{map, IfErr, IfOk, OnOk, codes, option_to_list};
 ghost use Rattle.clap.specs.Words.{Text, first_of, found_of, rows_of};
-ghost use Rattle.g1_command.specs.Values.{IfGiven, texts_of};
+ghost use Rattle.g1_command.specs.Values.{Because, IfGiven, texts_of};
 ghost use Rattle.g1_command.specs.Lists.{AreRegionsIn};
 ghost use Rattle.g1heap_request.specs.Values.{AreLimitsOf, IsCount, IsFlag, IsImageOf, IsNameIfGiven, IsNameOf, IsOutputOf};
-ghost use Rattle.g1heap_request.specs.Asks.{Asks, IsImageAfter, IsNoOther, IsPartOf};
+ghost use Rattle.g1heap_request.specs.Asks.{Asks, IsBesideNone, IsImageAfter, IsNoOther, IsPartOf};
+ghost use Rattle.g1heap_request.specs.Together.{ArePrinted, CoversYoung, FillsOfSet, NamesBoth, ReadsOnce, named};
 ghost use Rattle.g1heap_request.specs.Words.{IsReadAs, IsReadOf};
+ghost use Rattle.g1heap_request.specs.Wrong.{HasWrongValue, IsRefused};
 
 use crate::asking::{Ask, Rewrite, asked_of};
+use crate::checks::{
+    check_choice, check_compared, check_named, check_parts, exclude_flag, need, need_flag,
+    need_for_flag, refuse_if,
+};
 use crate::dump::{Convert, convert_of};
 use crate::image_file::ImageFile;
 use crate::output::{Output, STANDARD_STREAM};
@@ -17,8 +23,8 @@ use crate::usage::{commands, program};
 use clap::ArgMatches;
 use g1_choose::Cost;
 use g1_command::{
-    Argument, BUDGET as BUDGET_OPTION, Misuse, Refusal, cost_of, help_or_refusal, match_words,
-    number, number_in, read_request, region, regions_in, required_number, tie,
+    Argument, BUDGET as BUDGET_OPTION, Misuse, Refusal, cost_of, flag, help_or_refusal,
+    match_words, number, number_in, read_request, region, regions_in, required_number, tie,
 };
 use g1_words::Limits;
 use std::alloc::{AllocError, Global};
@@ -191,43 +197,10 @@ static TRACED: Argument = table::TRACED;
 
 static YOUNG: Argument = table::YOUNG;
 
-// Refuses to print two parts at once, and to print the numbers alone in hexadecimal.
-fn check_parts(alloc: Global, values: &ArgMatches<'_>) -> Result<(), Misuse> {
-    let (region, object) = (given(values, &REGION), given(values, &OBJECT));
-    let (summary, hex) = (values.get_flag(SUMMARY.id), values.get_flag(HEX.id));
-    exclude(alloc, hex & summary, &HEX, &SUMMARY)?;
-    exclude(alloc, object & region, &OBJECT, &REGION)?;
-    exclude(alloc, summary & region, &SUMMARY, &REGION)?;
-    exclude(alloc, summary & object, &SUMMARY, &OBJECT)
-}
-
-// Refuses a budget beside a set.
-pub(crate) fn check_choice(alloc: Global, values: &ArgMatches<'_>) -> Result<(), Misuse> {
-    let are_both = given(values, &BUDGET) & given(values, &SET);
-    exclude(alloc, are_both, &BUDGET, &SET)
-}
-
-// Refuses two options that exclude one another, if both are given.
-fn exclude(
-    alloc: Global,
-    are_both: bool,
-    argument: &Argument,
-    other: &Argument,
-) -> Result<(), Misuse> {
-    if !are_both {
-        return Ok(());
-    }
-    let shown = argument.shown(alloc)?;
-    let other = other.shown(alloc)?;
-    Err(Misuse::Value(format!(in alloc; "the argument '{shown}' cannot be used with '{other}'")?))
-}
-
-fn given(values: &ArgMatches<'_>, argument: &Argument) -> bool {
-    values.get_str(argument.id).is_some()
-}
-
 fn part_of(alloc: Global, values: &ArgMatches<'_>) -> Result<Part, Misuse>
-    ensures { IfOk result (IsPartOf (rows_of (found_of values.now))) }
+    ensures part { IfOk result (IsPartOf (rows_of (found_of values.now))) }
+    ensures printed { OnOk result (ArePrinted (rows_of (found_of values.now))) }
+    ensures refused { IfErr result (Because (HasWrongValue (rows_of (found_of values.now)))) }
 {
     check_parts(alloc, values)?;
     if values.get_flag(SUMMARY.id) {
@@ -258,7 +231,8 @@ pub(crate) fn name_of(
 
 // The image that is read, which is on standard input if none is named.
 pub(crate) fn image_of(alloc: Global, values: &ArgMatches<'_>) -> Result<ImageFile, Misuse>
-    ensures { IfOk result (IsImageOf (rows_of (found_of values.now))) }
+    ensures image { IfOk result (IsImageOf (rows_of (found_of values.now))) }
+    ensures refused { IfErr result (Because (HasWrongValue (rows_of (found_of values.now)))) }
 {
     Ok(ImageFile {
         name: name_of(alloc, values, &IMAGE)?,
@@ -267,7 +241,8 @@ pub(crate) fn image_of(alloc: Global, values: &ArgMatches<'_>) -> Result<ImageFi
 }
 
 fn limits_of(alloc: Global, values: &ArgMatches<'_>) -> Result<Limits, Misuse>
-    ensures { IfOk result (AreLimitsOf (rows_of (found_of values.now))) }
+    ensures limits { IfOk result (AreLimitsOf (rows_of (found_of values.now))) }
+    ensures refused { IfErr result (Because (HasWrongValue (rows_of (found_of values.now)))) }
 {
     match values.get_str(LIMITS.id) {
         None => Ok(Limits::Wide),
@@ -299,29 +274,9 @@ pub(crate) fn output_of(alloc: Global, values: &ArgMatches<'_>) -> Result<Output
     Output::of_name(alloc, values.get_str(OUTPUT.id))
 }
 
-// Refuses to read standard input for two of the files.
-fn check_streams(alloc: Global, values: &ArgMatches<'_>) -> Result<(), Misuse> {
-    let (before, after) = (is_standard(values, &BEFORE), is_standard(values, &AFTER));
-    let (names, others) = (
-        is_standard(values, &NAMES),
-        is_standard(values, &NAMES_AFTER),
-    );
-    let message = if before && after {
-        "only one of the images can be standard input"
-    } else if names && others || (names || others) && (before || after) {
-        "only one of the files can be standard input"
-    } else {
-        return Ok(());
-    };
-    Err(Misuse::Value(String::from_str(alloc, message)?))
-}
-
-fn is_standard(values: &ArgMatches<'_>, argument: &Argument) -> bool {
-    values.get_str(argument.id) == Some(STANDARD_STREAM)
-}
-
 fn all_of(alloc: Global, values: &ArgMatches<'_>) -> Result<Option<u64>, Misuse>
-    ensures { IfOk result (IfGiven IsCount (first_of (codes "all") (rows_of (found_of values.now)))) }
+    ensures count { IfOk result (IfGiven IsCount (first_of (codes "all") (rows_of (found_of values.now)))) }
+    ensures refused { IfErr result (Because (HasWrongValue (rows_of (found_of values.now)))) }
 {
     match number(alloc, values, &ALL)? {
         Some(0) => Err(ALL.refuse(alloc, "0")?),
@@ -331,17 +286,20 @@ fn all_of(alloc: Global, values: &ArgMatches<'_>) -> Result<Option<u64>, Misuse>
 }
 
 fn young_of(alloc: Global, values: &ArgMatches<'_>) -> Result<Vec<u32>, Misuse>
-    ensures { IfOk result (λ v. AreRegionsIn (option_to_list (first_of (codes "young") (rows_of (found_of values.now)))) v.items) }
+    ensures young { IfOk result (λ v. AreRegionsIn (option_to_list (first_of (codes "young") (rows_of (found_of values.now)))) v.items) }
+    ensures covers { OnOk result (CoversYoung (rows_of (found_of values.now))) }
+    ensures refused { IfErr result (Because (HasWrongValue (rows_of (found_of values.now)))) }
 {
+    need_flag(alloc, values, &YOUNG, &COVERED)?;
     match values.get_str(YOUNG.id) {
         None => Ok(Vec::new(alloc)),
-        Some(_) if !values.get_flag(COVERED.id) => Err(YOUNG.needs(alloc, &COVERED)?),
         Some(list) => regions_in(alloc, &YOUNG, &[list]),
     }
 }
 
 pub(crate) fn set_of(alloc: Global, values: &ArgMatches<'_>) -> Result<Vec<u32>, Misuse>
-    ensures { IfOk result (λ v. AreRegionsIn (texts_of (rows_of (found_of values.now)) (codes "set")) v.items) }
+    ensures set { IfOk result (λ v. AreRegionsIn (texts_of (rows_of (found_of values.now)) (codes "set")) v.items) }
+    ensures refused { IfErr result (Because (HasWrongValue (rows_of (found_of values.now)))) }
 {
     match values.get_strs(SET.id) {
         Some(lists) => regions_in(alloc, &SET, lists),
@@ -351,41 +309,39 @@ pub(crate) fn set_of(alloc: Global, values: &ArgMatches<'_>) -> Result<Vec<u32>,
 
 // Whether copies may fill regions, which only a set gives a meaning.
 fn fill_of(alloc: Global, values: &ArgMatches<'_>) -> Result<bool, Misuse>
-    ensures { IfOk result (IsFlag (rows_of (found_of values.now)) (codes "fill")) }
+    ensures fill { IfOk result (IsFlag (rows_of (found_of values.now)) (codes "fill")) }
+    ensures of_set { OnOk result (FillsOfSet (rows_of (found_of values.now))) }
+    ensures refused { IfErr result (Because (HasWrongValue (rows_of (found_of values.now)))) }
 {
-    let fill = values.get_flag(FILL.id);
-    if fill && values.get_strs(SET.id).is_none() {
-        return Err(FILL.needs(alloc, &SET)?);
-    }
-    Ok(fill)
+    need_for_flag(alloc, values, &FILL, &SET)?;
+    Ok(values.get_flag(FILL.id))
 }
 
 // The names for an image, which are not on standard input if that is.
 fn names_beside(alloc: Global, values: &ArgMatches<'_>) -> Result<Option<String>, Misuse>
-    ensures { IfOk result (IsNameIfGiven (rows_of (found_of values.now)) (codes "names")) }
+    ensures names { IfOk result (IsNameIfGiven (rows_of (found_of values.now)) (codes "names")) }
+    ensures once { OnOk result (ReadsOnce (rows_of (found_of values.now)) named) }
+    ensures refused { IfErr result (Because (HasWrongValue (rows_of (found_of values.now)))) }
 {
-    if is_standard(values, &NAMES) && is_standard(values, &IMAGE) {
-        let message = "only one of the files can be standard input";
-        return Err(Misuse::Value(String::from_str(alloc, message)?));
-    }
+    check_named(alloc, values)?;
     Ok(name_if_given(alloc, values, &NAMES)?)
 }
 
 // The names after are said beside those before.
 fn names_after_of(alloc: Global, values: &ArgMatches<'_>) -> Result<Option<String>, Misuse>
-    ensures { IfOk result (IsNameIfGiven (rows_of (found_of values.now)) (codes "names-after")) }
+    ensures names { IfOk result (IsNameIfGiven (rows_of (found_of values.now)) (codes "names-after")) }
+    ensures both { OnOk result (NamesBoth (rows_of (found_of values.now))) }
+    ensures refused { IfErr result (Because (HasWrongValue (rows_of (found_of values.now)))) }
 {
-    let names = name_if_given(alloc, values, &NAMES_AFTER)?;
-    if names.is_some() && values.get_str(NAMES.id).is_none() {
-        return Err(NAMES_AFTER.needs(alloc, &NAMES)?);
-    }
-    Ok(names)
+    need(alloc, values, &NAMES_AFTER, &NAMES)?;
+    Ok(name_if_given(alloc, values, &NAMES_AFTER)?)
 }
 
 fn same_of(alloc: Global, values: &ArgMatches<'_>) -> Result<Request, Misuse>
-    ensures { IfOk result (Asks (codes "same") (rows_of (found_of values.now))) }
+    ensures asks { IfOk result (Asks (codes "same") (rows_of (found_of values.now))) }
+    ensures refused { IfErr result (Because (HasWrongValue (rows_of (found_of values.now)))) }
 {
-    check_streams(alloc, values)?;
+    check_compared(alloc, values)?;
     Ok(Request::Same(Same {
         before: name_of(alloc, values, &BEFORE)?,
         after: name_of(alloc, values, &AFTER)?,
@@ -402,25 +358,29 @@ fn same_of(alloc: Global, values: &ArgMatches<'_>) -> Result<Request, Misuse>
 }
 
 fn explain_of(alloc: Global, values: &ArgMatches<'_>) -> Result<Request, Misuse>
-    ensures { IfOk result (Asks (codes "explain") (rows_of (found_of values.now))) }
+    ensures asks { IfOk result (Asks (codes "explain") (rows_of (found_of values.now))) }
+    ensures refused { IfErr result (Because (HasWrongValue (rows_of (found_of values.now)))) }
 {
-    let map = values.get_flag(MAP.id);
     check_choice(alloc, values)?;
-    exclude(alloc, map & given(values, &NAMES), &MAP, &NAMES)?;
+    exclude_flag(alloc, values, &MAP, &NAMES)?;
     Ok(Request::Explain(Explain {
         image: image_of(alloc, values)?,
         cost: cost_of(alloc, values)?,
         budget: number(alloc, values, &BUDGET)?,
         set: set_of(alloc, values)?,
-        map,
+        map: values.get_flag(MAP.id),
         names: names_beside(alloc, values)?,
         output: output_of(alloc, values)?,
     }))
 }
 
+const MIXED: &str = "with '--live' standard output has the replies: the image needs a file";
+
 // The number of the command, and the file.
 fn image_after_of(alloc: Global, values: &ArgMatches<'_>) -> Result<Option<ImageAfter>, Misuse>
-    ensures { IfOk result (IsImageAfter (texts_of (rows_of (found_of values.now)) (codes "image"))) }
+    ensures image { IfOk result (IsImageAfter (texts_of (rows_of (found_of values.now)) (codes "image"))) }
+    ensures apart { OnOk result (IsBesideNone (rows_of (found_of values.now)) (texts_of (rows_of (found_of values.now)) (codes "image"))) }
+    ensures refused { IfErr result (Because (HasWrongValue (rows_of (found_of values.now)))) }
 {
     let Some(words) = values.get_strs(IMAGE_AFTER.id) else {
         return Ok(None);
@@ -429,10 +389,8 @@ fn image_after_of(alloc: Global, values: &ArgMatches<'_>) -> Result<Option<Image
         return Ok(None);
     }
     let (number, file) = (words[0], words[1]);
-    if file == STANDARD_STREAM && values.get_flag(LIVE.id) {
-        let message = "with '--live' standard output has the replies: the image needs a file";
-        return Err(Misuse::Value(String::from_str(alloc, message)?));
-    }
+    let are_mixed = (file == STANDARD_STREAM) & flag(values, &LIVE);
+    refuse_if(alloc, are_mixed, MIXED)?;
     match number_in(alloc, &IMAGE_AFTER, number)? {
         0 => Err(IMAGE_AFTER.refuse(alloc, "0")?),
         command => Ok(Some(ImageAfter {
@@ -443,7 +401,8 @@ fn image_after_of(alloc: Global, values: &ArgMatches<'_>) -> Result<Option<Image
 }
 
 fn trace_of(alloc: Global, values: &ArgMatches<'_>) -> Result<Request, Misuse>
-    ensures { IfOk result (Asks (codes "trace") (rows_of (found_of values.now))) }
+    ensures asks { IfOk result (Asks (codes "trace") (rows_of (found_of values.now))) }
+    ensures refused { IfErr result (Because (HasWrongValue (rows_of (found_of values.now)))) }
 {
     Ok(Request::Trace(Trace {
         name: name_of(alloc, values, &TRACED)?,
@@ -456,7 +415,8 @@ fn trace_of(alloc: Global, values: &ArgMatches<'_>) -> Result<Request, Misuse>
 }
 
 fn print_of(alloc: Global, values: &ArgMatches<'_>) -> Result<Request, Misuse>
-    ensures { IfOk result (Asks (codes "print") (rows_of (found_of values.now))) }
+    ensures asks { IfOk result (Asks (codes "print") (rows_of (found_of values.now))) }
+    ensures refused { IfErr result (Because (HasWrongValue (rows_of (found_of values.now)))) }
 {
     Ok(Request::Print {
         image: image_of(alloc, values)?,
@@ -467,7 +427,8 @@ fn print_of(alloc: Global, values: &ArgMatches<'_>) -> Result<Request, Misuse>
 }
 
 fn why_of(alloc: Global, values: &ArgMatches<'_>) -> Result<Request, Misuse>
-    ensures { IfOk result (Asks (codes "why") (rows_of (found_of values.now))) }
+    ensures asks { IfOk result (Asks (codes "why") (rows_of (found_of values.now))) }
+    ensures refused { IfErr result (Because (HasWrongValue (rows_of (found_of values.now)))) }
 {
     Ok(Request::Why(Why {
         image: image_of(alloc, values)?,
@@ -477,7 +438,8 @@ fn why_of(alloc: Global, values: &ArgMatches<'_>) -> Result<Request, Misuse>
 }
 
 fn make_of(alloc: Global, values: &ArgMatches<'_>) -> Result<Request, Misuse>
-    ensures { IfOk result (λ r. (name : Text) → IsNoOther name → Asks name (rows_of (found_of values.now)) r) }
+    ensures asks { IfOk result (λ r. (name : Text) → IsNoOther name → Asks name (rows_of (found_of values.now)) r) }
+    ensures refused { IfErr result (Because (HasWrongValue (rows_of (found_of values.now)))) }
 {
     Ok(Request::Make {
         lines: name_of(alloc, values, &LINES)?,
@@ -487,7 +449,8 @@ fn make_of(alloc: Global, values: &ArgMatches<'_>) -> Result<Request, Misuse>
 
 // What the values of a command ask for.
 fn request_of(alloc: Global, name: &str, values: &ArgMatches<'_>) -> Result<Request, Misuse>
-    ensures { IfOk result (Asks name.now (rows_of (found_of values.now))) }
+    ensures asks { IfOk result (Asks name.now (rows_of (found_of values.now))) }
+    ensures refused { IfErr result (Because (IsRefused name.now (rows_of (found_of values.now)))) }
 {
     if let Some(request) = asked_of(alloc, name, values)? {
         return Ok(request);

@@ -1,5 +1,8 @@
 //! What is said beside a mistake, where the words show what was meant.
-ghost use Rattle.g1heap_request.specs.Words.{IsRetold};
+ghost use Rattle.std.specs.Prelude.{◌≡◌, ◌++◌, codes, map, option_map, Contains, IfOk, IfSome, IsSomeAnd, IsTrue};
+ghost use Rattle.clap.specs.Words.{Text};
+ghost use Rattle.clap.specs.Words.{kind_of};
+ghost use Rattle.g1heap_request.specs.Tips.{Has, IsCommandTip, IsDue, IsOwnTip, IsRetold, IsTipped, QuotesFirst, named_among, usage_mark};
 
 use crate::usage::NAME;
 use clap::Error;
@@ -15,7 +18,7 @@ pub fn with_tip(
     words: &[String],
     commands: &[Usage],
 ) -> Refusal
-    ensures { IsRetold refusal result }
+    ensures { IsRetold (kind_of error.now) (map (λ w. w.bytes.items) words.now) refusal result }
 {
     let Refusal::Told { status, text } = refusal else {
         return refusal;
@@ -36,16 +39,29 @@ fn told_with_tip(
     error: &Error,
     words: &[String],
     commands: &[Usage],
-) -> Result<Option<String>, AllocError> {
+) -> Result<Option<String>, AllocError>
+    ensures tipped { IfOk result (λ o. IfSome o (λ s. (tip : Text) × IsTipped tip text.now s.bytes.items)) }
+    ensures due { (tip : Text) → IsDue (kind_of error.now) (map (λ w. w.bytes.items) words.now) text.now tip → Has usage_mark text.now → IfOk result (λ o. IsSomeAnd o (λ s. IsTipped tip text.now s.bytes.items)) }
+{
     let Some(tip) = tip_for(alloc, text, error, words, commands)? else {
         return Ok(None);
     };
     let Some((message, usage)) = text.split_once("\n\nUsage:") else {
         return Ok(None);
     };
-    let (message, _) = message.split_once("\n\n  tip:").unwrap_or((message, ""));
-    let text = format!(in alloc; "{message}\n\n  tip: {tip}\n\nUsage:{usage}")?;
+    let said = without_tip(message);
+    let text = format!(in alloc; "{said}\n\n  tip: {tip}\n\nUsage:{usage}")?;
     Ok(Some(text))
+}
+
+// What is said before a tip, or all of it if there is none.
+fn without_tip(message: &str) -> &str
+    ensures { (own : Text) × IsOwnTip result.now own × (message.now ≡ result.now ++ own) }
+{
+    match message.split_once("\n\n  tip:") {
+        Some((said, _)) => said,
+        None => message,
+    }
 }
 
 fn tip_for(
@@ -54,7 +70,9 @@ fn tip_for(
     error: &Error,
     words: &[String],
     commands: &[Usage],
-) -> Result<Option<String>, AllocError> {
+) -> Result<Option<String>, AllocError>
+    ensures { (tip : Text) → IsDue (kind_of error.now) (map (λ w. w.bytes.items) words.now) text.now tip → IfOk result (λ o. IsSomeAnd o (λ s. s.bytes.items ≡ tip)) }
+{
     match error.kind() {
         ErrorKind::InvalidSubcommand => tip_of_command(alloc, quoted(text)),
         ErrorKind::UnknownArgument => tip_of_argument(alloc, text, words, commands),
@@ -92,12 +110,12 @@ const COMMANDS: [(&str, &str); 12] = [
     ("load", "make"),
 ];
 
-fn tip_of_command(alloc: Global, word: &str) -> Result<Option<String>, AllocError> {
-    for (other, command) in COMMANDS {
-        if word == other {
-            let tip = format!(in alloc; "the command for it is '{command}'")?;
-            return Ok(Some(tip));
-        }
+fn tip_of_command(alloc: Global, word: &str) -> Result<Option<String>, AllocError>
+    ensures { (tip : Text) → IsCommandTip word.now tip → IfOk result (λ o. IsSomeAnd o (λ s. s.bytes.items ≡ tip)) }
+{
+    if let Some(command) = command_among(&COMMANDS, word) {
+        let tip = format!(in alloc; "the command for it is '{command}'")?;
+        return Ok(Some(tip));
     }
     if word.contains('.') || word.contains('/') {
         let tip = format!(in alloc; "a command comes before a file, as in 'show {word}'")?;
@@ -106,8 +124,22 @@ fn tip_of_command(alloc: Global, word: &str) -> Result<Option<String>, AllocErro
     Ok(None)
 }
 
+// The command that has this name among those of other programs.
+fn command_among(names: &[(&'static str, &'static str)], word: &str) -> Option<&'static str>
+    ensures { option_map (λ c. c.now) result ≡ option_map (λ n. n.1) (named_among (map (λ n. (n.0.now, n.1.now)) names.now) word.now) }
+{
+    for (other, command) in names {
+        if word == *other {
+            return Some(*command);
+        }
+    }
+    None
+}
+
 // What stands between the first two quotes of a text.
-fn quoted(text: &str) -> &str {
+fn quoted(text: &str) -> &str
+    ensures { (word : Text) → QuotesFirst text.now word → result.now ≡ word }
+{
     let (_, behind) = text.split_once('\'').unwrap_or(("", ""));
     let (word, _) = behind.split_once('\'').unwrap_or(("", ""));
     word
@@ -279,7 +311,9 @@ fn owners(alloc: Global, option: &str, commands: &[Usage]) -> Result<Option<Stri
 }
 
 // Whether '--set' stands before a word that is no region. The words that are its values are tied to it.
-fn has_empty_set(words: &[String]) -> bool {
+fn has_empty_set(words: &[String]) -> bool
+    ensures { Contains (map (λ w. w.bytes.items) words.now) (codes "--set") → IsTrue result }
+{
     for word in words {
         if word.as_str() == "--set" {
             return true;

@@ -68,7 +68,6 @@ Statuses:
   5  a region that cannot be collected, or no room for the survivors
   6  no memory, or a read or a write that failed
   7  a file that can't be opened or written
-  8  what was found contradicts itself: an error of this program
   141  the reader of the answer went away
 
 Example: g1heap explain --budget 1000 < IMAGE";
@@ -81,7 +80,6 @@ Statuses:
   4  no root leads to the object, and a slot into its region is not covered
   6  no memory, or a read or a write that failed
   7  a file that can't be opened
-  8  what was found contradicts itself: an error of this program
   141  the reader of the answer went away
 
 Example: g1heap why IMAGE 16";
@@ -93,7 +91,6 @@ Statuses:
   3  a line is not as it has to be, or a size is out of its range
   6  no memory, or a read or a write that failed
   7  a file that can't be opened or written
-  8  what was found contradicts itself: an error of this program
   141  the reader of the answer went away
 
 Example: g1heap trace --live < TRACE";
@@ -171,7 +168,7 @@ Statuses:
   5  a region of the set is not there, not ordinary or pinned, or no room
   6  no memory, or a read or a write that failed
   7  a file that can't be opened or written
-  8  what was found contradicts itself: an error of this program
+  8  what was made of a dump is no image: an error of this program
   141  the reader of the answer went away
 
 Example: g1heap show IMAGE";

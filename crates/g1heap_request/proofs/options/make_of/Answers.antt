@@ -1,4 +1,4 @@
 use Rattle.g1heap_request.proofs.options.make_of.Goals as goal
 
-pub returns : goal.returns
-returns c = λ name other. (other, c.in_ok-name_of.ensures, c.in_ok-output_of.ensures)
+pub returns-clause-asks : goal.returns-clause-asks
+returns-clause-asks c = λ name other. (other, c.in_ok-name_of.ensures, c.in_ok-output_of.ensures)

@@ -1,5 +1,4 @@
 use Rattle.std.proofs.Common.{◌≡◌, map, rules, subst}
-use Rattle.g1_command.specs.Tied.{AreTied}
 use Rattle.g1heap_request.specs.Words.{IsReadOf}
 use Rattle.g1heap_request.proofs.Read.{read_tied}
 use Rattle.g1heap_request.proofs.options.parse.Goals as goal
