@@ -1,13 +1,11 @@
 -- What is said of two sides, from what was handed on of them.
-use Rattle.std.proofs.Common.{◌≡◌, inl, ℕ, List, [], ◌++◌, Option, Some, None, refl, sym, append-nil}
+use Rattle.std.proofs.Common.{inl, ℕ, List, [], ◌++◌, Option, Some, None, refl, sym, append-nil}
 use Rattle.std.proofs.lemmas.List.Elements.{All-nil}
 use Rattle.std.specs.Io.KnownBytes.{Appends}
 use Rattle.g1_report.specs.declared.reporting.Asked.{Asked}
 use Rattle.g1_report.specs.Wording.{Compared}
-use Rattle.g1_report.specs.Taken.{TakesFirst}
 use Rattle.g1_report.specs.Listed.{lists, IsFoundLine, HandedOn}
-use Rattle.g1_report.specs.Answer.{compared_of, IsInOrder, IsPlain, HandsOn, HandsOnFirst}
-use Rattle.g1heap_cli.specs.SameReplies.{Says}
+use Rattle.g1_report.specs.Answer.{compared_of, HandsOn}
 
 -- what was taken, without what was there before
 taken_on : (s : Compared) (most : Option ℕ) (old new : Option (List ℕ)) (text : List ℕ) → HandedOn s most old new text
@@ -19,27 +17,7 @@ taken_on s (Some most) None new text h = (text, ([], ([], All-nil (IsFoundLine s
 taken_on s (Some most) (Some xs) None text h = absurd h
 taken_on s (Some most) (Some xs) (Some ys) text h = (text ++ (h.0 ++ h.2), (h.0, h.1, h.2, h.3, refl), h.4)
 
-taken_first : (old new : Option (List ℕ)) (text : List ℕ) → TakesFirst old new text → (all : List ℕ) × TakesFirst (Some []) (Some all) text × Appends old new all
-taken_first None new text f = (text, ([], sym (append-nil text)), tt)
-taken_first (Some xs) None text f = absurd f
-taken_first (Some xs) (Some ys) text f = (text ++ f.0, (f.0, refl), f.1)
-
-handed : (a : Asked) (status : ℕ) (old new : Option (List ℕ)) → HandsOn a status old new → (text : List ℕ) × HandsOn a status (Some []) (Some text) × Appends old new text
+pub handed : (a : Asked) (status : ℕ) (old new : Option (List ℕ)) → HandsOn a status old new → (text : List ℕ) × HandsOn a status (Some []) (Some text) × Appends old new text
 handed a status old new h =
     let all = taken_on (compared_of a) (lists h.finding a.all) old new h.text h.taken in
     (all.0, record { finding = h.finding; found = h.found; text = h.text; answer = h.answer; taken = all.1 }, all.2)
-
-handed_first : (a : Asked) (status : ℕ) (old new : Option (List ℕ)) → HandsOnFirst a status old new
-    → (text : List ℕ) × HandsOnFirst a status (Some []) (Some text) × Appends old new text
-handed_first a status old new h =
-    let all = taken_first old new h.text h.taken in
-    (all.0, record { finding = h.finding; found = h.found; text = h.text; answer = h.answer; taken = all.1 }, all.2)
-
--- what is said, by the files of names that are given
-pub says_of : {V : Type 0} (names after : Option V) (a : Asked) (status : ℕ) (old new : Option (List ℕ)) → (names ≡ None → a.names ≡ None) → (after ≡ None → a.names_after ≡ None)
-    → IsInOrder a.before.now → IsInOrder a.after.now → (IsPlain a → HandsOn a status old new) → HandsOnFirst a status old new
-    → (text : List ℕ) × Says names after a status text × Appends old new text
-says_of None None a status old new p q before after all first = handed a status old new (all (record { names = p refl; names_after = q refl; before = before; after = after }))
-says_of None (Some n) a status old new p q before after all first = handed_first a status old new first
-says_of (Some n) None a status old new p q before after all first = handed_first a status old new first
-says_of (Some n) (Some m) a status old new p q before after all first = handed_first a status old new first

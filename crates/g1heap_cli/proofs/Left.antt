@@ -1,7 +1,5 @@
 -- What stands on standard output, from what was delivered there.
-use Rattle.std.proofs.Common.{inl, inr, ℕ, List, [], take, Option, Some, None, Result, Ok, Err, sym, subst}
-use Rattle.std.specs.Io.KnownBytes.{Appends, Keeps}
-use Rattle.std.proofs.KnownBytes.{Appends-nil}
+use Rattle.std.proofs.Common.{inl, inr, ℕ, List, take, Option, Result, Ok, Err, sym, subst}
 use Rattle.g1_command.specs.declared.refusal.Refusal.{Refusal}
 use Rattle.g1heap_request.specs.declared.output.Output.{Output}
 use Rattle.g1heap_request.specs.declared.output.Output.TheVariants as output
@@ -9,6 +7,7 @@ use Rattle.g1heap_cli.specs.Leaving.{Reply, Just, Begins, Grows, Withholds, Send
 use Rattle.g1heap_cli.specs.declared.commands.Printed.{Printed}
 use Rattle.g1heap_cli.specs.declared.commands.Printed.TheVariants as printed
 use Rattle.g1heap_cli.specs.Printed.{IfLines, reply_of}
+use Rattle.g1heap_cli.proofs.Grown.{grows_kept}
 
 module _ (Is To : Reply) (so : (s : ℕ) (text : List ℕ) → Is s text → To s text) (old new : Option (List ℕ)) where
   -- one reply for another
@@ -46,14 +45,8 @@ module _ (Is To : Reply) (so : (s : ℕ) (text : List ℕ) → Is s text → To 
 pub as_told : (To : Reply) (told : List ℕ) → To 0 told → (s : ℕ) (text : List ℕ) → Just 0 told s text → To s text
 as_told To told h s text is = subst (λ n. To n text) (sym is.0) (subst (To 0) (sym is.1) h)
 
--- what stood there still stands there
-grown : (a b : Option (List ℕ)) → Keeps a b → Grows a b
-grown None b h = ([], tt)
-grown (Some x) None h = absurd h
-grown (Some x) (Some y) h = ([], subst (λ l. Appends (Some x) (Some l) []) (sym h) (Appends-nil (Some x)))
-
 withheld_grows : (Is : Reply) (old new : Option (List ℕ)) (why : Refusal) → Withholds Is old new why → Grows old new
-withheld_grows Is old new why (inl kept) = grown old new kept
+withheld_grows Is old new why (inl kept) = grows_kept old new kept
 withheld_grows Is old new why (inr (is, (s, text, k, so, a))) = (take k text, a)
 
 sent_grows : (Is : Reply) (old new : Option (List ℕ)) (r : Result ℕ Refusal) → SendsText Is old new r → Grows old new

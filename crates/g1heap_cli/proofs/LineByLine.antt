@@ -1,12 +1,12 @@
 -- A session that takes line after line goes through a trace.
-use Rattle.std.proofs.Common.{◌≡◌, ◌⊎◌, inl, inr, ℕ, zero, suc, ◌+◌, ◌^◌, ◌<◌, ◌≤◌, ◌-◌, min, Bool, true, false, cond, List, [], ◌∷◌, ◌++◌, Option, Some, None, length, take, filter, flat_map, refl, sym, ◌∙◌, ap, subst, arith, append_assoc, append-nil, length-append, take_all}
+use Rattle.std.proofs.Common.{◌≡◌, ◌⊎◌, inl, inr, ℕ, suc, ◌+◌, ◌^◌, ◌<◌, ◌≤◌, Bool, true, false, cond, List, [], ◌∷◌, ◌++◌, Option, Some, None, length, take, flat_map, refl, sym, ◌∙◌, ap, subst, arith, append_assoc, append-nil, length-append, take_all}
 use Rattle.std.proofs.lemmas.List.{take-append-le}
-use Rattle.std.specs.Prelude.{All, decimal, not, ◌==◌}
+use Rattle.std.specs.Prelude.{decimal, not, ◌==◌}
 use Rattle.std.proofs.lemmas.Grind.{flat_map-append}
 use Rattle.std.proofs.Math.Nat.{min-eq_left}
 use Rattle.std.proofs.lemmas.Bool.{cases_lt}
 use Rattle.std.proofs.lemmas.List.Elements.{filter-append, All-cons, All-push}
-use Rattle.g1_words.specs.Geometry.{Geometry, most_region_words, most_card_words, most_regions, most_roots}
+use Rattle.g1_words.specs.Geometry.{Geometry}
 use Rattle.g1_image.specs.Image.{Image, IsTextIn}
 use Rattle.g1_image.specs.declared.cursor.Version.TheVariants.{Two}
 use Rattle.g1_choose.specs.declared.parameters.Cost.{Cost}
@@ -16,7 +16,6 @@ use Rattle.g1_trace.specs.declared.command.Reply.{Reply as ReplyOf}
 use Rattle.g1_trace.specs.declared.session.Session.{Session}
 use Rattle.g1_trace.specs.declared.session.Session.TheVariants.{Begun, Open}
 use Rattle.g1_trace.specs.declared.session.Taken.{Taken}
-use Rattle.g1_trace.specs.declared.session.Taken.TheVariants as taken
 use Rattle.g1_trace.specs.Mutator.{IsStep}
 use Rattle.g1_trace.specs.Run.{Replies, empty_image}
 use Rattle.g1_trace.specs.Running.{IsHeapSize}
@@ -27,9 +26,9 @@ use Rattle.g1heap_request.specs.declared.options.Trace.{Trace}
 use Rattle.g1heap_request.specs.declared.options.ImageAfter.{ImageAfter}
 use Rattle.g1heap_request.specs.declared.output.Output.{Output}
 use Rattle.g1heap_request.specs.declared.output.Output.TheVariants as output
-use Rattle.g1heap_cli.specs.Texts.{MayChange}
-use Rattle.g1heap_cli.specs.Traced.{counts, without_comments, Leads, numbered_lines, told_lines, if_standard, sent_command}
-use Rattle.g1heap_cli.specs.Tracing.{number_text, KeepsImage, Adds}
+use Rattle.g1heap_cli.specs.Traced.{counts, without_comments, Leads, LeadsTold, Tells, number_text, numbered_lines, told_lines, if_standard, sent_command}
+use Rattle.g1heap_cli.specs.Tracing.{ExplainsLine, KeepsImage, Adds}
+use Rattle.g1heap_cli.proofs.TraceTold.{explains_command, explained_more}
 
 -- ---- which lines count
 
@@ -115,7 +114,7 @@ pub record IsOpen (trace : Trace) (lines : List (List ℕ)) (i : Image) (count :
   pub counted : count ≡ length commands
   pub paired : length replies ≡ length commands
   pub few : length commands < length lines
-  pub told : MayChange trace.explain (λ t. t ≡ told_lines trace.numbered replies) text
+  pub told : Tells trace.explain trace.cost trace.numbered (empty_image sizes roots) commands replies i text
   pub image : HasKept trace (empty_image sizes roots) commands replies kept
 
 -- after these lines the session is this, with this image kept, and this text is made of them
@@ -134,17 +133,23 @@ sizes_fit g roots limits =
     let count : roots < 2 ^ 64 = (let most = limits.roots in omega (arith, most)) in
     All-cons Fits g.w (g.k ∷ g.n ∷ roots ∷ []) w (All-cons Fits g.k (g.n ∷ roots ∷ []) k (All-cons Fits g.n (roots ∷ []) n (All-cons Fits roots [] count (λ i d lt. absurd (omega (arith, lt))))))
 
-nothing_told : (explain numbered : Bool) (text : List ℕ) → text ≡ [] → MayChange explain (λ t. t ≡ told_lines numbered []) text
-nothing_told true numbered text none = tt
-nothing_told false true text none = none
-nothing_told false false text none = none
+tells_none : (explain : Bool) (cost : Cost) (numbered : Bool) (i : Image) (text : List ℕ) → text ≡ [] → Tells explain cost numbered i [] [] i text
+tells_none true cost numbered i text none = (refl, none)
+tells_none false cost true i text none = none
+tells_none false cost false i text none = none
 
-reply_told : (explain numbered : Bool) (text more : List ℕ) (rs : List ReplyOf) (r : ReplyOf) (n : ℕ) → n ≡ length rs + 1
-    → (explain ≡ false → more ≡ text ++ (number_text numbered n ++ reply_line r)) → MayChange explain (λ t. t ≡ told_lines numbered rs) text
-    → MayChange explain (λ t. t ≡ told_lines numbered (rs ++ r ∷ [])) more
-reply_told true numbered text more rs r n count adds h = tt
-reply_told false numbered text more rs r n count adds h =
-    adds refl ∙ ap (λ l. l ++ (number_text numbered n ++ reply_line r)) h ∙ ap (λ m. told_lines numbered rs ++ (number_text numbered m ++ reply_line r)) count ∙ sym (told_more numbered rs r)
+tells_more : (explain : Bool) (cost : Cost) (numbered : Bool) (start i j : Image) (n m : ℕ) (cs : List Command) (rs : List ReplyOf) (c : Command) (r : ReplyOf) (text more line front : List ℕ)
+    → AllFit (numbers_of c) → line ≡ command_line c → IsStep cost i c r j → m ≡ length rs + 1 → ExplainsLine explain cost (Open i n) line front
+    → more ≡ text ++ (front ++ (number_text numbered m ++ reply_line r)) → Tells explain cost numbered start cs rs i text
+    → Tells explain cost numbered start (cs ++ c ∷ []) (rs ++ r ∷ []) j more
+tells_more false cost numbered start i j n m cs rs c r text more line front fit is st count none adds h =
+    adds ∙ ap (λ l. text ++ (l ++ (number_text numbered m ++ reply_line r))) none ∙ ap (λ l. l ++ (number_text numbered m ++ reply_line r)) h
+    ∙ ap (λ k. told_lines numbered rs ++ (number_text numbered k ++ reply_line r)) count ∙ sym (told_more numbered rs r)
+tells_more true cost numbered start i j n m cs rs c r text more line front fit is st count explains adds h =
+    let number : m ≡ 1 + length rs = omega (arith, count) in
+    let all : more ≡ text ++ (front ++ (number_text numbered (1 + length rs) ++ reply_line r)) = adds ∙ ap (λ k. text ++ (front ++ (number_text numbered k ++ reply_line r))) number in
+    subst (LeadsTold cost numbered 1 start (cs ++ c ∷ []) (rs ++ r ∷ []) j) (sym all)
+    (explained_more cost numbered 1 start i j cs rs c r text front h st (explains_command cost i n c line front fit is explains))
 
 -- ---- the image that goes to standard output
 
@@ -208,7 +213,7 @@ module _ (trace : Trace) (lines : List (List ℕ)) where
         counted = h.counted;
         paired = h.paired;
         few = omega (arith, few, longer);
-        told = subst (MayChange trace.explain (λ t. t ≡ told_lines trace.numbered h.replies)) (sym same) h.told;
+        told = subst (Tells trace.explain trace.cost trace.numbered (empty_image h.sizes h.roots) h.commands h.replies i) (sym same) h.told;
         image = subst (HasKept trace (empty_image h.sizes h.roots) h.commands h.replies) (sym kept) h.image;
       }
 
@@ -233,16 +238,17 @@ module _ (trace : Trace) (lines : List (List ℕ)) where
         counted = refl;
         paired = refl;
         few = omega (arith, longer);
-        told = nothing_told trace.explain trace.numbered more (same ∙ h.1);
+        told = tells_none trace.explain trace.cost trace.numbered (empty_image g roots) more (same ∙ h.1);
         image = λ n sent lt. absurd (omega (arith, lt));
       }
 
   -- the line of a command
   command_taken : (line : List ℕ) (c : Command) (i j : Image) (n : ℕ) (r : ReplyOf) (before after : Option (List ℕ)) (text more : List ℕ)
       → AllFit (numbers_of c) → line ≡ command_line c → IsStep trace.cost i c r j → length lines + 1 < 2 ^ 64
-      → (trace.explain ≡ false → more ≡ text ++ (number_text trace.numbered (one_more n) ++ reply_line r)) → KeepsImage trace.image (Open j (one_more n)) before after
+      → (front : List ℕ) → ExplainsLine trace.explain trace.cost (Open i n) line front → more ≡ text ++ (front ++ (number_text trace.numbered (one_more n) ++ reply_line r))
+      → KeepsImage trace.image (Open j (one_more n)) before after
       → IsOpen trace lines i n before text → IsOpen trace (lines ++ line ∷ []) j (one_more n) after more
-  command_taken line c i j n r before after text more fit is st bound adds keeps h =
+  command_taken line c i j n r before after text more fit is st bound front explains adds keeps h =
       let cs = h.commands in
       let rs = h.replies in
       let longer = length_more lines line in
@@ -272,18 +278,18 @@ module _ (trace : Trace) (lines : List (List ℕ)) where
         counted = omega (arith, next, counted, wider);
         paired = omega (arith, paired, wider, further);
         few = omega (arith, few, longer, wider);
-        told = reply_told trace.explain trace.numbered text more rs r (one_more n) (omega (arith, next, counted, paired)) adds h.told;
+        told = tells_more trace.explain trace.cost trace.numbered (empty_image h.sizes h.roots) i j n (one_more n) cs rs c r text more line front fit is st (omega (arith, next, counted, paired)) explains adds h.told;
         image = kept_more trace (empty_image h.sizes h.roots) j cs rs c r (one_more n) before after led paired (omega (arith, next, counted)) keeps h.image;
       }
 
   -- A LINE MORE
   pub line_taken : (written : List ℕ) (s t : Session) (line : List ℕ) (got : Taken) (before after : Option (List ℕ)) (old new : List ℕ)
-      → IsDone trace.cost s line got t → Adds trace got t old new before after → length lines + 1 < 2 ^ 64
+      → IsDone trace.cost s line got t → Adds trace s line got t old new before after → length lines + 1 < 2 ^ 64
       → SoFar trace lines s before (written ++ old) → SoFar trace (lines ++ line ∷ []) t after (written ++ new)
   line_taken written s t line got before after old new (comment is) adds bound h =
       comment_taken s line before after (written ++ old) (written ++ new) is (ap (λ l. written ++ l) adds.0) adds.1 h
   line_taken written s t line got before after old new (sizes g roots limits is) adds bound h =
       sizes_taken line g roots before after (written ++ old) (written ++ new) limits is (ap (λ l. written ++ l) adds.0) h
   line_taken written s t line got before after old new (command {i = i} {j = j} {n = n} {reply = r} c fit is st) adds bound h =
-      command_taken line c i j n r before after (written ++ old) (written ++ new) fit is st bound
-      (λ plain. ap (λ l. written ++ l) (adds.0 plain) ∙ sym (append_assoc written old (number_text trace.numbered (one_more n) ++ reply_line r))) adds.1 h
+      command_taken line c i j n r before after (written ++ old) (written ++ new) fit is st bound adds.0.0 adds.0.1
+      (ap (λ l. written ++ l) adds.0.2 ∙ sym (append_assoc written old (adds.0.0 ++ (number_text trace.numbered (one_more n) ++ reply_line r)))) adds.1 h

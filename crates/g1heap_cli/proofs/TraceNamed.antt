@@ -11,8 +11,11 @@ use Rattle.g1_command.specs.declared.refusal.Refusal.TheVariants as refusal
 use Rattle.g1heap_request.specs.declared.options.Trace.{Trace}
 use Rattle.g1heap_cli.specs.Leaving.{Reply, Withholds, SendsTrace}
 use Rattle.g1heap_cli.specs.Streams.{HoldsOfNamed}
+use Rattle.g1heap_cli.specs.Refuses.{RefusesTraceBy, RefusesTrace}
 use Rattle.g1heap_cli.specs.Traced.{RepliesToTrace, is_live, sent_command}
 use Rattle.g1heap_cli.proofs.Left.{begins_so, withholds_so, text_so}
+use Rattle.g1heap_cli.specs.TraceReasons.{IsNamed}
+use Rattle.g1heap_cli.proofs.TraceRefused.{refused_so}
 use Rattle.g1heap_cli.proofs.TraceSent.{begun}
 
 -- a refusal before the first line
@@ -54,6 +57,14 @@ of_another trace known left old new n r other h =
     sends_to (RepliesToTrace trace (HoldsOfLeft known)) (RepliesToTrace trace (HoldsOfNamed trace.name.bytes.items left))
     (reply_to trace (HoldsOfLeft known) (HoldsOfNamed trace.name.bytes.items left) (λ P (bytes, is, there). (bytes, is, λ named. absurd (other named)))) old new (is_live trace) n r h
 
+-- the same of a refusal
+pub input_refused : (trace : Trace) (left : Option (List ℕ)) (r : Refusal) → RefusesTraceBy trace (HoldsOfLeft left) r → RefusesTrace trace left r
+input_refused trace left r h = refused_so trace (HoldsOfLeft left) (HoldsOfNamed trace.name.bytes.items left) (λ P (bytes, is, known). (bytes, is, λ named. known)) r h
+
+pub another_refused : (trace : Trace) (known left : Option (List ℕ)) (r : Refusal) → trace.name.bytes.items ≢ codes "-" → RefusesTraceBy trace (HoldsOfLeft known) r → RefusesTrace trace left r
+another_refused trace known left r other h =
+    refused_so trace (HoldsOfLeft known) (HoldsOfNamed trace.name.bytes.items left) (λ P (bytes, is, there). (bytes, is, λ named. absurd (other named))) r h
+
 -- an input that failed is reported with a reason
 input_withholds : (Is : Reply) (old new : Option (List ℕ)) (why : Refusal) → Withholds Is old new (refusal.Fault (fault.Device device.Input)) → Withholds Is old new why
 input_withholds Is old new why (inl same) = inl same
@@ -62,7 +73,11 @@ input_withholds Is old new why (inr (is, b)) = absurd (differ is)
     differ : refusal.Fault (fault.Device device.Input) ≡ refusal.Fault (fault.Device device.Output) → ⊥
     differ e = cc
 
-pub with_reason : (b : Bool) (n : ℕ) (Is : Reply) (old new : Option (List ℕ)) (why : Refusal) → SendsTrace b n Is old new (Err (refusal.Fault (fault.Device device.Input))) → SendsTrace b n Is old new (Err why)
+with_reason : (b : Bool) (n : ℕ) (Is : Reply) (old new : Option (List ℕ)) (why : Refusal) → SendsTrace b n Is old new (Err (refusal.Fault (fault.Device device.Input))) → SendsTrace b n Is old new (Err why)
 with_reason true n Is old new why h = h
 with_reason false zero Is old new why h = input_withholds Is old new why h
 with_reason false (suc n) Is old new why h = input_withholds Is old new why h
+
+pub named_sends : (file : List ℕ) (b : Bool) (n : ℕ) (Is : Reply) (old new : Option (List ℕ)) (why told : Refusal) → IsNamed file why told → SendsTrace b n Is old new (Err why) → SendsTrace b n Is old new (Err told)
+named_sends file b n Is old new (refusal.Fault (fault.Device device.Input)) told named h = with_reason b n Is old new told h
+named_sends file b n Is old new why told named h = subst (λ r. SendsTrace b n Is old new (Err r)) (sym named) h

@@ -10,14 +10,18 @@ use Rattle.std.specs.Io.KnownBytes.{Appends, Keeps, Consumes}
 use Rattle.std.specs.List.{AllByRecursion}
 use Rattle.g1_image.specs.Image.{Image}
 use Rattle.g1_image.specs.Source.{HoldsOfLeft}
+use Rattle.g1_choose.specs.declared.parameters.Cost.{Cost}
 use Rattle.g1_command.specs.declared.refusal.Refusal.{Refusal}
 use Rattle.g1_command.specs.Lines.{HasNoEnd, IsEndedLine, ReadsLine}
 use Rattle.g1_trace.specs.declared.session.Session.{Session}
 use Rattle.g1_trace.specs.declared.session.Session.TheVariants.{Begun, Open}
+use Rattle.g1_trace.specs.declared.session.Taken.{Taken}
+use Rattle.g1_trace.specs.Session.{IsDone}
 use Rattle.g1_trace.specs.TraceText.{ended}
 use Rattle.g1heap_request.specs.declared.options.Trace.{Trace}
 use Rattle.g1heap_cli.specs.Leaving.{Reply, Just, Begins, SendsText, SendsTrace}
 use Rattle.g1heap_cli.specs.Traced.{RepliesToTrace, is_live, sent_command}
+use Rattle.g1heap_cli.specs.TraceReasons.{AreDone}
 use Rattle.g1heap_cli.specs.Tracing.{IsAtStart, IsMade, TakesLine, kept}
 use Rattle.g1heap_cli.specs.declared.tracing.State.{State}
 use Rattle.g1heap_cli.proofs.LineByLine.{IsOpen, SoFar, line_taken, length_more}
@@ -61,6 +65,7 @@ pub record Reached (trace : Trace) (known now old mid : Option (List ℕ)) (st :
   pub whole : AllByRecursion HasNoEnd lines
   pub grown : Appends old mid written
   pub quiet : is_live trace ≡ false → written ≡ []
+  pub done : AreDone trace.cost Begun lines st.session
   pub so_far : SoFar trace lines st.session (kept st) (written ++ st.replies.items)
 
 pub reached_start : (trace : Trace) (known old : Option (List ℕ)) (st : State) → IsAtStart st → Reached trace known known old old st 1
@@ -72,10 +77,15 @@ reached_start trace known old st at = record {
   whole = tt;
   grown = Appends-nil old;
   quiet = λ still. refl;
+  done = sym at.session;
   so_far = subst (λ s. SoFar trace [] s (kept st) st.replies.items) (sym at.session) (refl, at.replies);
 }
 
 -- ---- one line more
+
+done_more : (cost : Cost) (s t u : Session) (lines : List (List ℕ)) (line : List ℕ) (got : Taken) → AreDone cost s lines t → IsDone cost t line got u → AreDone cost s (lines ++ line ∷ []) u
+done_more cost s t u [] line got h d = (u, got, subst (λ x. IsDone cost x line got u) (sym h) d, refl)
+done_more cost s t u (first ∷ lines) line got (m, g, f, rest) d = (m, g, f, done_more cost m t u lines line got rest d)
 
 all_more : (lines : List (List ℕ)) (line : List ℕ) → AllByRecursion HasNoEnd lines → HasNoEnd line → AllByRecursion HasNoEnd (lines ++ line ∷ [])
 all_more [] line h free = (free, tt)
@@ -93,7 +103,7 @@ end_in xs free = free (length xs) 0 (let m = length_more xs 10 in omega (arith, 
     at_end [] = refl
     at_end (y ∷ ys) = at_end ys
 
-content_free : (content line : List ℕ) (rest : Type 0) → line ≡ content ++ 10 ∷ [] → IsEndedLine line ⊎ (HasNoEnd line × rest) → HasNoEnd content
+pub content_free : (content line : List ℕ) (rest : Type 0) → line ≡ content ++ 10 ∷ [] → IsEndedLine line ⊎ (HasNoEnd line × rest) → HasNoEnd content
 content_free content line rest is (inl (front, free, e)) = subst HasNoEnd (before_end front content (sym e ∙ is)) free
 content_free content line rest is (inr (free, all)) = absurd (end_in content (subst HasNoEnd is free))
 
@@ -114,6 +124,7 @@ reached_more trace known now next old mid st t number empty line shown there h b
       whole = all_more h.lines takes.content h.whole free;
       grown = h.grown;
       quiet = h.quiet;
+      done = done_more trace.cost Begun st.session t.session h.lines takes.content takes.got h.done takes.done;
       so_far = line_taken trace h.lines h.written st.session t.session takes.content takes.got (kept st) (kept t) st.replies.items t.replies.items takes.done takes.adds
           (omega (arith, count, bound)) h.so_far;
     }
@@ -216,6 +227,7 @@ module _ (trace : Trace) (known now old mid : Option (List ℕ)) (st : State) (n
           whole = h.whole;
           grown = Appends-trans old mid new h.written text h.grown a;
           quiet = λ still. absurd (true≢false (sym live ∙ still));
+          done = subst (AreDone trace.cost Begun h.lines) (sym same) h.done;
           so_far = subst (λ s. SoFar trace h.lines s (kept t) ((h.written ++ text) ++ t.replies.items)) (sym same)
               (subst (SoFar trace h.lines st.session (kept t)) all (other_kept trace h.lines st.session (kept st) (kept t) (h.written ++ st.replies.items) none h.so_far));
         }

@@ -1,6 +1,6 @@
 -- What stands on standard output while a trace is read line by line, and behind its end.
-use Rattle.std.proofs.Common.{◌≡◌, ◌≢◌, ◌⊎◌, inl, inr, ℕ, zero, suc, ◌+◌, ◌^◌, ◌<◌, ◌≤◌, Bool, true, false, List, [], ◌∷◌, ◌++◌, Option, Some, None, Result, Ok, Err, IfSome, length, take, refl, sym, ◌∙◌, ap, subst, arith, append-nil}
-use Rattle.std.proofs.Math.Seq.{take-append_seam, take-append-add}
+use Rattle.std.proofs.Common.{◌≡◌, inl, inr, ℕ, zero, suc, ◌+◌, ◌<◌, ◌≤◌, false, List, [], ◌++◌, Option, Some, None, Result, Ok, Err, IfSome, length, take, refl, sym, ◌∙◌, ap, subst, arith, append-nil}
+use Rattle.std.proofs.Math.Seq.{take-append-add}
 use Rattle.std.proofs.KnownBytes.{Appends-kept, Appends-trans, Keeps-trans}
 use Rattle.std.specs.Io.KnownBytes.{Appends, Keeps, Consumes}
 use Rattle.std.specs.List.{AllByRecursion}
@@ -11,14 +11,14 @@ use Rattle.g1_command.specs.declared.refusal.Refusal.{Refusal}
 use Rattle.g1_command.specs.Lines.{HasNoEnd}
 use Rattle.g1_trace.specs.declared.session.Session.{Session}
 use Rattle.g1_trace.specs.declared.session.Session.TheVariants.{Begun, Open}
+use Rattle.g1_trace.specs.Run.{empty_image}
 use Rattle.g1_trace.specs.Session.{commands_of, image_of}
 use Rattle.g1_trace.specs.TraceText.{ended}
 use Rattle.g1heap_request.specs.declared.options.Trace.{Trace}
 use Rattle.g1heap_request.specs.declared.options.ImageAfter.{ImageAfter}
 use Rattle.g1heap_cli.specs.Leaving.{Reply, Begins, SendsText, SendsAsMade, SendsTrace}
-use Rattle.g1heap_cli.specs.Texts.{MayChange}
-use Rattle.g1heap_cli.specs.Traced.{AreLinesOf, BeginsWithLines, IsTraced, IsTracedSoFar, RepliesToTrace, asked_command, is_live, sent_command, told_lines}
-use Rattle.g1heap_cli.specs.Tracing.{IsMade, IsMadeText, kept}
+use Rattle.g1heap_cli.specs.Traced.{AreLinesOf, BeginsWithLines, IsTraced, IsTracedSoFar, asked_command, Tells, sent_command}
+use Rattle.g1heap_cli.specs.Tracing.{IsMadeText, kept}
 use Rattle.g1heap_cli.specs.declared.tracing.State.{State}
 use Rattle.g1heap_cli.proofs.LineByLine.{IsOpen, SoFar, standard_is}
 use Rattle.g1heap_cli.proofs.TraceRuns.{run_of}
@@ -39,6 +39,8 @@ so_far_text trace lines (Open i n) held text h =
       replies = h.replies;
       trace_lines = lines_of trace lines i n held text h;
       enough = omega arith;
+      image = i;
+      leads = h.leads;
       told = h.told;
     })
 
@@ -62,7 +64,9 @@ made_of trace lines (Open j n) st written out i zero there enough h sent made no
       replies = h.replies;
       trace_lines = lines_of trace lines j n (kept st) (written ++ st.replies.items) h;
       enough = omega (arith, enough, counted);
-      told = subst (λ l. MayChange trace.explain (λ t. t ≡ told_lines trace.numbered h.replies) (written ++ l)) (sym made) h.told;
+      image = j;
+      leads = h.leads;
+      told = subst (λ l. Tells trace.explain trace.cost trace.numbered (empty_image h.sizes h.roots) h.commands h.replies j (written ++ l)) (sym made) h.told;
     }
 made_of trace lines (Open j n) st written out i (suc m) there enough h sent made none =
     let counted = h.counted in

@@ -1,5 +1,5 @@
 -- How g1heap ends.
-use Rattle.std.specs.Prelude.{◌≡◌, ◌⊎◌, ℕ, Bool, true, List, Option, codes, IsOk, Result, Ok, Err}
+use Rattle.std.specs.Prelude.{◌≡◌, ◌⊎◌, ℕ, Bool, true, List, Option, codes, IsOk, IfErr, Result, Ok, Err}
 use Rattle.std.specs.Io.KnownBytes.{Keeps}
 use Rattle.g1_words.specs.declared.fault.Fault.TheVariants.{Device}
 use Rattle.g1_words.specs.declared.fault.Device.TheVariants.{Output as OutputFailed}
@@ -17,6 +17,7 @@ use Rattle.g1heap_cli.specs.Refusals.{RefusesOutput}
 use Rattle.g1heap_cli.specs.Leaving.{Reply, Announces, SendsText, SendsSame, SendsTrace, HandsText, HandsBytes, HandsPrint}
 use Rattle.g1heap_cli.specs.Traced.{is_live, sent_command}
 use Rattle.g1heap_cli.specs.Replies.{IsReplyTo}
+use Rattle.g1heap_cli.specs.Refuses.{Refuses}
 
 -- the program's name
 abbrev pub name : List ℕ
@@ -66,6 +67,7 @@ module _ (left out_old out_new error_old error_new : Option (List ℕ)) where
   pub record EndsByRequest (request : Request) (ending : Ending) : Type 0 where
     pub result : Result ℕ Refusal
     pub leaves : Leaves request (IsReplyTo request left) out_old out_new result
+    pub refused : IfErr result (Refuses request left)
     pub ended : EndsWith result error_old error_new ending
 
   -- the words are no request, or memory was wanted to read them: nothing is on standard output

@@ -1,5 +1,5 @@
 -- What a request leaves on standard output.
-use Rattle.std.specs.Prelude.{◌≡◌, ◌⊎◌, ℕ, zero, suc, Bool, true, false, List, take, Option, Some, None, Result, Ok, Err, ⊤}
+use Rattle.std.specs.Prelude.{◌≡◌, ◌⊎◌, ℕ, zero, suc, Bool, true, false, List, take, Option, Some, None, Result, Ok, Err}
 use Rattle.std.specs.Io.KnownBytes.{Appends, Keeps}
 use Rattle.g1_words.specs.declared.fault.Fault.TheVariants as fault
 use Rattle.g1_words.specs.declared.fault.Device.TheVariants as device
@@ -50,10 +50,10 @@ abbrev pub SendsText : Reply → Option (List ℕ) → Option (List ℕ) → Res
 SendsText Is old new (Ok status) = ((text : List ℕ) × Is status text × Appends old new text) ⊎ ((status ≡ broken_pipe) × Begins Is old new)
 SendsText Is old new (Err why) = Withholds Is old new why
 
--- lines are sent as they are made; of what stands behind a refusal nothing is said
+-- lines are sent as they are made: behind a refusal some text stands there, which may be empty
 abbrev pub SendsLines : Reply → Option (List ℕ) → Option (List ℕ) → Result ℕ Refusal → Type 0
 SendsLines Is old new (Ok status) = SendsText Is old new (Ok status)
-SendsLines Is old new (Err why) = ⊤
+SendsLines Is old new (Err why) = Grows old new
 
 -- a reply was taken, and its lines are written, as far as they are
 pub record WritesReply (Is : Reply) (old new taken now : Option (List ℕ)) (s : ℕ) : Type 0 where

@@ -1,13 +1,17 @@
 pub mod Refusals
 pub mod Lines
 pub mod Streams
+pub mod Named
 pub mod Opened
 pub mod Found
+pub mod Hexadecimal
 pub mod Texts
 pub mod Reasons
 pub mod Written
 pub mod Leaving
 pub mod Traced
+pub mod TraceReasons
+pub mod Refuses
 pub mod Tracing
 pub mod Printed
 pub mod Compared

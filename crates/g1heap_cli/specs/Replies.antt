@@ -1,5 +1,5 @@
 -- What g1heap replies to a request: a status and a text. `left` is what standard input has left.
-use Rattle.std.specs.Prelude.{◌≡◌, ℕ, Bool, List, Option, is_some, Ok, ⊤}
+use Rattle.std.specs.Prelude.{◌≡◌, ℕ, Bool, List, Option, Ok}
 use Rattle.g1_words.specs.declared.limits.Limits.TheVariants.{Wide}
 use Rattle.g1_image.specs.Image.{IsImageTextWithin}
 use Rattle.g1_pause.specs.declared.settings.Choice.{Choice}
@@ -15,7 +15,7 @@ use Rattle.g1heap_request.specs.declared.options.Same.{Same}
 use Rattle.g1heap_request.specs.declared.options.Explain.{Explain}
 use Rattle.g1heap_request.specs.declared.options.Why.{Why}
 use Rattle.g1heap_request.specs.declared.options.Trace.{Trace}
-use Rattle.g1heap_cli.specs.Streams.{HoldsOfNamed}
+use Rattle.g1heap_cli.specs.Streams.{HoldsOfNamed, LeavesBehind}
 use Rattle.g1heap_cli.specs.Texts.{IsPrinted, IsMade, IsWhyText, AsksFor, IsExplainText, form_of}
 use Rattle.g1heap_cli.specs.SameReplies.{IsSameText}
 use Rattle.g1heap_cli.specs.Leaving.{Reply, Just}
@@ -43,19 +43,22 @@ IsPrintReply image part hex left = ByNamed image.name.bytes.items left (IsPrinte
 abbrev pub IsMakeReply : List ℕ → Option (List ℕ) → Reply
 IsMakeReply file left = ByNamed file left IsMade
 
--- what keeps an object
+-- what keeps an object. A file of names is read behind the image: `rest` is what standard input has left then
 abbrev pub IsWhyReply : Why → Option (List ℕ) → Reply
-IsWhyReply why left = ByNamed why.image.name.bytes.items left (IsWhyText why.image.limits why.address (is_some why.names))
+IsWhyReply why left status text =
+    (rest : Option (List ℕ)) × LeavesBehind why.image.name.bytes.items left rest
+    × ByNamed why.image.name.bytes.items left (IsWhyText why.image.limits why.address why.names rest) status text
 
 -- the reply to a trace
 abbrev pub IsTraceReply : Trace → Option (List ℕ) → Reply
 IsTraceReply trace left = RepliesToTrace trace (HoldsOfNamed trace.name.bytes.items left)
 
--- the explanation of a pause, by a choice that the request asks for
+-- the explanation of a pause, by a choice that the request asks for, and with names that are read behind the image
 abbrev pub IsExplainReply : Explain → Option (List ℕ) → Reply
 IsExplainReply e left status text =
-    HoldsOfNamed e.image.name.bytes.items left (λ bytes. (choice : Choice) × AsksFor e.budget e.set.items choice
-    × IsExplainText e.image.limits e.cost choice (form_of e.map) (is_some e.names) bytes status text)
+    (rest : Option (List ℕ)) × LeavesBehind e.image.name.bytes.items left rest
+    × HoldsOfNamed e.image.name.bytes.items left (λ bytes. (choice : Choice) × AsksFor e.budget e.set.items choice
+    × IsExplainText e.image.limits e.cost choice (form_of e.map) e.names rest bytes status text)
 
 -- whether two files have one heap, or how they differ
 abbrev pub IsSameReply : Same → Option (List ℕ) → Reply

@@ -5,15 +5,16 @@ use Rattle.g1_image.specs.Image.{Image}
 use Rattle.g1_report.specs.declared.sides.Side.{Side}
 use Rattle.g1_report.specs.declared.reporting.Asked.{Asked}
 use Rattle.g1heap_request.specs.declared.options.Same.{Same}
+use Rattle.g1heap_cli.specs.Streams.{LeavesBehind}
 use Rattle.g1heap_cli.specs.SameReplies.{IsSideOf, IsSaid, AddsCover}
 
--- a text was taken that is said of these sides
-pub record TakesSaid (same : Same) (before after : Side) (status : ℕ) (old new : Option (List ℕ)) : Type 0 where
+-- a text was taken that is said of these sides, with what is left for the files of names
+pub record TakesSaid (same : Same) (left : Option (List ℕ)) (before after : Side) (status : ℕ) (old new : Option (List ℕ)) : Type 0 where
   pub asked : Asked
   pub text : List ℕ
   pub is_before : asked.before.now ≡ before
   pub is_after : asked.after.now ≡ after
-  pub said : IsSaid same asked status text
+  pub said : IsSaid same left asked status text
   pub taken : Appends old new text
 
 -- the line of cover was taken, or nothing
@@ -30,6 +31,8 @@ pub record TakesReply (same : Same) (left : Option (List ℕ)) (before : Side) (
   pub behind : List ℕ
   pub is_before : asked.before.now ≡ before
   pub after : IsSideOf same.limits same.after.bytes.items left asked.after.now
-  pub said : IsSaid same asked status front
+  pub left_names : Option (List ℕ)
+  pub unread : LeavesBehind same.after.bytes.items left left_names
+  pub said : IsSaid same left_names asked status front
   pub cover : AddsCover same.covered status same.young.items asked.after.now.image behind
   pub taken : Appends old new (front ++ behind)

@@ -1,5 +1,5 @@
 -- Streams that may be away, and the bytes of what has a name.
-use Rattle.std.specs.Prelude.{◌≡◌, ℕ, List, codes, Option, Some, None, IfSome}
+use Rattle.std.specs.Prelude.{◌≡◌, ◌≢◌, ℕ, List, codes, Option, Some, None, String, IfSome}
 use Rattle.std.specs.Option.{option_map}
 use Rattle.g1_image.specs.Source.{HoldsOfLeft}
 
@@ -15,6 +15,15 @@ AreNamed file left bytes = file ≡ codes "-" → IfSome left (λ xs. xs ≡ byt
 -- P holds of the bytes of what has this name
 abbrev pub HoldsOfNamed : List ℕ → Option (List ℕ) → (List ℕ → Type 0) → Type 0
 HoldsOfNamed file left P = (bytes : List ℕ) × P bytes × AreNamed file left bytes
+
+-- what standard input has left behind a file: all that it had before, unless that file is standard input
+abbrev pub LeavesBehind : List ℕ → Option (List ℕ) → Option (List ℕ) → Type 0
+LeavesBehind file left after = file ≢ codes "-" → after ≡ left
+
+-- the same of a file that may be given
+abbrev pub LeavesBehindAny : {Z : Type 0} → Option (String Z) → Option (List ℕ) → Option (List ℕ) → Type 0
+LeavesBehindAny None left after = after ≡ left
+LeavesBehindAny (Some file) left after = LeavesBehind file.bytes.items left after
 
 -- what is kept are those bytes, if the name is that of standard input
 abbrev pub KeepsNamed : {V : Type 0} → (V → List ℕ) → List ℕ → Option (List ℕ) → Option V → Type 0

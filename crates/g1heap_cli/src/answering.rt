@@ -1,6 +1,9 @@
 //! The answers to `show`, `check`, `live`, `choose` and `pause`, of an image in a file.
-ghost use Rattle.std.specs.Prelude.{◌≡◌, ℕ, List, IfOk};
+ghost use Rattle.std.specs.Prelude.{◌≡◌, ◌⊎◌, ℕ, List, IfOk, IfErr};
 ghost use Rattle.g1heap_cli.specs.Leaving.{MakesImage, SendsBytes, HandsBytes};
+ghost use Rattle.g1heap_cli.specs.Refusals.{RefusesFile};
+ghost use Rattle.g1heap_cli.specs.Reasons.{IsRefusedIn};
+ghost use Rattle.g1heap_cli.specs.Refuses.{RefusesAsk, RefusesRewrite, IsUnsent, IsUnwritten, IsOfList};
 ghost use Rattle.g1heap_cli.specs.Replies.{IsAsked, IsRewritten};
 
 use crate::heard::Heard;
@@ -24,7 +27,8 @@ pub fn answer_file<T: Threads + Sync + Files, R: Read>(
     ask: &Ask,
     reader: &mut R,
 ) -> Result<Vec<u8>, Refusal>
-    ensures { IfOk result (λ v. IsAsked ask.now (R.remaining reader.old) 0 v.items) }
+    ensures lines { IfOk result (λ v. IsAsked ask.now (R.remaining reader.old) 0 v.items) }
+    ensures refused { IfErr result (RefusesAsk ask.now (R.remaining reader.old)) }
 {
     let source = match find_source(rt, alloc, &ask.image, reader) {
         Ok(source) => source,
@@ -54,7 +58,8 @@ pub fn rewrite_file<T: Threads + Sync + Files, R: Read, W: Write + Drop>(
     reader: &mut R,
     writer: &mut Heard<W>,
 ) -> Result<u8, Refusal>
-    ensures { HandsBytes rewrite.now.output (IsRewritten rewrite.now (R.remaining reader.old)) (⟦<Heard<W> as Write>⟧.contents writer.old) (⟦<Heard<W> as Write>⟧.contents writer.new) result }
+    ensures hands { HandsBytes rewrite.now.output (IsRewritten rewrite.now (R.remaining reader.old)) (⟦<Heard<W> as Write>⟧.contents writer.old) (⟦<Heard<W> as Write>⟧.contents writer.new) result }
+    ensures refused { IfErr result (λ r. RefusesRewrite rewrite.now (R.remaining reader.old) r ⊎ IsUnsent rewrite.now.output r) }
 {
     match &rewrite.output {
         Output::File(name) => write_new(rt, alloc, rewrite, name.as_str(), reader),
@@ -69,7 +74,8 @@ fn write_new<T: Threads + Sync + Files, R: Read>(
     name: &str,
     reader: &mut R,
 ) -> Result<u8, Refusal>
-    ensures { IfOk result (λ s. (text : List ℕ) × IsRewritten rewrite.now (R.remaining reader.old) s text) }
+    ensures made { IfOk result (λ s. (text : List ℕ) × IsRewritten rewrite.now (R.remaining reader.old) s text) }
+    ensures refused { IfErr result (λ r. RefusesRewrite rewrite.now (R.remaining reader.old) r ⊎ IsUnwritten name.now r) }
 {
     let mut sink = ToWriter::new(Vec::new(alloc));
     match make_new(rt, alloc, rewrite, reader, &mut sink) {
@@ -80,9 +86,17 @@ fn write_new<T: Threads + Sync + Files, R: Read>(
                 Err(refusal) => Err(refusal),
             }
         }
-        // A list takes no more bytes only if memory runs out.
-        Err(Refusal::Fault(Fault::Device(Device::Output))) => Err(Refusal::Fault(Fault::Memory)),
-        Err(refusal) => Err(refusal),
+        Err(refusal) => Err(of_list(refusal)),
+    }
+}
+
+// A list takes no more bytes only if memory runs out.
+fn of_list(refusal: Refusal) -> Refusal
+    ensures { IsOfList refusal result }
+{
+    match refusal {
+        Refusal::Fault(Fault::Device(Device::Output)) => Refusal::Fault(Fault::Memory),
+        _ => refusal,
     }
 }
 
@@ -94,7 +108,8 @@ fn send_new<T: Threads + Sync + Files, R: Read, W: Write + Drop>(
     reader: &mut R,
     writer: &mut Heard<W>,
 ) -> Result<u8, Refusal>
-    ensures { SendsBytes (IsRewritten rewrite.now (R.remaining reader.old)) (⟦<Heard<W> as Write>⟧.contents writer.old) (⟦<Heard<W> as Write>⟧.contents writer.new) result }
+    ensures sends { SendsBytes (IsRewritten rewrite.now (R.remaining reader.old)) (⟦<Heard<W> as Write>⟧.contents writer.old) (⟦<Heard<W> as Write>⟧.contents writer.new) result }
+    ensures refused { IfErr result (λ r. RefusesRewrite rewrite.now (R.remaining reader.old) r ⊎ (r ≡ Refusal.Fault (Fault.Device Device.Output))) }
 {
     let mut sink = ToWriter::new(writer.take());
     let made = make_new(rt, alloc, rewrite, reader, &mut sink);
@@ -112,7 +127,8 @@ fn make_new<T: Threads + Sync + Files, R: Read, W: Write>(
     reader: &mut R,
     writer: &mut ToWriter<W>,
 ) -> Result<(), Refusal>
-    ensures { MakesImage (IsRewritten rewrite.now (R.remaining reader.old)) (⟦<ToWriter<W> as Sink>⟧.written writer.old) (⟦<ToWriter<W> as Sink>⟧.written writer.new) result }
+    ensures makes { MakesImage (IsRewritten rewrite.now (R.remaining reader.old)) (⟦<ToWriter<W> as Sink>⟧.written writer.old) (⟦<ToWriter<W> as Sink>⟧.written writer.new) result }
+    ensures refused { IfErr result (λ r. RefusesRewrite rewrite.now (R.remaining reader.old) r ⊎ (r ≡ Refusal.Fault (Fault.Device Device.Output))) }
 {
     let source = find_collected(rt, alloc, &rewrite.image, reader)?;
     let mut opened = source.open(rt, alloc)?;
@@ -132,7 +148,8 @@ fn refuse_new<T: Files>(
     fault: Fault,
     reason: Option<Error>,
 ) -> Refusal
-    ensures { fault ≡ Fault.Device Device.Output → result ≡ Refusal.Fault fault }
+    ensures output { fault ≡ Fault.Device Device.Output → result ≡ Refusal.Fault fault }
+    ensures refused { (fault ≡ Fault.Device Device.Output) ⊎ (RefusesFile source.now.image.now.name.bytes.items fault result ⊎ IsRefusedIn (λ v. v.items) source.now.kept source.now.image.now result) }
 {
     if fault == Fault::Device(Device::Output) {
         return Refusal::Fault(fault);

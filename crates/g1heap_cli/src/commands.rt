@@ -1,14 +1,19 @@
 //! What the program does with a request.
-ghost use Rattle.std.specs.Prelude.{◌≡◌, ◌⊎◌, ℕ, List, Ok, Err, IfOk, IfErr, map, ⊤};
+ghost use Rattle.std.specs.Prelude.{◌≡◌, ◌⊎◌, ℕ, false, List, Ok, Err, IfOk, IfErr, map, ⊤};
 ghost use Rattle.std.specs.Io.KnownBytes.{Keeps};
 ghost use Rattle.g1heap_request.specs.declared.options.Part.TheVariants as asked;
 ghost use Rattle.g1heap_cli.specs.Written.{taken_of};
-ghost use Rattle.g1heap_cli.specs.Leaving.{Just, SendsText, SendsLines, SendsSame, WritesReply, HandsText, HandsBytes, HandsPrint, GoesBefore};
-ghost use Rattle.g1heap_cli.specs.Printed.{IfLines, reply_of};
+ghost use Rattle.g1heap_cli.specs.Leaving.{Just, Grows, SendsText, SendsLines, SendsSame, WritesReply, HandsText, HandsBytes, HandsPrint, GoesBefore};
+ghost use Rattle.g1heap_cli.specs.Printed.{IfLines, IfBroken, IsRefusalOf, reply_of};
+ghost use Rattle.g1heap_cli.specs.Refuses.{Refuses, RefusesPart, RefusesLinesOf, IsUnsent};
 ghost use Rattle.g1heap_cli.specs.Refusals.{RefusesFile, IsUnread};
 ghost use Rattle.g1heap_cli.specs.Streams.{HoldsOfNamed};
 ghost use Rattle.g1heap_cli.specs.Reasons.{RefusesMake, MayLack};
-ghost use Rattle.g1heap_cli.specs.Texts.{IsPartText, MayChange, IsMade};
+ghost use Rattle.g1heap_cli.specs.Texts.{IsPartText, IsMade, IsGraphMade};
+ghost use Rattle.g1heap_cli.specs.Lines.{RefusesLines};
+ghost use Rattle.g1_image.specs.Image.{IsImageTextWithin};
+ghost use Rattle.g1_text.specs.Refused.{IsLineOrMemory};
+ghost use Rattle.g1_text.specs.declared.expected.Wrong.{Wrong};
 ghost use Rattle.g1heap_cli.specs.Replies.{IsReplyTo, IsSameReply, IsPrintReply, IsMakeReply, IsAsked};
 ghost use Rattle.g1_command.specs.Requests.{IsUsageIf};
 ghost use Rattle.g1heap_cli.specs.Endings.{Leaves, IsReported, EndsByRequest, Ends, IsCalled, IsWrongCall};
@@ -32,7 +37,7 @@ use g1_command::{Ending, Refusal, deliver, deliver_text, refuse};
 use g1_image::Image;
 use g1_report::{Lines, locate};
 use g1_tables::summary;
-use g1_text::{image_lines, is_graph, make, make_graph, object_line, region_lines};
+use g1_text::{image_lines, is_graph, make, make_graph, object_line, plain_lines, region_lines};
 use g1_words::{Device, Fault, Limits, object_at};
 use g1heap_request::{ImageFile, NAME, Output, Part, Request, Same, parse};
 use std::alloc::{AllocError, Global};
@@ -120,7 +125,8 @@ fn answer<T: Threads + Sync + Files, R: Read, W: Write + Drop>(
     reader: &mut R,
     writer: &mut Heard<W>,
 ) -> Result<u8, Refusal>
-    ensures { Leaves request.now (IsReplyTo request.now (R.remaining reader.old)) (⟦<Heard<W> as Write>⟧.contents writer.old) (⟦<Heard<W> as Write>⟧.contents writer.new) result }
+    ensures leaves { Leaves request.now (IsReplyTo request.now (R.remaining reader.old)) (⟦<Heard<W> as Write>⟧.contents writer.old) (⟦<Heard<W> as Write>⟧.contents writer.new) result }
+    ensures refused { IfErr result (Refuses request.now (R.remaining reader.old)) }
 {
     match request {
         Request::Help(text) => send_text(0, text.as_bytes(), writer),
@@ -217,6 +223,7 @@ fn send_lines<T: Threads + Sync + Files, R: Read, W: Write>(
     answer: &mut LineWriter<W>,
 ) -> Result<u8, Refusal>
     ensures lines { IfOk result (λ s. WritesReply (IsSameReply same.now (R.remaining reader.old)) (⟦<LineWriter<W> as Lines>⟧.taken answer.old) (⟦<LineWriter<W> as Lines>⟧.taken answer.new) (taken_of W.contents (λ s. s.value) answer.new.gone answer.new.writer answer.new.text.bytes.items) (W.contents answer.new.writer) s) }
+    ensures grown { Grows (⟦<LineWriter<W> as Lines>⟧.taken answer.old) (⟦<LineWriter<W> as Lines>⟧.taken answer.new) }
 {
     match compare_files(rt, alloc, same, reader, answer) {
         Ok(status) => match answer.finish(status) {
@@ -246,6 +253,8 @@ fn print_part<T: Threads + Sync + Files, R: Read>(
     reader: &mut R,
 ) -> Result<Printed, Refusal>
     ensures lines { IfOk result (IfLines (IsPrintReply image.now part hex (R.remaining reader.old) 0)) }
+    ensures broken { IfOk result (IfBroken (RefusesPart image.now part (R.remaining reader.old))) }
+    ensures refused { IfErr result (RefusesPart image.now part (R.remaining reader.old)) }
 {
     let source = match find_source(rt, alloc, image, reader) {
         Ok(source) => source,
@@ -272,7 +281,7 @@ fn print_lines<T: Threads + Sync>(
     part: Part,
     hex: bool,
 ) -> Result<String, Refusal>
-    ensures text { IfOk result (λ s. MayChange hex (IsPartText part image.now) s.bytes.items) }
+    ensures text { IfOk result (λ s. IsPartText part hex image.now s.bytes.items) }
     ensures refused { IfErr result (MayLack name.now part image.now) }
 {
     let text = match lines(rt, alloc, image, name, part) {
@@ -282,6 +291,8 @@ fn print_lines<T: Threads + Sync>(
     if !hex {
         return Ok(text);
     }
+    // It states to the prover that the image is one.
+    let _ = image.heap();
     match with_hexadecimal(alloc, text.as_str()) {
         Ok(text) => Ok(text),
         Err(_) => Err(Refusal::Fault(Fault::Memory)),
@@ -342,7 +353,8 @@ fn hand_over_print<T: Files, W: Write>(
     output: &Output,
     writer: &mut W,
 ) -> Result<u8, Refusal>
-    ensures { HandsPrint output.now (reply_of printed) (W.contents writer.old) (W.contents writer.new) result }
+    ensures hands { HandsPrint output.now (reply_of printed) (W.contents writer.old) (W.contents writer.new) result }
+    ensures refused { IfErr result (λ r. IsRefusalOf printed r ⊎ IsUnsent output.now r) }
 {
     match printed {
         Printed::Lines(text) => hand_over_text(rt, alloc, 0, text.as_bytes(), output, writer),
@@ -363,7 +375,8 @@ fn hand_over_broken<T: Files, W: Write>(
     output: &Output,
     writer: &mut W,
 ) -> Result<(), Refusal>
-    ensures { GoesBefore output.now (W.contents writer.old) (W.contents writer.new) }
+    ensures goes { GoesBefore output.now (W.contents writer.old) (W.contents writer.new) }
+    ensures refused { IfErr result (IsUnsent output.now) }
 {
     let Some(text) = text else {
         return Ok(());
@@ -383,7 +396,8 @@ fn hand_over_text<T: Files, W: Write>(
     output: &Output,
     writer: &mut W,
 ) -> Result<u8, Refusal>
-    ensures { HandsText output.now (Just status text.now) (W.contents writer.old) (W.contents writer.new) result }
+    ensures hands { HandsText output.now (Just status text.now) (W.contents writer.old) (W.contents writer.new) result }
+    ensures refused { IfErr result (IsUnsent output.now) }
 {
     match output {
         Output::File(name) => match write_file(rt, alloc, name.as_str(), text) {
@@ -395,7 +409,8 @@ fn hand_over_text<T: Files, W: Write>(
 }
 
 fn send_text<W: Write>(status: u8, text: &[u8], writer: &mut W) -> Result<u8, Refusal>
-    ensures { SendsText (Just status text.now) (W.contents writer.old) (W.contents writer.new) result }
+    ensures sends { SendsText (Just status text.now) (W.contents writer.old) (W.contents writer.new) result }
+    ensures refused { IfErr result (λ r. r ≡ Refusal.Fault (Fault.Device Device.Output)) }
 {
     match deliver_text(status, text, writer) {
         Ok(status) => Ok(status),
@@ -411,7 +426,8 @@ fn hand_over<T: Files, W: Write>(
     output: &Output,
     writer: &mut W,
 ) -> Result<u8, Refusal>
-    ensures { HandsBytes output.now (Just 0 bytes.now) (W.contents writer.old) (W.contents writer.new) result }
+    ensures hands { HandsBytes output.now (Just 0 bytes.now) (W.contents writer.old) (W.contents writer.new) result }
+    ensures refused { IfErr result (IsUnsent output.now) }
 {
     match output {
         Output::File(name) => match write_file(rt, alloc, name.as_str(), bytes) {
@@ -432,7 +448,7 @@ fn lines<T: Threads + Sync>(
     name: &str,
     part: Part,
 ) -> Result<String, Refusal>
-    ensures text { IfOk result (λ s. IsPartText part image.now s.bytes.items) }
+    ensures text { IfOk result (λ s. IsPartText part false image.now s.bytes.items) }
     ensures refused { IfErr result (MayLack name.now part image.now) }
 {
     match part {
@@ -451,7 +467,7 @@ fn lines<T: Threads + Sync>(
 }
 
 fn lines_of_region(alloc: Global, image: &Image, name: &str, region: u32) -> Result<String, Refusal>
-    ensures text { IfOk result (λ s. IsPartText (asked.Region region) image.now s.bytes.items) }
+    ensures text { IfOk result (λ s. IsPartText (asked.Region region) false image.now s.bytes.items) }
     ensures refused { IfErr result (MayLack name.now (asked.Region region) image.now) }
 {
     let regions = image.heap().geometry().regions();
@@ -465,7 +481,7 @@ fn lines_of_region(alloc: Global, image: &Image, name: &str, region: u32) -> Res
 }
 
 fn line_of_object(alloc: Global, image: &Image, name: &str, address: u64) -> Result<String, Refusal>
-    ensures text { IfOk result (λ s. IsPartText (asked.Object address) image.now s.bytes.items) }
+    ensures text { IfOk result (λ s. IsPartText (asked.Object address) false image.now s.bytes.items) }
     ensures refused { IfErr result (MayLack name.now (asked.Object address) image.now) }
 {
     let heap = image.heap();
@@ -489,27 +505,37 @@ fn make_from<T: Files, R: Read>(
     reader: &mut R,
 ) -> Result<Vec<u8>, Refusal>
     ensures bytes { IfOk result (λ v. IsMakeReply name.now (R.remaining reader.old) 0 v.items) }
-    ensures refused { IfErr result (λ r. IsUnread name.now r ⊎ HoldsOfNamed name.now (R.remaining reader.old) (λ lines. RefusesMake name.now lines r)) }
+    ensures refused { IfErr result (RefusesLinesOf name.now (R.remaining reader.old)) }
 {
     match read_bytes(rt, alloc, name, reader) {
-        Ok(lines) => make_image(alloc, name, lines.as_slice()),
+        Ok(lines) => make_image(alloc, name, lines),
         Err(refusal) => Err(refusal),
     }
 }
 
 // Lines of objects by name begin with another word.
-fn make_image(alloc: Global, name: &str, lines: &[u8]) -> Result<Vec<u8>, Refusal>
-    ensures bytes { IfOk result (λ v. IsMade lines.now v.items) }
-    ensures refused { IfErr result (RefusesMake name.now lines.now) }
+fn make_image(alloc: Global, name: &str, lines: Vec<u8>) -> Result<Vec<u8>, Refusal>
+    ensures bytes { IfOk result (λ v. IsMade lines.items v.items) }
+    ensures refused { IfErr result (RefusesMake name.now lines.items) }
 {
-    if is_graph(lines) {
-        return match make_graph(alloc, lines) {
-            Ok(bytes) => Ok(bytes),
-            Err(wrong) => Err(refuse_lines(alloc, name, lines, wrong)),
-        };
+    if is_graph(lines.as_slice()) {
+        return make_named(alloc, name, lines);
     }
-    match make(alloc, lines) {
+    match make(alloc, lines.as_slice()) {
         Ok(bytes) => Ok(bytes),
-        Err(wrong) => Err(refuse_lines(alloc, name, lines, wrong)),
+        Err(wrong) => Err(refuse_lines(alloc, name, lines.as_slice(), wrong)),
+    }
+}
+
+fn make_named(alloc: Global, name: &str, lines: Vec<u8>) -> Result<Vec<u8>, Refusal>
+    ensures bytes { IfOk result (λ v. IsImageTextWithin Limits.Wide v.items × IsGraphMade lines.items v.items) }
+    ensures refused { IfErr result (λ r. (wrong : Wrong) × IsLineOrMemory wrong × RefusesLines name.now wrong r) }
+{
+    let Ok(lines) = plain_lines(alloc, lines) else {
+        return Err(Refusal::Fault(Fault::Memory));
+    };
+    match make_graph(alloc, lines.as_slice()) {
+        Ok(bytes) => Ok(bytes),
+        Err(wrong) => Err(refuse_lines(alloc, name, lines.as_slice(), wrong)),
     }
 }

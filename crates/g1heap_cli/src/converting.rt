@@ -1,7 +1,8 @@
 //! The image of a heap dump.
-ghost use Rattle.std.specs.Prelude.{IfOk};
+ghost use Rattle.std.specs.Prelude.{IfOk, IfErr};
 ghost use Rattle.g1_words.specs.declared.limits.Limits.TheVariants.{Wide};
 ghost use Rattle.g1_image.specs.Image.{IsImageTextWithin};
+ghost use Rattle.g1heap_cli.specs.Refuses.{RefusesDump};
 
 use crate::files::read_bytes;
 use crate::output::write_file;
@@ -20,7 +21,8 @@ pub fn convert_file<T: Files, R: Read>(
     asked: &Convert,
     reader: &mut R,
 ) -> Result<Vec<u8>, Refusal>
-    ensures { IfOk result (λ v. IsImageTextWithin Wide v.items) }
+    ensures image { IfOk result (λ v. IsImageTextWithin Wide v.items) }
+    ensures refused { IfErr result (RefusesDump asked.now) }
 {
     let name = asked.dump.as_str();
     let dump = read_bytes(rt, alloc, name, reader)?;

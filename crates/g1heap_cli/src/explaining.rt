@@ -1,17 +1,22 @@
 //! A pause as lines, and what keeps an object.
-ghost use Rattle.std.specs.Prelude.{◌≡◌, true, false, IfOk, is_some};
-ghost use Rattle.g1heap_cli.specs.Texts.{MayChange, IsReasonText, AsksFor, EndsWith, IsExplanation, form_of};
+ghost use Rattle.std.specs.Prelude.{◌≡◌, ◌⊎◌, Some, None, IfOk, IfErr};
+ghost use Rattle.g1heap_request.specs.declared.options.Part.TheVariants as asked;
+ghost use Rattle.g1heap_cli.specs.Reasons.{IsRefusedIn, MayLack, RefusesReason, RefusesWhy, RefusesCost, RefusesPause};
+ghost use Rattle.g1heap_cli.specs.Refuses.{RefusesExplain};
+ghost use Rattle.g1heap_cli.specs.Refusals.{RefusesFile};
+ghost use Rattle.g1heap_cli.specs.Texts.{IsReasonText, AsksFor, EndsWith, IsPauseText, IsExplanation, form_of};
+ghost use Rattle.g1heap_cli.specs.Named.{MayBeNamed, IsTextNamed, RefusesNamesOf, RefusesNamesGiven};
 ghost use Rattle.g1heap_cli.specs.Replies.{IsWhyReply, IsExplainReply};
 
 use crate::alone::{CHUNK, WORKERS};
-use crate::mapping::{copy_for, read_names, with_names};
-use crate::refusal::{contradiction, no_object, of_file};
+use crate::mapping::read_named;
+use crate::refusal::no_object;
 use crate::sources::{Source, find_collected, find_source};
 use g1_command::Refusal;
-use g1_explain::{Explanation, Failure, Form, explain, why};
-use g1_image::Image;
+use g1_explain::{Explanation, Form, explain, why};
+use g1_image::{Image, copy};
 use g1_pause::{Choice, Settings};
-use g1_report::locate;
+use g1_report::{locate, noted};
 use g1_words::{Fault, object_at};
 use g1heap_request::{Explain, Why};
 use std::alloc::Global;
@@ -26,7 +31,8 @@ pub fn explain_pause<T: Threads + Sync + Files, R: Read>(
     request: &Explain,
     reader: &mut R,
 ) -> Result<(u8, String), Refusal>
-    ensures { IfOk result (λ x. IsExplainReply request.now (R.remaining reader.old) x.0 x.1.bytes.items) }
+    ensures text { IfOk result (λ x. IsExplainReply request.now (R.remaining reader.old) x.0 x.1.bytes.items) }
+    ensures refused { IfErr result (RefusesExplain request.now (R.remaining reader.old)) }
 {
     let settings = match settings_of(alloc, request) {
         Ok(settings) => settings,
@@ -51,30 +57,22 @@ fn explain_image<T: Threads + Sync + Files, R: Read>(
     settings: &Settings,
     reader: &mut R,
 ) -> Result<(u8, String), Refusal>
-    ensures { IfOk result (λ x. IsExplanation settings.now.cost settings.now.choice (form_of request.now.map) (is_some request.now.names) image x.0 x.1.bytes.items) }
+    ensures text { IfOk result (λ x. IsExplanation settings.now.cost settings.now.choice (form_of request.now.map) request.now.names (R.remaining reader.old) image x.0 x.1.bytes.items) }
+    ensures refused { IfErr result (λ r. RefusesNamesGiven request.now.names (R.remaining reader.old) None r ⊎ RefusesPause source.now.image.now.name.bytes.items settings.now.cost settings.now.choice request.now.map image r ⊎ IsRefusedIn (λ v. v.items) source.now.kept source.now.image.now r) }
 {
-    match &request.names {
-        None => pause_lines(rt, alloc, source, image, settings, request.map),
-        Some(_) => explain_named(rt, alloc, source, image, request, settings, reader),
-    }
-}
-
-fn explain_named<T: Threads + Sync + Files, R: Read>(
-    rt: &T,
-    alloc: Global,
-    source: &Source<'_>,
-    image: Image,
-    request: &Explain,
-    settings: &Settings,
-    reader: &mut R,
-) -> Result<(u8, String), Refusal>
-    ensures { IfOk result (λ x. IsExplanation settings.now.cost settings.now.choice (form_of request.now.map) true image x.0 x.1.bytes.items) }
-{
-    let mut map = Vec::new(alloc);
-    let names = read_names(rt, alloc, &request.names, None, reader, &mut map)?;
-    let before = copy_for(alloc, &image, &names)?;
+    let Some(file) = &request.names else {
+        return pause_lines(rt, alloc, source, image, settings, request.map);
+    };
+    let mut bytes = Vec::new(alloc);
+    let names = match read_named(rt, alloc, file.as_str(), None, reader, &mut bytes) {
+        Ok(names) => names,
+        Err(refusal) => return Err(refusal),
+    };
+    let Ok(before) = copy(alloc, &image) else {
+        return Err(Refusal::Fault(Fault::Memory));
+    };
     match pause_lines(rt, alloc, source, image, settings, request.map) {
-        Ok((status, text)) => match with_names(alloc, text, &before, &names) {
+        Ok((status, lines)) => match noted(alloc, lines.as_str(), before.heap(), &names) {
             Ok(text) => Ok((status, text)),
             Err(_) => Err(Refusal::Fault(Fault::Memory)),
         },
@@ -91,13 +89,14 @@ fn pause_lines<T: Threads + Sync + Files>(
     settings: &Settings,
     map: bool,
 ) -> Result<(u8, String), Refusal>
-    ensures { IfOk result (λ x. IsExplanation settings.now.cost settings.now.choice (form_of map) false image x.0 x.1.bytes.items) }
+    ensures text { IfOk result (λ x. IsPauseText settings.now.cost settings.now.choice (form_of map) image x.0 x.1.bytes.items) }
+    ensures refused { IfErr result (λ r. RefusesPause source.now.image.now.name.bytes.items settings.now.cost settings.now.choice map image r ⊎ IsRefusedIn (λ v. v.items) source.now.kept source.now.image.now r) }
 {
     let form = form_of(map);
     match explain(rt, alloc, image, settings, form) {
         Ok(explanation) => answer(rt, alloc, source, explanation, form),
-        Err(Failure::Fault(fault)) => Err(source.refuse(rt, alloc, fault)),
-        Err(failure) => Err(of_failure(alloc, source.name(), failure)),
+        // It wants memory, and nothing else.
+        Err(_) => Err(Refusal::Fault(Fault::Memory)),
     }
 }
 
@@ -111,6 +110,7 @@ fn form_of(map: bool) -> Form
 fn settings_of(alloc: Global, request: &Explain) -> Result<Settings, Fault>
     ensures cost { IfOk result (λ s. s.cost ≡ request.now.cost) }
     ensures choice { IfOk result (λ s. AsksFor request.now.budget request.now.set.items s.choice) }
+    ensures fault { IfErr result (λ f. RefusesCost request.now.cost (Refusal.Fault f)) }
 {
     match choice_of(alloc, request) {
         Ok(choice) => Settings::new(WORKERS, CHUNK, request.cost, choice),
@@ -119,7 +119,8 @@ fn settings_of(alloc: Global, request: &Explain) -> Result<Settings, Fault>
 }
 
 fn choice_of(alloc: Global, request: &Explain) -> Result<Choice, Fault>
-    ensures { IfOk result (AsksFor request.now.budget request.now.set.items) }
+    ensures asked { IfOk result (AsksFor request.now.budget request.now.set.items) }
+    ensures memory { IfErr result (λ f. f ≡ Fault.Memory) }
 {
     match request.budget {
         Some(budget) => Ok(Choice::Budget(budget)),
@@ -139,20 +140,13 @@ fn answer<T: Files>(
 ) -> Result<(u8, String), Refusal>
     ensures text { IfOk result (λ x. x.1 ≡ explanation.text) }
     ensures status { IfOk result (λ x. EndsWith explanation.refused form x.0) }
+    ensures refused { IfErr result (λ r. (f : Fault) × (explanation.refused ≡ Some f) × (form ≡ Form.Map) × (RefusesFile source.now.image.now.name.bytes.items f r ⊎ IsRefusedIn (λ v. v.items) source.now.kept source.now.image.now r)) }
 {
     let Explanation { text, refused } = explanation;
     match (refused, form) {
         (None, _) => Ok((0, text)),
         (Some(fault), Form::Map) => Err(source.refuse(rt, alloc, fault)),
         (Some(fault), Form::Steps) => Ok((fault.status(), text)),
-    }
-}
-
-/// The refusal of a pause that can't be explained.
-pub fn of_failure(alloc: Global, name: &str, failure: Failure) -> Refusal {
-    match failure {
-        Failure::Fault(fault) => of_file(alloc, name, fault),
-        Failure::Contradiction => contradiction(alloc, name),
     }
 }
 
@@ -163,7 +157,8 @@ pub fn explain_object<T: Threads + Sync + Files, R: Read>(
     request: &Why,
     reader: &mut R,
 ) -> Result<String, Refusal>
-    ensures { IfOk result (λ s. IsWhyReply request.now (R.remaining reader.old) 0 s.bytes.items) }
+    ensures text { IfOk result (λ s. IsWhyReply request.now (R.remaining reader.old) 0 s.bytes.items) }
+    ensures refused { IfErr result (RefusesWhy request.now (R.remaining reader.old)) }
 {
     let source = match find_source(rt, alloc, &request.image, reader) {
         Ok(source) => source,
@@ -183,7 +178,8 @@ fn keeping_lines<T: Threads + Sync + Files, R: Read>(
     request: &Why,
     reader: &mut R,
 ) -> Result<String, Refusal>
-    ensures { IfOk result (λ s. MayChange (is_some request.now.names) (IsReasonText request.now.address image) s.bytes.items) }
+    ensures text { IfOk result (λ s. MayBeNamed request.now.names (R.remaining reader.old) image.heap (IsReasonText request.now.address image) s.bytes.items) }
+    ensures refused { IfErr result (λ r. RefusesReason source.now.image.now.name.bytes.items request.now.address image r ⊎ RefusesNamesGiven request.now.names (R.remaining reader.old) None r ⊎ IsRefusedIn (λ v. v.items) source.now.kept source.now.image.now r) }
 {
     let address = request.address;
     if let Err(refusal) = check_object(alloc, source.name(), &image, address) {
@@ -191,7 +187,7 @@ fn keeping_lines<T: Threads + Sync + Files, R: Read>(
     }
     match &request.names {
         None => reason_lines(rt, alloc, source, image, address),
-        Some(_) => named_lines(rt, alloc, source, image, request, reader),
+        Some(file) => named_lines(rt, alloc, source, image, address, file.as_str(), reader),
     }
 }
 
@@ -200,14 +196,28 @@ fn named_lines<T: Threads + Sync + Files, R: Read>(
     alloc: Global,
     source: &Source<'_>,
     image: Image,
-    request: &Why,
+    address: u64,
+    file: &str,
     reader: &mut R,
-) -> Result<String, Refusal> {
-    let mut map = Vec::new(alloc);
-    let names = read_names(rt, alloc, &request.names, None, reader, &mut map)?;
-    let before = copy_for(alloc, &image, &names)?;
-    let text = reason_lines(rt, alloc, source, image, request.address)?;
-    Ok(with_names(alloc, text, &before, &names)?)
+) -> Result<String, Refusal>
+    ensures text { IfOk result (λ s. IsTextNamed file.now (R.remaining reader.old) image.heap (IsReasonText address image) s.bytes.items) }
+    ensures refused { IfErr result (λ r. RefusesReason source.now.image.now.name.bytes.items address image r ⊎ RefusesNamesOf file.now (R.remaining reader.old) None r ⊎ IsRefusedIn (λ v. v.items) source.now.kept source.now.image.now r) }
+{
+    let mut bytes = Vec::new(alloc);
+    let names = match read_named(rt, alloc, file, None, reader, &mut bytes) {
+        Ok(names) => names,
+        Err(refusal) => return Err(refusal),
+    };
+    let Ok(before) = copy(alloc, &image) else {
+        return Err(Refusal::Fault(Fault::Memory));
+    };
+    match reason_lines(rt, alloc, source, image, address) {
+        Ok(lines) => match noted(alloc, lines.as_str(), before.heap(), &names) {
+            Ok(text) => Ok(text),
+            Err(_) => Err(Refusal::Fault(Fault::Memory)),
+        },
+        Err(refusal) => Err(refusal),
+    }
 }
 
 fn reason_lines<T: Threads + Sync + Files>(
@@ -217,21 +227,26 @@ fn reason_lines<T: Threads + Sync + Files>(
     image: Image,
     address: u64,
 ) -> Result<String, Refusal>
-    ensures { IfOk result (λ s. IsReasonText address image s.bytes.items) }
+    ensures text { IfOk result (λ s. IsReasonText address image s.bytes.items) }
+    ensures refused { IfErr result (λ r. RefusesReason source.now.image.now.name.bytes.items address image r ⊎ IsRefusedIn (λ v. v.items) source.now.kept source.now.image.now r) }
 {
     match why(rt, alloc, image, address) {
         Ok(text) => Ok(text),
-        Err(Failure::Fault(fault)) => Err(source.refuse(rt, alloc, fault)),
-        Err(failure) => Err(of_failure(alloc, source.name(), failure)),
+        Err(fault) => Err(source.refuse(rt, alloc, fault)),
     }
 }
 
 // Refuses an address at which no object starts.
-fn check_object(alloc: Global, name: &str, image: &Image, address: u64) -> Result<(), Refusal> {
+fn check_object(alloc: Global, name: &str, image: &Image, address: u64) -> Result<(), Refusal>
+    ensures { IfErr result (MayLack name.now (asked.Object address) image.now) }
+{
     let heap = image.heap();
     if object_at(heap, address).is_some() {
         return Ok(());
     }
-    let location = locate(alloc, heap, address)?;
-    Err(no_object(alloc, name, address, &location))
+    match locate(alloc, heap, address) {
+        Ok(location) => Err(no_object(alloc, name, address, &location)),
+        // It wants memory, and nothing else.
+        Err(_) => Err(Refusal::Fault(Fault::Memory)),
+    }
 }

@@ -1,7 +1,7 @@
 //! Files on the command line.
 ghost use Rattle.std.specs.Prelude.{◌≡◌, ◌≢◌, ℕ, List, codes, IfOk, IfErr, IfSome};
 ghost use Rattle.g1_image.specs.Source.{HoldsOfLeft};
-ghost use Rattle.g1heap_cli.specs.Streams.{AreNamed, HoldsOfNamed};
+ghost use Rattle.g1heap_cli.specs.Streams.{AreNamed, HoldsOfNamed, LeavesBehind};
 ghost use Rattle.g1heap_cli.specs.Refusals.{IsUnread};
 ghost use Rattle.g1heap_cli.specs.Compared.{IsContent};
 
@@ -9,7 +9,7 @@ use crate::heard::Heard;
 use crate::refusal::{of_bytes, of_device, unopenable};
 use g1_command::{Refusal, read_all};
 use g1_image::{FromReader, Image, Stale, decode_within, read_stale, read_within};
-use g1_text::is_graph;
+use g1_text::{is_graph, plain_lines};
 use g1_words::{Fault, Limits};
 use g1heap_request::STANDARD_STREAM;
 use std::alloc::Global;
@@ -26,6 +26,7 @@ pub fn read_bytes<T: Files, R: Read>(
 ) -> Result<Vec<u8>, Refusal>
     ensures bytes { IfOk result (λ v. AreNamed name.now (R.remaining reader.old) v.items) }
     ensures refused { IfErr result (IsUnread name.now) }
+    ensures left { LeavesBehind name.now (R.remaining reader.old) (R.remaining reader.new) }
 {
     if name == STANDARD_STREAM {
         return read_whole(alloc, name, reader);
@@ -51,7 +52,7 @@ fn read_whole<R: Read>(alloc: Global, name: &str, reader: &mut R) -> Result<Vec<
 /// What a file that is compared has.
 #[derive(Drop)]
 pub enum SideContent {
-    /// Lines of objects by name.
+    /// Lines of objects by name, in plain words.
     Lines(Vec<u8>),
     Image(Image),
     /// What is no image only because words reference no object: with these words null it is one.
@@ -187,7 +188,10 @@ fn found_in(
     ensures { IfOk result (IsContent limits bytes.items) }
 {
     if is_graph(bytes.as_slice()) {
-        return Ok(SideContent::Lines(bytes));
+        return match plain_lines(alloc, bytes) {
+            Ok(lines) => Ok(SideContent::Lines(lines)),
+            Err(_) => Err(Refusal::Fault(Fault::Memory)),
+        };
     }
     match decode_within(alloc, limits, bytes.as_slice()) {
         Ok(image) => Ok(SideContent::Image(image)),

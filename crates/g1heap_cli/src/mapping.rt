@@ -1,12 +1,14 @@
-//! The names of a program, from a file, and lines with names behind them.
-ghost use Rattle.std.specs.Prelude.{◌≡◌, None, IfOk};
+//! The names of a program, from a file.
+ghost use Rattle.std.specs.Prelude.{option_map, IfOk, IfErr, IfSome};
+ghost use Rattle.g1_report.specs.Program.{program_of, labels_told, RiseByNumber, AreInOrder};
+ghost use Rattle.g1heap_cli.specs.Streams.{LeavesBehind, LeavesBehindAny};
+ghost use Rattle.g1heap_cli.specs.Named.{AreNamesOfFile, AreNamesGiven, RefusesNamesOf, RefusesNamesGiven};
 
 use crate::files::read_bytes;
 use crate::refusal::refuse_names;
 use g1_command::Refusal;
-use g1_image::{Image, copy};
-use g1_report::{Labels, Names, noted};
-use std::alloc::{AllocError, Global};
+use g1_report::{Labels, Names};
+use std::alloc::Global;
 use std::io::Read;
 use std::rt::Files;
 
@@ -20,39 +22,40 @@ pub fn read_names<'a, T: Files, R: Read>(
     reader: &mut R,
     text: &'a mut Vec<u8>,
 ) -> Result<Option<Names<'a>>, Refusal>
-    ensures { file.now ≡ None → IfOk result (λ n. n ≡ None) }
+    ensures names { IfOk result (λ n. AreNamesGiven file.now (R.remaining reader.old) (labels_told labels.entry) (option_map program_of n)) }
+    ensures in_order { IfSome (labels_told labels.entry) RiseByNumber → IfOk result (λ n. IfSome (option_map program_of n) AreInOrder) }
+    ensures refused { IfErr result (RefusesNamesGiven file.now (R.remaining reader.old) (labels_told labels.entry)) }
+    ensures left { LeavesBehindAny file.now (R.remaining reader.old) (R.remaining reader.new) }
 {
     let Some(file) = file else {
         return Ok(None);
     };
-    *text = read_bytes(rt, alloc, file.as_str(), reader)?;
-    match Names::read(alloc, text.as_slice(), labels) {
+    match read_named(rt, alloc, file.as_str(), labels, reader, text) {
         Ok(names) => Ok(Some(names)),
-        Err(wrong) => Err(refuse_names(alloc, file.as_str(), wrong)),
+        Err(refusal) => Err(refusal),
     }
 }
 
-/// A copy of an image that goes away before its lines get names, if there are names.
-pub fn copy_for(
+/// Reads the file of names that has this name, for a heap whose objects have these names.
+pub fn read_named<'a, T: Files, R: Read>(
+    rt: &T,
     alloc: Global,
-    image: &Image,
-    names: &Option<Names<'_>>,
-) -> Result<Option<Image>, AllocError> {
-    match names {
-        Some(_) => Ok(Some(copy(alloc, image)?)),
-        None => Ok(None),
+    name: &str,
+    labels: Labels<'a>,
+    reader: &mut R,
+    text: &'a mut Vec<u8>,
+) -> Result<Names<'a>, Refusal>
+    ensures names { IfOk result (λ n. AreNamesOfFile name.now (R.remaining reader.old) (labels_told labels.entry) (program_of n)) }
+    ensures in_order { IfSome (labels_told labels.entry) RiseByNumber → IfOk result (λ n. AreInOrder (program_of n)) }
+    ensures refused { IfErr result (RefusesNamesOf name.now (R.remaining reader.old) (labels_told labels.entry)) }
+    ensures left { LeavesBehind name.now (R.remaining reader.old) (R.remaining reader.new) }
+{
+    match read_bytes(rt, alloc, name, reader) {
+        Ok(bytes) => *text = bytes,
+        Err(refusal) => return Err(refusal),
     }
-}
-
-/// The lines with the names behind them that are for this image.
-pub fn with_names(
-    alloc: Global,
-    lines: String,
-    image: &Option<Image>,
-    names: &Option<Names<'_>>,
-) -> Result<String, AllocError> {
-    match (image, names) {
-        (Some(image), Some(names)) => noted(alloc, lines.as_str(), image.heap(), names),
-        _ => Ok(lines),
+    match Names::read(alloc, text.as_slice(), labels) {
+        Ok(names) => Ok(names),
+        Err(wrong) => Err(refuse_names(alloc, name, wrong)),
     }
 }

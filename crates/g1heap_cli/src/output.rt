@@ -1,4 +1,7 @@
 //! An answer that goes into a file.
+ghost use Rattle.std.specs.Prelude.{IfErr};
+ghost use Rattle.g1heap_cli.specs.Refuses.{CantWrite, IsUnwritten};
+
 use crate::refusal::{no_free_name, of_device, unwritable};
 use g1_command::Refusal;
 use g1_words::{Device, Fault};
@@ -11,12 +14,9 @@ use std::{fs, io};
 /// Writes an answer to a file. It is written beside the file, and gets the file's name when it is whole, so
 /// that no failure leaves a part of an answer or takes away what the file was before. What is no file, as a
 /// device or a pipe, is written where it is.
-pub fn write_file<T: Files>(
-    rt: &T,
-    alloc: Global,
-    name: &str,
-    answer: &[u8],
-) -> Result<(), Refusal> {
+pub fn write_file<T: Files>(rt: &T, alloc: Global, name: &str, answer: &[u8]) -> Result<(), Refusal>
+    ensures { IfErr result (IsUnwritten name.now) }
+{
     match fs::metadata(rt, name) {
         Ok(found) if !found.is_file() => {
             let device = OpenOptions::new().write(true).open(rt, name);
@@ -32,7 +32,9 @@ fn write_whole<F: Write + Drop>(
     name: &str,
     opened: io::Result<F>,
     answer: &[u8],
-) -> Result<(), Refusal> {
+) -> Result<(), Refusal>
+    ensures { IfErr result (IsUnwritten name.now) }
+{
     let mut file = check_done(alloc, name, opened)?;
     match file.write_all(answer) {
         Ok(()) => Ok(()),
@@ -43,7 +45,9 @@ fn write_whole<F: Write + Drop>(
     }
 }
 
-fn replace<T: Files>(rt: &T, alloc: Global, name: &str, answer: &[u8]) -> Result<(), Refusal> {
+fn replace<T: Files>(rt: &T, alloc: Global, name: &str, answer: &[u8]) -> Result<(), Refusal>
+    ensures { IfErr result (IsUnwritten name.now) }
+{
     let beside = free_name(rt, alloc, name)?;
     let done = write_beside(rt, alloc, name, beside.as_str(), answer);
     if done.is_err() {
@@ -58,7 +62,9 @@ fn write_beside<T: Files>(
     name: &str,
     beside: &str,
     answer: &[u8],
-) -> Result<(), Refusal> {
+) -> Result<(), Refusal>
+    ensures { IfErr result (IsUnwritten name.now) }
+{
     write_whole(alloc, name, File::create(rt, beside), answer)?;
     check_done(alloc, name, fs::rename(rt, beside, name))
 }
@@ -67,7 +73,9 @@ fn write_beside<T: Files>(
 const TRIED: u32 = 100;
 
 // A name beside the file's that no file has. The file of this name is made, so that nobody else takes it.
-fn free_name<T: Files>(rt: &T, alloc: Global, name: &str) -> Result<String, Refusal> {
+fn free_name<T: Files>(rt: &T, alloc: Global, name: &str) -> Result<String, Refusal>
+    ensures { IfErr result (CantWrite name.now) }
+{
     for number in 1..TRIED {
         let beside = format!(in alloc; "{name}.part{number}")?;
         match File::create_new(rt, beside.as_str()) {
@@ -82,7 +90,9 @@ fn free_name<T: Files>(rt: &T, alloc: Global, name: &str) -> Result<String, Refu
     Err(no_free_name(alloc, name))
 }
 
-fn failure(alloc: Global, name: &str, error: &io::Error) -> Refusal {
+fn failure(alloc: Global, name: &str, error: &io::Error) -> Refusal
+    ensures { CantWrite name.now result }
+{
     if error.kind() == ErrorKind::OutOfMemory {
         return Fault::Memory.into();
     }
@@ -90,7 +100,9 @@ fn failure(alloc: Global, name: &str, error: &io::Error) -> Refusal {
 }
 
 // What was opened or renamed for the file of this name.
-fn check_done<V: Drop>(alloc: Global, name: &str, done: io::Result<V>) -> Result<V, Refusal> {
+fn check_done<V: Drop>(alloc: Global, name: &str, done: io::Result<V>) -> Result<V, Refusal>
+    ensures { IfErr result (CantWrite name.now) }
+{
     match done {
         Ok(value) => Ok(value),
         Err(error) => Err(failure(alloc, name, &error)),

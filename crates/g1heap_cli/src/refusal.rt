@@ -1,7 +1,9 @@
 //! The refusals that name a file.
-ghost use Rattle.std.specs.Prelude.{◌≡◌, ◌⊎◌, ℕ, List, [], ◌++◌, codes, decimal, None, IfOk, IfErr};
+ghost use Rattle.std.specs.Prelude.{◌≡◌, ◌⊎◌, ◌↔◌, ℕ, List, [], ◌++◌, codes, decimal, None, IfOk, IfErr, IsTrue};
+ghost use Rattle.std.specs.Io.{StartsWith};
 ghost use Rattle.g1_words.specs.Fault.{status_of};
-ghost use Rattle.g1heap_cli.specs.Refusals.{Tells, ended, told_line, file_line, cause_line, IsFileText, RefusesFile, IsLineText, RefusesLine, RefusesOutput, output_line, RefusesCover};
+ghost use Rattle.g1heap_cli.specs.Refusals.{Tells, ended, told_line, file_line, cause_line, IsFileText, RefusesFile, IsLineText, RefusesLine, RefusesOutput, output_line, RefusesCover, IsUnread};
+ghost use Rattle.g1heap_cli.specs.Refuses.{IsUnreadOrSet};
 ghost use Rattle.g1heap_cli.specs.Lines.{RefusesLines, RefusesNames};
 
 use g1_broken::{Broken, Look, rule_of_bytes, rule_of_cover, rule_of_set, rule_of_stale};
@@ -160,14 +162,6 @@ pub fn no_free_name(alloc: Global, name: &str) -> Refusal
     )
 }
 
-/// An explanation that contradicts the steps of the pause, or a path that contradicts the search.
-pub fn contradiction(alloc: Global, name: &str) -> Refusal
-    ensures { Tells 8 (λ t. t ≡ told_line name.now (codes "internal contradiction: the references do not lead to what was found\n")) result }
-{
-    let what = "internal contradiction: the references do not lead to what was found";
-    told(alloc, 8, name, what)
-}
-
 fn told(alloc: Global, status: u8, name: &str, what: &str) -> Refusal
     ensures { Tells status (λ t. t ≡ told_line name.now (ended what.now)) result }
 {
@@ -313,12 +307,16 @@ pub fn refuse_dump(alloc: Global, name: &str, refused: &Refused) -> Refusal
 }
 
 /// Whether bytes begin as an image does, in any version.
-pub fn is_image(bytes: &[u8]) -> bool {
+pub fn is_image(bytes: &[u8]) -> bool
+    ensures { IsTrue result ↔ StartsWith bytes.now (codes "G1IMAGE") }
+{
     bytes.starts_with(&MAGIC)
 }
 
 /// The refusal of a file of which regions are collected. If its name is a set of regions, these may have been meant.
-pub fn with_set_tip(alloc: Global, name: &str, refused: Refusal) -> Refusal {
+pub fn with_set_tip(alloc: Global, name: &str, refused: Refusal) -> Refusal
+    ensures { IsUnread name.now refused → IsUnreadOrSet name.now result }
+{
     match refused {
         Refusal::Told { status: 7, text } if names_regions(name) => {
             with_tip(alloc, text.as_str(), SET_TIP)

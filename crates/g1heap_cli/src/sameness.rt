@@ -1,10 +1,12 @@
 //! Whether two files have one heap, and what else is asked of them.
-ghost use Rattle.std.specs.Prelude.{◌≡◌, ◌≢◌, ℕ, List, codes, None, IfOk};
+ghost use Rattle.std.specs.Prelude.{◌≡◌, ◌≢◌, ℕ, List, codes, Option, option_map, IfOk, IfSome};
 ghost use Rattle.std.specs.Io.KnownBytes.{Appends};
 ghost use Rattle.g1_image.specs.Dirty.{dirtied};
+ghost use Rattle.g1_report.specs.Program.{program_of, AreInOrder};
 ghost use Rattle.g1_report.specs.Answer.{IsInOrder};
+ghost use Rattle.g1heap_cli.specs.Leaving.{Grows};
 ghost use Rattle.g1heap_cli.specs.Young.{young_cards};
-ghost use Rattle.g1heap_cli.specs.SameReplies.{IsSideOf, IsCoveredBeside, IsSameText};
+ghost use Rattle.g1heap_cli.specs.SameReplies.{IsSideOf, AreProgramNames, IsCoveredBeside, IsSameText};
 ghost use Rattle.g1heap_cli.specs.SamePassed.{TakesSaid, TakesCover, TakesReply};
 
 use crate::files::{SideContent, read_side};
@@ -44,6 +46,7 @@ pub fn compare_files<T: Threads + Sync + Files, R: Read, L: Lines>(
     answer: &mut L,
 ) -> Result<u8, Refusal>
     ensures text { IfOk result (λ s. (text : List ℕ) × IsSameText same.now (R.remaining reader.old) s text × Appends (L.taken answer.old) (L.taken answer.new) text) }
+    ensures grown { Grows (L.taken answer.old) (L.taken answer.new) }
 {
     let job = Job { rt, alloc, same };
     let mut lines = Vec::new(alloc);
@@ -66,6 +69,7 @@ fn compare_to_after<T: Threads + Sync + Files, R: Read, L: Lines>(
 ) -> Result<u8, Refusal>
     requires { IsInOrder before.now }
     ensures text { IfOk result (λ s. TakesReply job.now.same.now (R.remaining reader.old) before.now s (L.taken answer.old) (L.taken answer.new)) }
+    ensures grown { Grows (L.taken answer.old) (L.taken answer.new) }
 {
     let mut lines = Vec::new(job.alloc);
     let after = match read_and_open(job, job.same.after.as_str(), reader, &mut lines) {
@@ -119,21 +123,25 @@ fn compare_asked<T: Files, R: Read, L: Lines>(
 ) -> Result<u8, Refusal>
     requires before { IsInOrder before.now }
     requires after { IsInOrder after.now }
-    ensures said { IfOk result (λ s. TakesSaid job.now.same.now before.now after.now s (L.taken answer.old) (L.taken answer.new)) }
+    ensures said { IfOk result (λ s. TakesSaid job.now.same.now (R.remaining reader.old) before.now after.now s (L.taken answer.old) (L.taken answer.new)) }
+    ensures grown { Grows (L.taken answer.old) (L.taken answer.new) }
 {
-    check_asked(job.alloc, job.same, before, after)?;
+    if let Err(refusal) = check_asked(job.alloc, job.same, before, after) {
+        return Err(refusal);
+    }
     let (mut text, mut other) = (Vec::new(job.alloc), Vec::new(job.alloc));
     let (rt, alloc, same) = (job.rt, job.alloc, job.same);
-    let names = read_names(rt, alloc, &same.names, before.labels(), reader, &mut text)?;
-    let names_after = read_names(
-        rt,
-        alloc,
-        &same.names_after,
-        after.labels(),
-        reader,
-        &mut other,
-    )?;
-    report_on(job, (&names, &names_after), before, after, answer)
+    let labels = before.labels();
+    let names = match read_names(rt, alloc, &same.names, labels, reader, &mut text) {
+        Ok(names) => names,
+        Err(refusal) => return Err(refusal),
+    };
+    let labels = after.labels();
+    let after_names = match read_names(rt, alloc, &same.names_after, labels, reader, &mut other) {
+        Ok(names) => names,
+        Err(refusal) => return Err(refusal),
+    };
+    report_on(job, (&names, &after_names), before, after, answer)
 }
 
 // Lines of objects by name have no regions of the program's own, and no addresses.
@@ -169,9 +177,10 @@ fn report_on<T, L: Lines>(
 ) -> Result<u8, Refusal>
     requires before { IsInOrder before.now }
     requires after { IsInOrder after.now }
-    requires names { job.now.same.now.names ≡ None → names.0.now ≡ None }
-    requires names_after { job.now.same.now.names_after ≡ None → names.1.now ≡ None }
-    ensures said { IfOk result (λ s. TakesSaid job.now.same.now before.now after.now s (L.taken answer.old) (L.taken answer.new)) }
+    requires names { IfSome (option_map program_of names.0.now) AreInOrder }
+    requires names_after { IfSome (option_map program_of names.1.now) AreInOrder }
+    ensures said { (left : Option (List ℕ)) → AreProgramNames job.now.same.now left before.now after.now (option_map program_of names.entry.0.now) (option_map program_of names.entry.1.now) → IfOk result (λ s. TakesSaid job.now.same.now left before.now after.now s (L.taken answer.old) (L.taken answer.new)) }
+    ensures grown { Grows (L.taken answer.old) (L.taken answer.new) }
 {
     let same = job.same;
     let asked = Asked {
@@ -229,7 +238,8 @@ fn add_cover<T: Threads + Sync, L: Lines>(
     after: Side<'_>,
     answer: &mut L,
 ) -> Result<u8, Refusal>
-    ensures { IfOk result (λ s. TakesCover job.now.same.now after.entry.image status s (L.taken answer.old) (L.taken answer.new)) }
+    ensures cover { IfOk result (λ s. TakesCover job.now.same.now after.entry.image status s (L.taken answer.old) (L.taken answer.new)) }
+    ensures grown { Grows (L.taken answer.old) (L.taken answer.new) }
 {
     if status == 0 && job.same.covered {
         return push_cover(job, after, answer);
@@ -245,6 +255,7 @@ fn push_cover<T: Threads + Sync, L: Lines>(
 ) -> Result<u8, Refusal>
     ensures covered { IfOk result (λ s. IsCoveredBeside job.now.same.now.young.items after.entry.image) }
     ensures line { IfOk result (λ s. (s ≡ 0) × Appends (L.taken answer.old) (L.taken answer.new) (codes "covered\n")) }
+    ensures grown { Grows (L.taken answer.old) (L.taken answer.new) }
 {
     let image = match to_cover(job.alloc, job.same, after) {
         Ok(image) => image,
@@ -260,7 +271,8 @@ fn push_cover<T: Threads + Sync, L: Lines>(
 }
 
 fn take_covered<L: Lines>(answer: &mut L) -> Result<u8, Refusal>
-    ensures { IfOk result (λ s. (s ≡ 0) × Appends (L.taken answer.old) (L.taken answer.new) (codes "covered\n")) }
+    ensures line { IfOk result (λ s. (s ≡ 0) × Appends (L.taken answer.old) (L.taken answer.new) (codes "covered\n")) }
+    ensures grown { Grows (L.taken answer.old) (L.taken answer.new) }
 {
     match answer.take("covered\n") {
         Ok(_) => Ok(0),

@@ -1,7 +1,8 @@
 //! An image on the command line, which can be read a second time: for the rule that it breaks.
 ghost use Rattle.std.specs.Prelude.{◌≡◌, IfOk, IfErr};
 ghost use Rattle.g1heap_cli.specs.Refusals.{is_of_machine, IsUnread};
-ghost use Rattle.g1heap_cli.specs.Streams.{KeepsNamed};
+ghost use Rattle.g1heap_cli.specs.Refuses.{IsUnreadOrSet};
+ghost use Rattle.g1heap_cli.specs.Streams.{KeepsNamed, LeavesBehind};
 
 use crate::files::{is_file, open_file, read_bytes};
 use crate::heard::Heard;
@@ -53,6 +54,7 @@ pub fn find_source<'a, T: Files, R: Read>(
     ensures kept { IfOk result (λ s. KeepsNamed (λ v. v.items) image.now.name.bytes.items (R.remaining reader.old) s.kept) }
     ensures image { IfOk result (λ s. s.image.now ≡ image.now) }
     ensures refused { IfErr result (IsUnread image.now.name.bytes.items) }
+    ensures left { LeavesBehind image.now.name.bytes.items (R.remaining reader.old) (R.remaining reader.new) }
 {
     let name = image.name.as_str();
     if name != STANDARD_STREAM && is_file(rt, name) {
@@ -76,6 +78,8 @@ pub fn find_collected<'a, T: Files, R: Read>(
 ) -> Result<Source<'a>, Refusal>
     ensures kept { IfOk result (λ s. KeepsNamed (λ v. v.items) image.now.name.bytes.items (R.remaining reader.old) s.kept) }
     ensures image { IfOk result (λ s. s.image.now ≡ image.now) }
+    ensures refused { IfErr result (IsUnreadOrSet image.now.name.bytes.items) }
+    ensures left { LeavesBehind image.now.name.bytes.items (R.remaining reader.old) (R.remaining reader.new) }
 {
     match find_source(rt, alloc, image, reader) {
         Ok(source) => Ok(source),

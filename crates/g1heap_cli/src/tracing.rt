@@ -1,19 +1,22 @@
 //! A trace that is answered line by line.
-ghost use Rattle.std.specs.Prelude.{◌≡◌, ◌≤◌, ◌++◌, ◌∷◌, [], ℕ, List, Some, false, IfOk, IfSome, IfNone, IsSome, OnOk, option_map};
+ghost use Rattle.std.specs.Prelude.{◌≡◌, ◌⊎◌, ◌≤◌, ◌++◌, ◌∷◌, [], ℕ, List, Some, false, true, IfOk, IfErr, IfSome, IfNone, IsSome, OnOk, option_map};
 ghost use Rattle.g1_image.specs.Source.{HoldsOfLeft};
 ghost use Rattle.g1_pause.specs.Steps.{AreStepsOf};
 ghost use Rattle.g1_command.specs.Lines.{left_of};
-ghost use Rattle.g1_trace.specs.Session.{IsDone, commands_of, image_of};
+ghost use Rattle.g1_explain.specs.Steps.{AreTaken};
+ghost use Rattle.g1_trace.specs.Session.{AsksPause, IsDone, commands_of, image_of};
 ghost use Rattle.g1_trace.specs.Telling.{reply_line};
 ghost use Rattle.g1_trace.specs.declared.session.Taken.TheVariants as taken;
 ghost use Rattle.g1heap_cli.specs.Refusals.{RefusesLine};
+ghost use Rattle.g1heap_cli.specs.Refuses.{IsUnsentOf, RefusesTrace, RefusesTraceBy};
 ghost use Rattle.g1heap_cli.specs.Leaving.{Just, SendsBytes, SendsText, SendsTrace};
 ghost use Rattle.g1heap_cli.specs.Replies.{IsTraceReply};
-ghost use Rattle.g1heap_cli.specs.Traced.{RepliesToTrace, asked_command, is_live as live_of, sent_command as sent_of};
-ghost use Rattle.g1heap_cli.specs.Tracing.{AddsReply, IsAtStart, IsMade, KeepsImage, KeepsReplies, TakesLine, kept as kept_of, number_text};
+ghost use Rattle.g1heap_cli.specs.Traced.{RepliesToTrace, asked_command, is_live as live_of, number_text, sent_command as sent_of};
+ghost use Rattle.g1heap_cli.specs.Reasons.{RefusesCost};
+ghost use Rattle.g1heap_cli.specs.TraceReasons.{IsNamed, IsNoLine, IsStopped, RefusesContent, RefusesEnd, RefusesRead, RefusesSteps, RefusesTaking};
+ghost use Rattle.g1heap_cli.specs.Tracing.{AddsExplanation, AddsPause, AddsReply, AddsSteps, IsAtStart, IsMade, KeepsImage, KeepsReplies, KeepsSent, TakesLine, kept as kept_of};
 
 use crate::alone::{CHUNK, WORKERS};
-use crate::explaining::of_failure;
 use crate::files::open_file;
 use crate::heard::Heard;
 use crate::output::write_file;
@@ -29,7 +32,7 @@ use g1_words::{Device, Fault};
 use g1_work::Open;
 use g1heap_request::{ImageAfter, Output, STANDARD_STREAM, Trace};
 use std::alloc::{AllocError, Global};
-use std::io::{Read, Write};
+use std::io::{Error, Read, Write};
 use std::rt::Files;
 use std::thread::Threads;
 
@@ -60,7 +63,8 @@ pub fn answer_trace<T: Threads + Sync + Files, R: Read, W: Write>(
     reader: &mut R,
     writer: &mut W,
 ) -> Result<u8, Refusal>
-    ensures { SendsTrace (live_of trace.now) (sent_of trace.now.image) (IsTraceReply trace.now (R.remaining reader.old)) (W.contents writer.old) (W.contents writer.new) result }
+    ensures sends { SendsTrace (live_of trace.now) (sent_of trace.now.image) (IsTraceReply trace.now (R.remaining reader.old)) (W.contents writer.old) (W.contents writer.new) result }
+    ensures refused { IfErr result (RefusesTrace trace.now (R.remaining reader.old)) }
 {
     let settings = match settings_with(trace, 0) {
         Ok(settings) => settings,
@@ -82,29 +86,39 @@ pub fn answer_trace<T: Threads + Sync + Files, R: Read, W: Write>(
     }
 }
 
-// A read that fails is reported with the system's reason.
 fn answer_heard<T: Threads + Sync + Files, R: Read, W: Write>(
     job: &Job<'_, T>,
     reader: &mut R,
     writer: &mut W,
 ) -> Result<u8, Refusal>
     requires cost { job.now.settings.cost ≡ job.now.trace.now.cost }
-    ensures { SendsTrace (live_of job.now.trace.now) (sent_of job.now.trace.now.image) (RepliesToTrace job.now.trace.now (HoldsOfLeft (R.remaining reader.old))) (W.contents writer.old) (W.contents writer.new) result }
+    ensures sends { SendsTrace (live_of job.now.trace.now) (sent_of job.now.trace.now.image) (RepliesToTrace job.now.trace.now (HoldsOfLeft (R.remaining reader.old))) (W.contents writer.old) (W.contents writer.new) result }
+    ensures refused { IfErr result (RefusesTraceBy job.now.trace.now (HoldsOfLeft (R.remaining reader.old))) }
 {
     let mut heard = Heard::new(reader);
-    let answered = answer_lines(job, &mut heard, writer);
-    match answered {
-        Err(Refusal::Fault(Fault::Device(Device::Input))) => {
+    match answer_lines(job, &mut heard, writer) {
+        Ok(status) => Ok(status),
+        Err(refusal) => Err(with_name(job.alloc, job.trace, refusal, heard.reason())),
+    }
+}
+
+// The refusal with the trace's name and the system's reason, if it was not read.
+fn with_name(alloc: Global, trace: &Trace, refusal: Refusal, reason: Option<Error>) -> Refusal
+    ensures { IsNamed trace.now.name.bytes.items refusal result }
+{
+    match refusal {
+        Refusal::Fault(Fault::Device(Device::Input)) => {
             let fault = Fault::Device(Device::Input);
-            Err(of_device(job.alloc, job.trace.name.as_str(), fault, heard.reason()))
+            of_device(alloc, trace.name.as_str(), fault, reason)
         }
-        _ => answered,
+        _ => refusal,
     }
 }
 
 fn settings_with(trace: &Trace, budget: u64) -> Result<Settings, Fault>
     ensures cost { IfOk result (λ s. s.cost ≡ trace.now.cost) }
     ensures choice { IfOk result (λ s. s.choice ≡ Choice.Budget budget) }
+    ensures refused { IfErr result (λ e. RefusesCost trace.now.cost (Refusal.Fault e)) }
 {
     Settings::new(WORKERS, CHUNK, trace.cost, Choice::Budget(budget))
 }
@@ -115,7 +129,8 @@ fn answer_lines<T: Threads + Sync + Files, R: Read, W: Write>(
     writer: &mut W,
 ) -> Result<u8, Refusal>
     requires cost { job.now.settings.cost ≡ job.now.trace.now.cost }
-    ensures { SendsTrace (live_of job.now.trace.now) (sent_of job.now.trace.now.image) (RepliesToTrace job.now.trace.now (HoldsOfLeft (R.remaining reader.old))) (W.contents writer.old) (W.contents writer.new) result }
+    ensures sends { SendsTrace (live_of job.now.trace.now) (sent_of job.now.trace.now.image) (RepliesToTrace job.now.trace.now (HoldsOfLeft (R.remaining reader.old))) (W.contents writer.old) (W.contents writer.new) result }
+    ensures refused { IfErr result (λ r. (r ≡ Refusal.Fault (Fault.Device Device.Input)) ⊎ RefusesTraceBy job.now.trace.now (HoldsOfLeft (R.remaining reader.old)) r) }
 {
     let mut lines = match LineReader::new(job.alloc, reader) {
         Ok(lines) => lines,
@@ -137,7 +152,8 @@ fn answer_all<T: Threads + Sync + Files, R: Read, W: Write>(
 ) -> Result<u8, Refusal>
     requires cost { job.now.settings.cost ≡ job.now.trace.now.cost }
     requires start { IsAtStart state.old }
-    ensures { SendsTrace (live_of job.now.trace.now) (sent_of job.now.trace.now.image) (RepliesToTrace job.now.trace.now (HoldsOfLeft (left_of R.remaining lines.old))) (W.contents writer.old) (W.contents writer.new) result }
+    ensures sends { SendsTrace (live_of job.now.trace.now) (sent_of job.now.trace.now.image) (RepliesToTrace job.now.trace.now (HoldsOfLeft (left_of R.remaining lines.old))) (W.contents writer.old) (W.contents writer.new) result }
+    ensures refused { IfErr result (λ r. (r ≡ Refusal.Fault (Fault.Device Device.Input)) ⊎ RefusesTraceBy job.now.trace.now (HoldsOfLeft (left_of R.remaining lines.old)) r) }
 {
     let is_live = is_live(job.trace);
     let mut line = Vec::new(job.alloc);
@@ -196,6 +212,7 @@ fn write_made<T: Files, W: Write>(
     ensures sent { SendsText (Just 0 state.old.replies.items) (W.contents writer.old) (W.contents writer.new) result }
     ensures session { state.new.session ≡ state.old.session }
     ensures done { OnOk result (state.new.replies.items ≡ []) }
+    ensures refused { IfErr result (IsUnsentOf job.now.trace.now.image) }
 {
     match write_image(job, state) {
         Ok(()) => {}
@@ -214,6 +231,7 @@ fn write_made<T: Files, W: Write>(
 fn write_image<T: Files>(job: &Job<'_, T>, state: &mut State) -> Result<(), Refusal>
     ensures session { state.new.session ≡ state.old.session }
     ensures replies { state.new.replies ≡ state.old.replies }
+    ensures refused { IfErr result (IsUnsentOf job.now.trace.now.image) }
 {
     let Some(
         ImageAfter {
@@ -237,31 +255,32 @@ fn finish<T: Files, W: Write>(
     state: &mut State,
     writer: &mut W,
 ) -> Result<u8, Refusal>
-    ensures { SendsTrace false (sent_of job.now.trace.now.image) (IsMade job.now.trace.now state.old) (W.contents writer.old) (W.contents writer.new) result }
+    requires kept { KeepsSent job.now.trace.now state.old }
+    ensures sends { SendsTrace false (sent_of job.now.trace.now.image) (IsMade job.now.trace.now state.old) (W.contents writer.old) (W.contents writer.new) result }
+    ensures refused { IfErr result (λ r. RefusesEnd job.now.trace.now number state.old.session r ⊎ IsUnsentOf job.now.trace.now.image r) }
 {
     match check_end(job.alloc, job.trace, &state.session, number) {
         Ok(()) => {}
         Err(refusal) => return Err(refusal),
     }
     if sent_command(job.trace) > 0 {
-        return send_image(job, state, writer);
+        return send_image(state, writer);
     }
     write_made(job, state, writer)
 }
 
 // Sends the image in place of the replies.
-fn send_image<T, W: Write>(job: &Job<'_, T>, state: &State, writer: &mut W) -> Result<u8, Refusal>
-    ensures { SendsBytes (λ s text. (s ≡ 0) × (kept_of state.now ≡ Some text)) (W.contents writer.old) (W.contents writer.new) result }
+fn send_image<W: Write>(state: &State, writer: &mut W) -> Result<u8, Refusal>
+    requires { IsSome (kept_of state.now) }
+    ensures sends { SendsBytes (λ s text. (s ≡ 0) × (kept_of state.now ≡ Some text)) (W.contents writer.old) (W.contents writer.new) result }
+    ensures refused { IfErr result (λ r. r ≡ Refusal.Fault (Fault.Device Device.Output)) }
 {
     match &state.image {
         Some(bytes) => match deliver(bytes.as_slice(), writer) {
             Ok(()) => Ok(0),
             Err(fault) => Err(Refusal::Fault(fault)),
         },
-        None => {
-            let (wanted, commands) = (sent_command(job.trace), state.session.commands());
-            Err(no_command(job.alloc, job.trace.name.as_str(), wanted, commands))
-        }
+        None => unreachable!(),
     }
 }
 
@@ -273,7 +292,8 @@ fn take_line<T: Threads + Sync + Files>(
     state: &mut State,
 ) -> Result<(), Refusal>
     requires cost { job.now.settings.cost ≡ job.now.trace.now.cost }
-    ensures { OnOk result (TakesLine job.now.trace.now line.now state.old state.new) }
+    ensures taken { OnOk result (TakesLine job.now.trace.now line.now state.old state.new) }
+    ensures refused { IfErr result (RefusesRead job.now.trace.now number state.old.session line.now) }
 {
     let content = match content_of(job.alloc, job.trace, line, number) {
         Ok(content) => content,
@@ -293,7 +313,8 @@ fn content_of<'l>(
     line: &'l [u8],
     number: u64,
 ) -> Result<&'l [u8], Refusal>
-    ensures { IfOk result (λ c. line.now ≡ c.now ++ 10 ∷ []) }
+    ensures content { IfOk result (λ c. line.now ≡ c.now ++ 10 ∷ []) }
+    ensures refused { IfErr result (λ r. IsNoLine number line.now × RefusesLine trace.now.name.bytes.items number r) }
 {
     if number == 1 && is_image(line) {
         return Err(wrong(alloc, trace, 1, Expected::Heap, Some(Hint::Image)));
@@ -314,15 +335,31 @@ fn do_line<T: Threads + Sync + Files>(
     requires cost { job.now.settings.cost ≡ job.now.trace.now.cost }
     ensures done { IfOk result (λ t. IsDone job.now.trace.now.cost state.old.session content.now t state.new.session) }
     ensures image { state.new.image ≡ state.old.image }
-    ensures replies { IfOk result (λ t. KeepsReplies job.now.trace.now.explain t state.old.replies.items state.new.replies.items) }
+    ensures replies { IfOk result (λ t. KeepsReplies job.now.trace.now.explain job.now.trace.now.cost state.old.session content.now t state.old.replies.items state.new.replies.items) }
+    ensures refused { IfErr result (RefusesTaking job.now.trace.now number state.old.session content.now) }
 {
-    if job.trace.explain {
-        match take_explained(job, content, state) {
-            Ok(Some(reply)) => return Ok(Taken::Reply(reply)),
-            Ok(None) => {}
-            Err(refusal) => return Err(refusal),
-        }
+    if !job.trace.explain {
+        return do_plainly(job, content, number, state);
     }
+    match take_explained(job, content, state) {
+        Ok(Some(reply)) => Ok(Taken::Reply(reply)),
+        Ok(None) => do_plainly(job, content, number, state),
+        Err(refusal) => Err(refusal),
+    }
+}
+
+fn do_plainly<T: Threads + Sync + Files>(
+    job: &Job<'_, T>,
+    content: &[u8],
+    number: u64,
+    state: &mut State,
+) -> Result<Taken, Refusal>
+    requires cost { job.now.settings.cost ≡ job.now.trace.now.cost }
+    ensures done { IfOk result (λ t. IsDone job.now.trace.now.cost state.old.session content.now t state.new.session) }
+    ensures image { state.new.image ≡ state.old.image }
+    ensures replies { state.new.replies ≡ state.old.replies }
+    ensures refused { IfErr result (RefusesContent job.now.trace.now.name.bytes.items number state.old.session content.now) }
+{
     match state
         .session
         .take(job.rt, job.alloc, content, &job.settings)
@@ -344,7 +381,10 @@ fn take_explained<T: Threads + Sync + Files>(
 ) -> Result<Option<Reply>, Refusal>
     ensures done { IfOk result (λ o. IfSome o (λ r. IsDone job.now.trace.now.cost state.old.session content.now (taken.Reply r) state.new.session)) }
     ensures none { IfOk result (λ o. IfNone o (state.new ≡ state.old)) }
+    ensures asked { IfOk result (λ o. IfNone o ((b : ℕ) → AsksPause state.old.session content.now b → ⊥)) }
     ensures image { state.new.image ≡ state.old.image }
+    ensures lines { IfOk result (λ o. IfSome o (λ r. AddsExplanation true job.now.trace.now.cost state.old.session content.now state.old.replies.items state.new.replies.items)) }
+    ensures refused { IfErr result (IsStopped job.now.trace.now) }
 {
     let Some((budget, tracked)) = state.session.asked_pause(content) else {
         return Ok(None);
@@ -366,18 +406,22 @@ fn explained_steps<T: Threads + Sync + Files>(
     settings: &Settings,
     replies: &mut Vec<u8>,
 ) -> Result<Steps, Refusal>
-    ensures { IfOk result (λ s. AreStepsOf settings.now.cost settings.now.choice tracked.now s) }
+    ensures steps { IfOk result (λ s. AreStepsOf settings.now.cost settings.now.choice tracked.now s) }
+    ensures lines { OnOk result (AddsPause settings.now.cost settings.now.choice tracked.now replies.old.items replies.new.items) }
+    ensures refused { IfErr result (RefusesSteps job.now.trace.now.name.bytes.items tracked.now.heap settings.now.choice) }
 {
     let name = job.trace.name.as_str();
     let before = match Before::new(job.rt, job.alloc, tracked, settings.workers()) {
         Ok(before) => before,
         Err(fault) => return Err(of_file(job.alloc, name, fault)),
     };
+    // It states to the prover that the image is covered.
+    let _ = before.image();
     match take_steps(job.rt, job.alloc, &before, settings, &Open) {
-        Ok(steps) => {
-            push_explanation(job, &before, settings, &steps, replies)?;
-            Ok(steps)
-        }
+        Ok(steps) => match push_explanation(job, &before, settings, &steps, replies) {
+            Ok(()) => Ok(steps),
+            Err(refusal) => Err(refusal),
+        },
         Err(fault) => Err(of_file(job.alloc, name, fault)),
     }
 }
@@ -388,13 +432,17 @@ fn push_explanation<T>(
     settings: &Settings,
     steps: &Steps,
     replies: &mut Vec<u8>,
-) -> Result<(), Refusal> {
+) -> Result<(), Refusal>
+    ensures lines { AreTaken settings.now.cost settings.now.choice before.now steps.now → OnOk result (AddsSteps settings.now.cost before.now steps.now replies.old.items replies.new.items) }
+    ensures memory { IfErr result (λ r. r ≡ Refusal.Fault Fault.Memory) }
+{
     match explain_steps(job.alloc, before, settings, steps) {
         Ok(explanation) => {
             replies.extend_from_slice(explanation.text.as_bytes())?;
             Ok(())
         }
-        Err(failure) => Err(of_failure(job.alloc, job.trace.name.as_str(), failure)),
+        // It wants memory, and nothing else.
+        Err(_) => Err(Refusal::Fault(Fault::Memory)),
     }
 }
 
@@ -441,7 +489,8 @@ fn wrong(
 }
 
 fn add_reply(alloc: Global, trace: &Trace, reply: Reply, state: &mut State) -> Result<(), Refusal>
-    ensures { OnOk result (AddsReply trace.now reply state.old state.new) }
+    ensures added { OnOk result (AddsReply trace.now reply state.old state.new) }
+    ensures memory { IfErr result (λ r. r ≡ Refusal.Fault Fault.Memory) }
 {
     match push_numbered(alloc, trace, &state.session, reply, &mut state.replies) {
         Ok(()) => keep_image(alloc, trace, &state.session, &mut state.image),
@@ -473,7 +522,8 @@ fn keep_image(
     session: &Session,
     kept: &mut Option<Vec<u8>>,
 ) -> Result<(), Refusal>
-    ensures { OnOk result (KeepsImage trace.now.image session.now (option_map (λ v. v.items) kept.old) (option_map (λ v. v.items) kept.new)) }
+    ensures keeps { OnOk result (KeepsImage trace.now.image session.now (option_map (λ v. v.items) kept.old) (option_map (λ v. v.items) kept.new)) }
+    ensures memory { IfErr result (λ r. r ≡ Refusal.Fault Fault.Memory) }
 {
     let Some(wanted) = &trace.image else {
         return Ok(());
@@ -494,6 +544,7 @@ fn keep_image(
 fn check_end(alloc: Global, trace: &Trace, session: &Session, number: u64) -> Result<(), Refusal>
     ensures begun { OnOk result (IsSome (image_of session.now)) }
     ensures enough { OnOk result (asked_command trace.now.image ≤ commands_of session.now) }
+    ensures refused { IfErr result (RefusesEnd trace.now number session.now) }
 {
     if session.image().is_none() {
         return Err(wrong(alloc, trace, number, Expected::Heap, None));

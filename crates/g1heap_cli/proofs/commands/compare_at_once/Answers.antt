@@ -11,4 +11,4 @@ returns-in-Ok g c =
     let said = c.in-Ok.ensures.text in
     let bytes : c.as_bytes.result.now ≡ said.0 = c.as_bytes.ensures ∙ said.2 ∙ ap (λ l. l ++ said.0) c.new-answer.ensures in
     text_so (Just c.in-Ok.status c.as_bytes.result.now) To (λ s t is. subst (λ n. To n t) (sym is.0) (subst (To c.in-Ok.status) (sym (is.1 ∙ bytes)) said.1))
-    (g.W.Write.contents c.args.writer.now) (g.W.Write.contents c.send_text.new.writer) c.send_text.result c.send_text.ensures
+    (g.W.Write.contents c.args.writer.now) (g.W.Write.contents c.send_text.new.writer) c.send_text.result c.send_text.ensures.sends

@@ -21,4 +21,4 @@ returns g c =
     (known_of known first.stood.value.stream) (taken_of (λ h. known_of known h.stream) (λ s. s.value) first.gone first.writer first.text.bytes.items)
     (ap (λ h. known_of known h.stream) (c.new-answer.ensures.stood ∙ c.take.ensures))
     (c.new-answer.ensures.taken ∙ ap (λ h. append_known (known_of known h.stream) []) c.take.ensures)
-    c.send_lines-sent.ensures.lines)
+    c.send_lines-sent.ensures.lines c.send_lines-sent.ensures.grown)

@@ -1,6 +1,6 @@
 use Rattle.std.specs.Io.KnownBytes.{Appends}
 use Rattle.g1heap_cli.specs.Written.{taken_of}
-use Rattle.g1heap_cli.proofs.Sent.{takes-kept}
+use Rattle.g1heap_cli.proofs.Sent.{takes-kept, grows-kept}
 use Rattle.g1heap_cli.proofs.commands.send_lines.Goals as goal
 
 -- what was taken is written
@@ -19,4 +19,6 @@ returns-in-Ok-finish g c =
             mid.stood new.stood said.0 c.finish.ensures.stood c.finish.ensures.taken said.2;
         ends = c.in-Ok-finish.ensures.ends;
       };
+      grown = grows-kept (λ s. known s.value) _ (taken_of known (λ s. s.value) mid.gone mid.writer mid.text.bytes.items) (taken_of known (λ s. s.value) new.gone new.writer new.text.bytes.items)
+          mid.stood new.stood c.finish.ensures.stood c.finish.ensures.taken c.in-Ok.ensures.grown;
     }

@@ -1,5 +1,6 @@
 use Rattle.std.proofs.Common.{◌≡◌, true, rules}
-use Rattle.g1heap_cli.proofs.SameSides.{no_cover}
+use Rattle.g1heap_cli.proofs.SameSides.{no_cover, covered}
+use Rattle.g1heap_cli.proofs.Grown.{grows_none}
 use Rattle.g1heap_cli.proofs.sameness.add_cover.Goals as goal
 use Rattle.g1heap_cli.proofs.sameness.add_cover.Goals.{else-status-eq0-via-then-status-eq0+else-job, else-status-eq0-via-else-status-eq0}
 
@@ -11,4 +12,16 @@ returns g c =
       | else-status-eq0-via-then-status-eq0+else-job w ↦ search rules
       | else-status-eq0-via-else-status-eq0 w ↦ search rules
     ] in
-    no_cover same (g.L.Lines.taken c.args.answer.now) (g.L.Lines.taken c.args.answer.now) (g.L.Lines.taken c.args.answer.now) c.args.after.image c.args.status not
+    record {
+      cover = no_cover same (g.L.Lines.taken c.args.answer.now) (g.L.Lines.taken c.args.answer.now) (g.L.Lines.taken c.args.answer.now) c.args.after.image c.args.status not;
+      grown = grows_none (g.L.Lines.taken c.args.answer.now);
+    }
+
+-- it is
+pub returns-then-job-clause-cover : goal.returns-then-job-clause-cover
+returns-then-job-clause-cover g c =
+    let same = c.args.job.now.same.now in
+    let none : c.args.status ≡ 0 = search rules in
+    let asked : same.covered ≡ true = search rules in
+    covered same (g.L.Lines.taken c.args.answer.now) (g.L.Lines.taken c.push_cover.new.answer) c.args.after.image c.args.status c.push_cover.result none asked c.push_cover.ensures.covered
+    c.push_cover.ensures.line

@@ -1,4 +1,5 @@
-use Rattle.std.proofs.Common.{◌≡◌, ◌≢◌, codes, None, rules}
+use Rattle.std.proofs.Common.{◌≡◌, None, rules, subst}
+use Rattle.g1heap_cli.specs.Streams.{LeavesBehind}
 use Rattle.g1heap_cli.specs.SameReplies.{IsSideOf}
 use Rattle.g1heap_cli.proofs.SameSides.{compared}
 use Rattle.g1heap_cli.proofs.sameness.compare_files.Goals as goal
@@ -12,5 +13,5 @@ returns g c =
     let left_after = g.R.Read.remaining c.read_and_open.new.reader in
     let side : IsSideOf same.limits same.before.bytes.items left c.in-Ok.before = search rules in
     let none : c.in-Ok.before.stale ≡ None = search rules in
-    let unread : same.before.bytes.items ≢ codes "-" → left_after ≡ left = search rules in
-    record { text = compared same (taken c.args.answer.now) _ left left_after c.in-Ok.before c.compare_to_after.result side none unread c.compare_to_after.ensures.text }
+    let unread : LeavesBehind same.before.bytes.items left left_after = subst (λ n. LeavesBehind n left left_after) c.as_str.ensures.value c.in-Ok.ensures.left in
+    record { text = compared same (taken c.args.answer.now) _ left left_after c.in-Ok.before c.compare_to_after.result side none unread c.compare_to_after.ensures.text; grown = c.compare_to_after.ensures.grown }

@@ -1,6 +1,13 @@
-use Rattle.std.proofs.Common.{◌≡◌, None, refl, rules}
+use Rattle.std.proofs.Common.{◌≡◌, refl, sym, subst}
+use Rattle.std.proofs.ResultArms.{subst_both}
+use Rattle.std.specs.Prelude.{Option, IfSome, option_map}
 use Rattle.g1_report.specs.declared.reporting.Asked.{Asked}
-use Rattle.g1heap_cli.proofs.Handed.{says_of}
+use Rattle.g1_report.specs.Program.{ProgramNames, program_of, names_told, AreInOrder}
+use Rattle.g1_report.specs.Answer.{IsInOrderAll}
+use Rattle.g1heap_cli.specs.SameReplies.{AreProgramNames}
+use Rattle.g1heap_cli.proofs.Handed.{handed}
+use Rattle.g1heap_cli.proofs.Grown.{grows_first}
+use Rattle.g1heap_cli.proofs.NamesRead.{told_lent}
 use Rattle.g1heap_cli.proofs.sameness.report_on.Goals as goal
 
 -- what the report says
@@ -17,24 +24,36 @@ returns-in-Ok g c =
       fill = same.fill;
       all = same.all;
     } in
-    let none : c.args.names.0.now ≡ None → c.as_ref.result ≡ None = search rules in
-    let none_after : c.args.names.1.now ≡ None → c.as_ref-2.result ≡ None = search rules in
-    let names : same.names ≡ None → a.names ≡ None = λ is. none (c.requires.names is) in
-    let names_after : same.names_after ≡ None → a.names_after ≡ None = λ is. none_after (c.requires.names_after is) in
-    let said = says_of same.names same.names_after a c.in-Ok.status (g.L.Lines.taken c.args.answer.now) (g.L.Lines.taken c.report.new.out) names names_after c.requires.before c.requires.after
-    c.in-Ok.ensures.text c.in-Ok.ensures.first in
+    let names = option_map program_of c.args.names.0.now in
+    let names_after = option_map program_of c.args.names.1.now in
+    let told : names ≡ names_told a.names = sym (told_lent a.names c.args.names.0.now c.as_ref.ensures.value) in
+    let told_after : names_after ≡ names_told a.names_after = sym (told_lent a.names_after c.args.names.1.now c.as_ref-2.ensures.value) in
+    let order : IsInOrderAll a = record {
+      names = subst (λ (o : Option ProgramNames). IfSome o AreInOrder) told c.requires.names;
+      names_after = subst (λ (o : Option ProgramNames). IfSome o AreInOrder) told_after c.requires.names_after;
+      before = c.requires.before;
+      after = c.requires.after;
+    } in
+    let said = handed a c.in-Ok.status (g.L.Lines.taken c.args.answer.now) (g.L.Lines.taken c.report.new.out) (c.in-Ok.ensures.text order) in
     record {
-      said = record {
+      said = λ left are. record {
         asked = a;
         text = said.0;
         is_before = refl;
         is_after = refl;
         said = record {
-          asks = record { names = names; names_after = names_after; moved = refl; set = c.as_slice.ensures.value; fill = refl; all = refl };
+          asks = record {
+            names = subst_both (AreProgramNames same left a.before.now a.after.now) told told_after are;
+            moved = refl;
+            set = c.as_slice.ensures.value;
+            fill = refl;
+            all = refl;
+          };
           verdict = c.in-Ok.ensures.status;
           by_name = c.in-Ok.ensures.by_name;
           says = said.1;
         };
         taken = said.2;
       };
+      grown = grows_first (g.L.Lines.taken c.args.answer.now) (g.L.Lines.taken c.report.new.out) c.in-Ok.ensures.grown;
     }
