@@ -8,18 +8,18 @@
 (collect-request-handler void)
 
 (define (address x) (#%$fxaddress x))
-(define (immediate? x) (or (fixnum? x) (boolean? x) (char? x) (null? x) (eq? x (void))))
+(define (immediate? x) (or (fixnum? x) (boolean? x) (char? x) (null? x) (eq? x (void)) (bwp-object? x)))
 (define (escaped c)
   (if (and (char<? #\! c #\x7f) (not (char=? c #\\))) (string c) (format "\\x~x;" (char->integer c))))
 (define (text x) (format "\"~a\"" (apply string-append (map escaped (string->list (format "~a" x))))))
 (define (data-of x) (if (fixnum? x) x (text (format "~s" x))))
 
 ;; The type, the names of the slots, the values in them, and more data words with their names before them. A table by
-;; address changes its order with each collection, so its cells are not written; the other tables' cells are. A weak pair
-;; of ours references the same object strongly, too, so that its car may not be cleared.
+;; address changes its order with each collection, so its cells are not written; the other tables' cells are. The car of
+;; a weak pair is a weak slot. Ours leads to an object that is kept, so that it may not be cleared.
 (define (parts x)
   (cond
-    [(weak-pair? x) (values 'weak-pair '(cdr) (list (cdr x)) '(car-is-cdr) (list (if (eq? (car x) (cdr x)) 1 0)))]
+    [(weak-pair? x) (values 'weak-pair '(car cdr) (list (car x) (cdr x)) '() '())]
     [(pair? x) (values 'pair '(car cdr) (list (car x) (cdr x)) '() '())]
     [(vector? x) (values 'vector '("[]") (vector->list x) '() '())]
     [(string? x) (values 'string '() '() '(length text) (list (string-length x) (text x)))]
@@ -43,8 +43,8 @@
 
 (define (write-line out x type slots data)
   (define words (cons* (text type) (append data (map (lambda (v) (if (immediate? v) (data-of v) 0)) slots))))
-  (fprintf out "object ~a ~a/~a~{ ~a~}~{ ~a~}\n" (address x) (+ 1 (length slots) (length words)) (length slots)
-    (map (lambda (v) (if (immediate? v) "-" (address v))) slots) words))
+  (fprintf out "object ~a ~a/~a~a~{ ~a~}~{ ~a~}\n" (address x) (+ 1 (length slots) (length words)) (length slots)
+    (if (eq? type 'weak-pair) " weak" "") (map (lambda (v) (if (immediate? v) "-" (address v))) slots) words))
 
 (define types (make-eq-hashtable))
 (define (write-type type names data-names)
@@ -87,7 +87,7 @@
          [cycle (list 1 2 3)] [count 41])
     (for-each (lambda (n) (hashtable-set! by-name (node-name n) n)) nodes)
     (set-cdr! (cddr cycle) cycle)
-    (make-judged root by-name cycle (expt 3 200) (box root) (lambda () (set! count (+ count 1)) (list count root)) (weak-cons root root))))
+    (make-judged root by-name cycle (expt 3 200) (box root) (lambda () (set! count (+ count 1)) (list count root)) (weak-cons root #f))))
 (define (garbage n) (do ([i 0 (+ i 1)]) ((= i n)) (number->string i)))
 
 (write-heap "before")
