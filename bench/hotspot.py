@@ -7,14 +7,19 @@ g1pause takes for a megabyte (phases.py), on the heaps of the same programs. An 
 the script runs the program, dumps its heap with all that is dead in it, and turns the dump into an image of 4,096
 regions of 4,096 words, which takes half a minute.
 
+The first table has wall times, which say nothing if other programs run: the last line has the load. The second table
+has processor time.
+
   java_trees  examples/java/TreeAndIndex.java
   java_cache  examples/java/CacheAndQueue.java
   java_graph  examples/hotspot/Judge.java, which goes on changing its graph
 
-A time of HotSpot is the wall time of the phase `Evacuate Collection Set` of all young pauses of a run, and in another
+A wall time of HotSpot is that of the phase `Evacuate Collection Set` of all young pauses of a run, and in another
 column that of the whole pauses; the bytes are its `Copied Bytes`. The round that took the least time for a megabyte
-counts. JAVA is a command or a path. It has to be that of a JDK: with javac, and with jcmd for a dump.
-Statuses: 0 done; 1 a run failed; 2 usage, or there is no JDK.
+counts. Processor time is that of the user and of the system in whole pauses, of all threads of the process. The log has
+it in hundredths of a second for each pause, so it is the mean of all rounds, and so is ours. JAVA is a command or a
+path. It has to be that of a JDK: with javac, and with jcmd for a dump.
+Statuses: 0 done; 1 a run failed, or its log has no bytes that were copied; 2 usage, or there is no JDK.
 """
 import argparse
 import pathlib
@@ -23,11 +28,12 @@ import shutil
 import subprocess
 import sys
 import tempfile
+import threading
 from typing import NamedTuple
 
 import compare
 import phases
-from compare import MB, mean, number
+from compare import MB, MS, mean, number
 
 HERE = pathlib.Path(__file__).resolve().parent
 TOP = HERE.parent
@@ -52,36 +58,44 @@ IN_PAUSE = re.compile(r"\bGC\((\d+)\) +(.*\S)")
 EVACUATED = re.compile(r"Evacuate (?:Optional )?Collection Set: ([\d.]+)ms")
 COPIED = re.compile(r"Copied Bytes:? +Min: .*\bSum: (\d+), Workers: \d+")
 PAUSED = re.compile(r"Pause Young .*\) .* ([\d.]+)ms")
+SECONDS_OF_CPU = re.compile(r"User=([\d.]+)s Sys=([\d.]+)s Real=.*")
 
 
 class Pauses(NamedTuple):
-    """The young pauses of a run: their number, the milliseconds of evacuating and of all, and the bytes they copied."""
+    """The young pauses of a run: their number, the milliseconds of evacuating, of all and of processor time, and the
+    bytes they copied."""
     count: int
     evacuating: float
     whole: float
+    cpu: float
     copied: int
 
     def a_megabyte(self, field):
-        return getattr(self, field) / (self.copied / MB)
+        """Milliseconds for each megabyte; nothing if the log's clock did not move."""
+        return getattr(self, field) / (self.copied / MB) or None
 
 
 def read_log(text):
     """The young pauses of a log. A pause has its lines in any order; those of other pauses are left out."""
-    evacuating, copied, whole = {}, {}, {}
+    evacuating, whole, cpu, copied = sums = {}, {}, {}, {}
     for line in text.splitlines():
         found = IN_PAUSE.search(line)
-        if not found:
-            continue
-        number_of, said = int(found[1]), found[2]
-        for pattern, sums in ((EVACUATED, evacuating), (COPIED, copied), (PAUSED, whole)):
-            value = pattern.fullmatch(said)
+        for pattern, of in zip((EVACUATED, PAUSED, SECONDS_OF_CPU, COPIED), sums) if found else ():
+            value = pattern.fullmatch(found[2])
             if value:
-                sums[number_of] = sums.get(number_of, 0) + float(value[1])
-    young = [each for each in whole if each in evacuating and each in copied]
-    total = sum(copied[each] for each in young)
-    if not total:
-        raise phases.Failed("the log has no young pause that copied anything, or this java writes another log")
-    return Pauses(len(young), sum(evacuating[each] for each in young), sum(whole[each] for each in young), int(total))
+                of[found[1]] = of.get(found[1], 0) + sum(map(float, value.groups()))
+    young = [each for each in whole if all(each in of for of in sums)]
+    took = [sum(of[each] for each in young) for of in (evacuating, whole, cpu, copied)]
+    return Pauses(len(young), took[0], took[1], MS * took[2], int(took[3]))
+
+
+def together(runs):
+    """All pauses of several runs."""
+    return Pauses(*map(sum, zip(*runs)))
+
+
+def best(runs):
+    return min(runs, key=lambda run: run.evacuating / run.copied)
 
 
 # Java
@@ -103,23 +117,25 @@ def paused(java, more, name, threads, room):
     """The pauses of one run of a program, by a java with some more options."""
     log, dump = room / "gc.log", room / "dump"
     options = ["-XX:+UseG1GC", f"-XX:ParallelGCThreads={threads}", HEAP, *more,
-               f"-Xlog:gc,gc+phases=debug:file={log}::filecount=0"]
-    status, _, errors = jvm.run(java.command, *options, "-cp", java.classes, class_of(name), *words_of(name, dump))
+               f"-Xlog:gc,gc+cpu,gc+phases=debug:file={log}::filecount=0"]
+    status, out, errors = jvm.run(java.command, *options, "-cp", java.classes, class_of(name), *words_of(name, dump))
     if status:
-        raise phases.Failed(f"{name}: java ended with status {status}: {jvm.failure_of(errors)}")
-    found = read_log(log.read_text())
+        raise phases.Failed(f"{name}: java ended with status {status}: {jvm.failure_of(errors or out)}")
+    found = read_log(log.read_text() if log.is_file() else "")
+    if not found.copied:
+        raise phases.Failed(f"{name}: the log has no young pause that copied anything, or this java writes another log")
     for file in (log, dump.with_suffix(".hprof")):
         file.unlink(missing_ok=True)
     return found
 
 
 def measured(java, options, room):
-    """The pauses of each program's best round, by the number of threads."""
+    """The pauses of each program in each round, by the number of threads."""
     found = {(name, threads): [] for name in PROGRAMS for threads in options.workers}
     for _ in progress.over(range(options.rounds), "rounds of java"):
         for (name, threads), runs in found.items():
             runs.append(paused(java, options.option, name, threads, room))
-    return {key: min(runs, key=lambda run: run.a_megabyte("evacuating")) for key, runs in found.items()}
+    return found
 
 
 # Images of the programs' heaps
@@ -131,6 +147,8 @@ def dump_heap(java, name, room):
     options = ["-XX:+UseSerialGC", "-XX:-UseTLAB", "-Xmx1g", "-cp", str(java.classes)]
     process = subprocess.Popen([java.command, *options, class_of(name), *words_of(name, dump.with_suffix(""))],
                                stdin=subprocess.PIPE, stdout=subprocess.PIPE, text=True)
+    late = threading.Timer(SECONDS, process.kill)
+    late.start()
     try:
         for line in process.stdout:
             if line.strip() == "ready":
@@ -138,8 +156,9 @@ def dump_heap(java, name, room):
                 jvm.run(jcmd if jcmd.exists() else "jcmd", process.pid, "GC.heap_dump", "-all", dump)
                 break
         process.stdin.close()
-        status = process.wait(SECONDS)
+        status = process.wait()
     finally:
+        late.cancel()
         process.kill()
     if status or not dump.is_file():
         raise phases.Failed(f"{name}: there is no dump of its heap; java ended with status {status}")
@@ -157,7 +176,10 @@ def image_of(java, name, folder, room):
     dump.unlink()
     if status:
         raise phases.Failed(f"{name}: no image: {jvm.last_line(errors)}")
-    return pathlib.Path(shutil.move(made, folder / made.name))
+    try:
+        return pathlib.Path(shutil.move(made, folder / made.name))
+    except OSError as error:
+        raise phases.Failed(f"{folder}: {error.strerror}") from None
 
 
 def evacuated(machine, images):
@@ -166,12 +188,14 @@ def evacuated(machine, images):
             for name, image in progress.over(images.items(), "images")}
 
 
-# The table
+# The tables
 
 
 TITLES = ["HotSpot: young pauses", "MB copied", "evacuating, ms a MB", "whole pauses, ms a MB"]
 OUR_TITLES = ["g1pause: regions", "MB copied", "`evacuate`, ms a MB", "without starts", "to HotSpot's evacuating",
               "without starts"]
+CPU_TITLES = ["HotSpot: whole pauses, cpu ms a MB"]
+OUR_CPU_TITLES = ["g1pause: `evacuate`, cpu ms a MB", "without starts", "to HotSpot's", "without starts"]
 
 
 def mixed(names, sizes, figures):
@@ -179,23 +203,44 @@ def mixed(names, sizes, figures):
     return [*names, *sizes[:2], *figures[:2], *sizes[2:], *figures[2:]]
 
 
+def heading(java, ours):
+    return f"HotSpot {java.version}, G1" + (", beside g1pause" if ours else "")
+
+
+def beside(figures, threads, of, hotspot):
+    """What `evacuate` takes for a megabyte, with and without starts, and what both are divided by HotSpot's."""
+    both = [figures.a_megabyte(threads, without, of) for without in ((), ("starts",))]
+    return [*both, *(each / hotspot if each and hotspot else None for each in both)]
+
+
 def table(lines, java, hotspot, ours, workers):
-    heading = f"HotSpot {java.version}, G1, beside g1pause" if ours else f"HotSpot {java.version}, G1"
-    made = compare.Table(lines, heading, ["program", "threads", *TITLES, *(OUR_TITLES if ours else [])])
+    """Wall time for a megabyte: the best of all rounds."""
+    made = compare.Table(lines, heading(java, ours), ["program", "threads", *TITLES, *(OUR_TITLES if ours else [])])
     for threads in workers:
         rows = []
         for name in PROGRAMS:
-            pauses = hotspot[name, threads]
+            pauses = best(hotspot[name, threads])
             rows.append([pauses.a_megabyte(field) for field in ("evacuating", "whole")])
             cells = [str(pauses.count), number(pauses.copied / MB, 1)]
             if ours:
-                figures = ours[name]
-                both = [figures.a_megabyte(threads, without) for without in ((), ("starts",))]
-                rows[-1] += [*both, *(each and each / rows[-1][0] for each in both)]
-                cells += [str(len(figures.goal.regions)), number(figures.copied / MB, 1)]
+                rows[-1] += beside(ours[name], threads, phases.least_wall, rows[-1][0])
+                cells += [str(len(ours[name].goal.regions)), number(ours[name].copied / MB, 1)]
             made.row(mixed([name, str(threads)], cells, [number(value) for value in rows[-1]]))
         means = [number(mean(column)) for column in zip(*rows)]
         made.row(mixed(["geometric mean", str(threads)], [""] * len(cells), means))
+
+
+def cpu_table(lines, java, hotspot, ours, workers):
+    """Processor time for a megabyte: the means of all rounds."""
+    titles = ["program", "threads", *CPU_TITLES, *(OUR_CPU_TITLES if ours else [])]
+    made = compare.Table(lines, f"{heading(java, ours)}: processor time", titles)
+    for threads in workers:
+        rows = []
+        for name in PROGRAMS:
+            took = together(hotspot[name, threads]).a_megabyte("cpu")
+            rows.append([took, *(beside(ours[name], threads, phases.mean_cpu, took) if ours else [])])
+            made.row([name, str(threads), *map(number, rows[-1])])
+        made.row(["geometric mean", str(threads), *(number(mean(column)) for column in zip(*rows))])
 
 
 def options_of(words):
@@ -215,17 +260,26 @@ def options_of(words):
     return options
 
 
+def fail(problem, status):
+    print(f"hotspot.py: {problem}", file=sys.stderr)
+    return status
+
+
 def work(options):
     begin, lines = compare.load(), []
     with tempfile.TemporaryDirectory(dir=compare.roomy_folder()) as folder:
         room = pathlib.Path(folder)
-        java = java_with_programs(options.java, room)
+        try:
+            java = java_with_programs(options.java, room)
+        except jvm.Problem as problem:
+            return fail(problem, 2)
         ours = None
         if options.images:
             images = {name: image_of(java, name, options.images, room) for name in PROGRAMS}
             ours = evacuated(phases.Machine(options.program, options.rounds, options.workers, room), images)
         hotspot = measured(java, options, room)
-    table(lines, java, hotspot, ours, options.workers)
+    for made in (table, cpu_table):
+        made(lines, java, hotspot, ours, options.workers)
     said = phases.about(begin, options.rounds)
     if options.write:
         phases.write(options.write, [said, *lines], BEGIN, END)
@@ -238,8 +292,7 @@ def main(words):
     try:
         return phases.ended("hotspot.py", lambda: work(options))
     except jvm.Problem as problem:
-        print(f"hotspot.py: {problem}", file=sys.stderr)
-        return 2
+        return fail(problem, 1)
 
 
 if __name__ == "__main__":

@@ -25,6 +25,7 @@ import re
 import shlex
 import shutil
 import signal
+import statistics
 import sys
 import tempfile
 import time
@@ -49,6 +50,7 @@ OF_KIT = ("anyhow",)
 WORD = 8  # bytes
 NANOS = 1_000_000  # in a millisecond
 CUT = 120  # seconds that one run may take
+QUIET = 1.5  # on a machine with a load below this, wall times say something
 BEGIN, END = "<!-- phases begin -->", "<!-- phases end -->"
 # What the program calls a phase, and what a table does.
 PHASES = {"starts": "starts", "live": "`discover`, all", "discover": "`discover`, the set", "evacuate": "`evacuate`"}
@@ -75,6 +77,7 @@ class Evacuated(NamedTuple):
 
 def built():
     """The program, which is built if it is not that of these sources."""
+    unproved.need_kit()
     text = hashlib.sha256(SOURCE.read_bytes()).hexdigest() + stamp.sources(TOP, NEEDS) + stamp.kit()
     target = programs.OUT / f"phases-{hashlib.sha256(text.encode()).hexdigest()[:12]}"
     if not target.is_file():
@@ -149,6 +152,14 @@ def goal_of(machine, image, budget, regions):
     return Goal(sorted(map(int, re.findall(r"^region (\d+) .* taken$", said, re.M))), words)
 
 
+def least_wall(runs):
+    return min(run.wall for run in runs)
+
+
+def mean_cpu(runs):
+    return statistics.mean(run.cpu for run in runs)
+
+
 class Figures:
     """What was measured on an image: the times of each phase or command by workers."""
 
@@ -160,15 +171,15 @@ class Figures:
 
     def least(self, name, workers):
         runs = self.times[name][workers]
-        return Time(min(run.wall for run in runs), min(run.cpu for run in runs))
+        return Time(least_wall(runs), min(run.cpu for run in runs))
 
     def ratio(self, name, workers, one):
         return self.least(name, workers).wall / self.least(name, one).wall
 
-    def a_megabyte(self, workers, without=()):
-        """Milliseconds of wall time for each megabyte that `evacuate` copied; nothing if that is none."""
-        less = sum(self.least(name, workers).wall for name in without)
-        return (self.least(PHASES["evacuate"], workers).wall - less) / (self.copied / MB) if self.copied else None
+    def a_megabyte(self, workers, without=(), of=least_wall):
+        """Milliseconds for each megabyte that `evacuate` copied; nothing if that is none."""
+        less = sum(of(self.times[name][workers]) for name in without)
+        return (of(self.times[PHASES["evacuate"]][workers]) - less) / (self.copied / MB) if self.copied else None
 
 
 def measure(machine, image, goal, commands=True):
@@ -237,8 +248,9 @@ def write(page, lines, begin, end):
 def about(begin, rounds):
     """When and where figures were made, with the load before and after."""
     day = time.strftime("%Y-%m-%d", time.gmtime())
+    busy = "" if float(begin.split()[0]) < QUIET else f" The load before was not below {QUIET}: trust processor time alone."
     return (f"Seen on {day} on {compare.machine()}; load {begin} before and {compare.load()} after (1, 5, 15 minutes). "
-            f"{rounds} round{'s' * (rounds > 1)}.")
+            f"{rounds} round{'s' * (rounds > 1)}.{busy}")
 
 
 # Words

@@ -493,12 +493,15 @@ LOG = """\
 [0.101s][debug][gc,phases] GC(0)         Copied Bytes     Min: 2000000, Max: 2000000, Sum: 2000000, Workers: 1
 [0.101s][debug][gc,phases] GC(0)         LAB Waste        Min: 1696, Max: 1696, Diff: 0, Sum: 1696, Workers: 1
 [0.101s][info ][gc       ] GC(0) Pause Young (Normal) (G1 Evacuation Pause) 24M->19M(209M) 9.000ms
+[0.101s][info ][gc,cpu   ] GC(0) User=0.01s Sys=0.00s Real=0.01s
 [0.350s][info ][gc,phases] GC(1) Phase 1: Mark live objects 20.000ms
 [0.400s][info ][gc       ] GC(1) Pause Full (System.gc()) 21M->10M(44M) 73.190ms
+[0.400s][info ][gc,cpu   ] GC(1) User=0.08s Sys=0.01s Real=0.07s
 [0.501s][info ][gc,phases] GC(2)   Evacuate Collection Set: 3.5ms
 [0.501s][info ][gc,phases] GC(2)   Evacuate Optional Collection Set: 1.5ms
 [0.501s][debug][gc,phases] GC(2)         Copied Bytes     Min: 250000, Max: 750000, Sum: 1000000, Workers: 2
 [0.501s][info ][gc       ] GC(2) Pause Young (Mixed) (G1 Evacuation Pause) 30M->12M(209M) 6.500ms
+[0.501s][info ][gc,cpu   ] GC(2) User=0.02s Sys=0.01s Real=0.01s
 [0.600s][info ][gc       ] GC(3) Pause Remark 13M->13M(209M) 2.000ms
 """
 
@@ -506,9 +509,20 @@ LOG = """\
 class Logs(unittest.TestCase):
     def test_the_young_pauses_of_a_log_are_added_up(self):
         pauses = hotspot.read_log(LOG)
-        self.assertEqual(pauses, hotspot.Pauses(count=2, evacuating=8.0 + 3.5 + 1.5, whole=9.0 + 6.5, copied=3_000_000))
+        wanted = hotspot.Pauses(count=2, evacuating=8.0 + 3.5 + 1.5, whole=9.0 + 6.5, cpu=40.0, copied=3_000_000)
+        self.assertEqual(pauses, wanted)
         self.assertAlmostEqual(pauses.a_megabyte("evacuating"), 13 / 3)
         self.assertAlmostEqual(pauses.a_megabyte("whole"), 15.5 / 3)
+        self.assertAlmostEqual(pauses.a_megabyte("cpu"), 40 / 3)
+
+    def test_rounds_are_taken_together_and_the_best_is_found(self):
+        runs = [hotspot.Pauses(2, 13.0, 15.5, 40.0, 3_000_000), hotspot.Pauses(1, 8.0, 9.0, 60.0, 1_000_000)]
+        self.assertEqual(hotspot.together(runs), hotspot.Pauses(3, 21.0, 24.5, 100.0, 4_000_000))
+        self.assertEqual(hotspot.best(runs), runs[0])
+
+    def test_a_clock_that_did_not_move_is_no_time(self):
+        log = LOG.replace("User=0.01s", "User=0.00s").replace("User=0.02s Sys=0.01s", "User=0.00s Sys=0.00s")
+        self.assertIsNone(hotspot.read_log(log).a_megabyte("cpu"))
 
     def test_a_later_jdk_writes_a_colon_and_another_digit(self):
         log = LOG.replace("Copied Bytes ", "Copied Bytes:").replace("8.0ms", "8.00ms")
@@ -519,15 +533,9 @@ class Logs(unittest.TestCase):
         self.assertEqual(hotspot.read_log("\n".join(lines[::2] + lines[1::2])), hotspot.read_log(LOG))
 
     def test_a_pause_that_the_log_has_in_part_does_not_count(self):
-        for part in ("Pause Young (Mixed)", "GC(2)         Copied", "GC(2)   Evacuate"):
+        for part in ("Pause Young (Mixed)", "GC(2)         Copied", "GC(2)   Evacuate", "GC(2) User"):
             log = "\n".join(line for line in LOG.splitlines() if part not in line)
-            self.assertEqual(hotspot.read_log(log), hotspot.Pauses(1, 8.0, 9.0, 2_000_000), part)
-
-    def test_a_log_without_a_copy_is_a_failure(self):
-        nothing = LOG.replace("Sum: 2000000", "Sum: 0").replace("Sum: 1000000", "Sum: 0")
-        for log in ("", LOG.replace("Pause Young", "Pause Old"), nothing):
-            with self.assertRaises(phases.Failed):
-                hotspot.read_log(log)
+            self.assertEqual(hotspot.read_log(log), hotspot.Pauses(1, 8.0, 9.0, 10.0, 2_000_000), part)
 
 
 # What the program of the phases prints: by it `evacuate` copied 250,000 words, which are 2 MB.
@@ -604,6 +612,21 @@ esac""")
         figures.copied = 0
         self.assertIsNone(figures.a_megabyte(1))
 
+    def test_processor_time_may_be_the_mean_of_all_rounds(self):
+        figures = phases.Figures(pathlib.Path("a.img"), phases.Goal([1], ["1"]))
+        for cpu in (7.0, 9.0):
+            figures.add("`evacuate`", 1, phases.Time(50.0, cpu))
+            figures.add("starts", 1, phases.Time(50.0, cpu - 5))
+        figures.copied = 2_000_000
+        self.assertEqual(figures.a_megabyte(1, of=phases.mean_cpu), 4.0)
+        self.assertEqual(figures.a_megabyte(1, ("starts",), phases.mean_cpu), 2.5)
+
+    def test_a_busy_machine_is_told(self):
+        for load, busy in (("1.4 9.0 9.0", False), ("1.5 0.1 0.1", True), ("12.0 0.1 0.1", True)):
+            said = phases.about(load, 1)
+            self.assertEqual("trust processor time alone" in said, busy, load)
+            self.assertIn(f"load {load} before", said)
+
     def test_the_set_is_what_the_greatest_budget_with_room_buys(self):
         status, text, errors = self.timed("--rounds", "1")
         self.assertEqual((status, errors), (0, ""))
@@ -633,6 +656,11 @@ esac""")
         status, text, errors = self.timed("--budget", "8192")
         self.assertEqual((status, text), (1, ""))
         self.assertEqual(errors, "phases.py: small.img: driver 1 1 3: status 1: phases: set region 9")
+
+    def test_without_the_kit_there_is_one_line(self):
+        with unittest.mock.patch.object(phases.unproved.shutil, "which", lambda _name: None), \
+                self.assertRaisesRegex(phases.unproved.NotBuilt, "^there is no rt on the path"):
+            phases.built()
 
     def test_what_is_no_image_is_refused(self):
         for name in ("small.trace", "other.txt", "nothing"):
@@ -680,15 +708,18 @@ LOG_OF_TEST={shlex.quote(str(self.room / 'log'))}
         self.assertEqual((status, errors), (0, ""))
         # 13/3 and 15.5/3; 9/2 and 8/2; these two divided by 13/3
         wanted = ["2", "3.0", "4.33", "5.17", "2", "2.0", "4.50", "4.00", "1.04", "0.92"]
+        # 40/3; 9.5/2 and 7.5/2; these two divided by 40/3
+        cpu = ["13.33", "4.75", "3.75", "0.36", "0.28"]
         for name in hotspot.PROGRAMS:
-            self.assertEqual(self.rows(text, name), [["1", *wanted], ["4", *wanted]])
-        self.assertIn("### HotSpot 17.0.1, G1, beside g1pause", text)
+            self.assertEqual(self.rows(text, name), [["1", *wanted], ["4", *wanted], ["1", *cpu], ["4", *cpu]])
+        self.assertIn("### HotSpot 17.0.1, G1, beside g1pause\n", text)
+        self.assertIn("### HotSpot 17.0.1, G1, beside g1pause: processor time\n", text)
 
     def test_without_images_hotspot_stands_alone(self):
         status, text, _errors = self.run_script(hotspot, "--rounds", "1", self.java())
         self.assertEqual(status, 0)
         wanted = ["2", "3.0", "4.33", "5.17"]
-        self.assertEqual(self.rows(text, "java_graph"), [["1", *wanted], ["4", *wanted]])
+        self.assertEqual(self.rows(text, "java_graph"), [["1", *wanted], ["4", *wanted], ["1", "13.33"], ["4", "13.33"]])
 
     def test_the_threads_and_more_options_are_handed_on(self):
         seen = self.room / "seen"
@@ -698,23 +729,34 @@ LOG_OF_TEST={shlex.quote(str(self.room / 'log'))}
         wanted = "-XX:+UseG1GC -XX:ParallelGCThreads=2 -Xmx512m -XX:-UseCompressedOops "
         self.assertEqual(len(calls), len(hotspot.PROGRAMS))
         for call in calls:
-            self.assertTrue(call.startswith(f"{wanted}-Xlog:gc,gc+phases=debug:"), call)
+            self.assertTrue(call.startswith(f"{wanted}-Xlog:gc,gc+cpu,gc+phases=debug:"), call)
 
-    def test_the_best_round_counts(self):
-        body = ('test -e "$LOG_OF_TEST.2" && sed s/8.0ms/2.0ms/ "$LOG_OF_TEST" >"$log" || cat "$LOG_OF_TEST" >"$log"\n'
+    def test_the_best_round_counts_and_the_mean_of_processor_time(self):
+        body = ('test -e "$LOG_OF_TEST.2" && sed "s/8.0ms/2.0ms/; s/User=0.02s/User=0.05s/" "$LOG_OF_TEST" >"$log" || cat "$LOG_OF_TEST" >"$log"\n'
                 'touch "$LOG_OF_TEST.2"')
         _status, text, _errors = self.run_script(hotspot, "--rounds", "2", "--workers", "1", self.java(body))
-        self.assertEqual(self.rows(text, "java_trees"), [["1", "2", "3.0", "2.33", "5.17"]])  # 7/3
+        wanted = [["1", "2", "3.0", "2.33", "5.17"], ["1", "18.33"]]  # 7/3; (40 + 70)/6
+        self.assertEqual(self.rows(text, "java_trees"), wanted)
 
     def test_a_java_that_fails_is_told(self):
-        status, text, errors = self.run_script(hotspot, self.java("echo 'Error: no such class' >&2; exit 1"))
-        self.assertEqual((status, text), (1, ""))
-        self.assertEqual(errors, "hotspot.py: java_trees: java ended with status 1: Error: no such class")
+        for where in (">&2", ""):
+            status, text, errors = self.run_script(hotspot, self.java(f"echo 'Error: no such class' {where}; exit 1"))
+            self.assertEqual((status, text), (1, ""))
+            self.assertEqual(errors, "hotspot.py: java_trees: java ended with status 1: Error: no such class")
 
-    def test_a_log_without_pauses_is_told(self):
-        status, _text, errors = self.run_script(hotspot, self.java(': >"$log"'))
-        self.assertEqual(status, 1)
-        self.assertIn("the log has no young pause that copied anything", errors)
+    def test_a_java_that_is_too_slow_is_one_line(self):
+        with unittest.mock.patch.object(hotspot.jvm, "SECONDS", 1):
+            java = self.java("exec sleep 30")
+            status, text, errors = self.run_script(hotspot, java)
+        self.assertEqual((status, text, errors), (1, "", f"hotspot.py: {java}: was ended after 1 seconds"))
+
+    def test_a_log_without_a_copy_is_one_line(self):
+        nothing = 'sed "s/Sum: [0-9]*/Sum: 0/" "$LOG_OF_TEST" >"$log"'
+        for body in (':', ': >"$log"', nothing, 'sed "s/Pause Young/Pause Old/" "$LOG_OF_TEST" >"$log"'):
+            status, text, errors = self.run_script(hotspot, self.java(body))
+            self.assertEqual((status, text), (1, ""), body)
+            self.assertEqual(errors, "hotspot.py: java_trees: the log has no young pause that copied anything, or this java "
+                                     "writes another log", body)
 
 
 if __name__ == "__main__":
