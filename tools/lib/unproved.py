@@ -94,11 +94,15 @@ def optimized(flags, module, made):
     return [instead.get(flag, flag) for flag in flags if flag not in ("-fsanitize=address", "-Werror")]
 
 
+def need_kit():
+    if not shutil.which("rt"):
+        raise NotBuilt("there is no rt on the path: it comes with the Rattle kit")
+
+
 @contextlib.contextmanager
 def changed(top, changes):
     """A changed copy of the repository. A change is a file, a text that is in it once, and the text in its place."""
-    if not shutil.which("rt"):
-        raise NotBuilt("there is no rt on the path: it comes with the Rattle kit")
+    need_kit()
     with tempfile.TemporaryDirectory(prefix="changed-") as folder:
         copy = pathlib.Path(folder) / "copy"
         shutil.copytree(top, copy, ignore=shutil.ignore_patterns("out", ".git", "__pycache__"))
