@@ -23,6 +23,7 @@ pub mod Runs
 pub mod SameTexts
 pub mod Sayings
 pub mod SaysNothing
+pub mod Shared
 pub mod Sorting
 pub mod Starting
 pub mod Steps

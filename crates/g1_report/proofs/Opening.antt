@@ -1,16 +1,19 @@
 -- What the side of lines shows.
-use Rattle.std.proofs.Common.{◌≡◌, ℕ, ◌+◌, List, [], ◌∷◌, ◌++◌, map, refl, sym, ◌∙◌, ap, subst, arith}
+use Rattle.std.proofs.Common.{◌≡◌, ℕ, ◌+◌, List, [], ◌∷◌, ◌++◌, map, refl, sym, ◌∙◌, ap, subst, inl, inr, arith}
 use Rattle.std.specs.Prelude.{Option, Some, None}
 use Rattle.g1_words.specs.declared.limits.Limits.TheVariants.{Wide}
+use Rattle.g1_words.specs.declared.fault.Fault.{Fault}
 use Rattle.g1_image.specs.Image.{IsTextWithin}
+use Rattle.g1_image.specs.Faults.{FaultWithin, MayFailWithin}
 use Rattle.g1_text.specs.Graphs.{NamedGraph, NamedRoot, SaysGraph}
 use Rattle.g1_text.specs.ByName.{read_holder, holder_of, holders_from}
 use Rattle.g1_text.specs.Carried.{Carries, AreListed, HoldsGraph, named_at}
 use Rattle.g1_text.specs.declared.named.Graph.{Graph}
+use Rattle.g1_text.specs.declared.expected.Wrong.TheVariants.{Fault as OfFault}
 use Rattle.g1_report.specs.declared.sides.Side.{Side}
 use Rattle.g1_report.specs.Wording.{Called}
 use Rattle.g1_report.specs.Answer.{labels_of, IsByNumber}
-use Rattle.g1_report.specs.Opened.{AreNamesOf, ShowsText}
+use Rattle.g1_report.specs.Opened.{AreNamesOf, IsNoText, ShowsText}
 use Rattle.g1_report.proofs.InOrder.{RisesFrom, rises_lower, rising, of_numbers, of_pairs}
 
 fused : {X Y Z : Type 0} (f : X → Y) (g : Y → Z) (xs : List X) → map g (map f xs) ≡ map (λ x. g (f x)) xs
@@ -40,6 +43,11 @@ holders_rise n (r ∷ roots) = held n r.holder (holders_from (n + 1) roots) (hol
 
 pub holders_in_order : (names : Called) (roots : List NamedRoot) → map read_holder names ≡ holders_from 0 roots → IsByNumber names
 holders_in_order names roots e = in_order names (holders_from 0 roots) e (holders_rise 0 roots)
+
+-- the fault of the bytes that hold a graph
+pub faulty : (text bytes : List ℕ) (r : Graph) (g : NamedGraph) (f : Fault) → SaysGraph text g → HoldsGraph g r → bytes ≡ r.text.items → MayFailWithin Wide bytes f → IsNoText text (OfFault f)
+faulty text bytes r g f says holds are (inl e) = inl e
+faulty text bytes r g f says holds are (inr w) = inr (record { graph = g; says = says; holder = r; holds = holds; fault = subst (λ xs. FaultWithin Wide xs f) are w })
 
 pub shown : (text bytes : List ℕ) (r : Graph) (s : Side) (g k : NamedGraph) → g ≡ k → SaysGraph text g → HoldsGraph g r → map read_holder r.root_names.items ≡ holders_from 0 k.roots
     → bytes ≡ r.text.items → IsTextWithin Wide bytes s.image → labels_of s ≡ Some r.names.items → s.holders.items ≡ r.root_names.items → (s.stale ≡ None → r.first_stale ≡ None) → ShowsText text s

@@ -18,7 +18,7 @@ use Rattle.g1_report.specs.declared.verdict.Finding.{Finding}
 use Rattle.g1_report.specs.declared.verdict.Finding.TheVariants.{Same, Differ, Stale}
 use Rattle.g1_report.specs.declared.reporting.Refused.{Refused}
 use Rattle.g1_report.specs.declared.reporting.Refused.TheVariants as refused
-use Rattle.g1_report.specs.Taken.{TakesNone}
+use Rattle.g1_report.specs.Taken.{StopsLines, TakesNone}
 use Rattle.g1_report.specs.Agreement.{stale_roots, stale_slots, used, collected, ReachesNoStale, AgreeAsAsked}
 
 -- the renaming, and no stale word is there; or the first difference, with no stale word before it; or the stale word that comes first
@@ -37,15 +37,15 @@ abbrev pub IsIdle : Heap → Heap → Option Strays → Wrong → Type 0
 IsIdle g h None w = ⊥
 IsIdle g h (Some s) w = (w ≡ s.wrong) × (RiseByPlace s → SameGraph g h × ReachesNoStale g h (Some s))
 
--- a fault stopped it
+-- a fault stopped it: memory ran out, or the output failed
 abbrev pub IsFault : Refused → Type 0
-IsFault (refused.Fault f) = Unit {0}
+IsFault (refused.Fault f) = StopsLines f
 IsFault _ = ⊥
 
 -- WHY THERE IS NO VERDICT: the first region of the set that no pause collects; or stale words that no path leads to, where the graphs
--- are one; or a fault
+-- are one; or memory that ran out, or the output that failed, and no other fault
 abbrev pub IsRefusal : Heap → Heap → Option Strays → List ℕ → Refused → Type 0
-IsRefusal g h stale set (refused.Fault f) = Unit {0}
+IsRefusal g h stale set (refused.Fault f) = StopsLines f
 IsRefusal g h stale set (refused.Set f) = (i : ℕ) × IsFirstBad g (used g set) i × (f ≡ fault.Set (slice_index (used g set) i))
 IsRefusal g h stale set (refused.Stale w) = IsIdle g h stale w
 

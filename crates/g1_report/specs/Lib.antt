@@ -4,6 +4,7 @@ pub mod NamesText
 pub mod Agreement
 pub mod Finding
 pub mod Taken
+pub mod Shared
 pub mod Wording
 pub mod Answer
 pub mod Listed

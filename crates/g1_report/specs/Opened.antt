@@ -1,14 +1,18 @@
--- What the side of lines shows.
-use Rattle.std.specs.Prelude.{◌≡◌, ℕ, zero, suc, List, Option, Some, None, [], map}
+-- What the side of lines shows, and why lines have no side.
+use Rattle.std.specs.Prelude.{◌≡◌, ◌⊎◌, ℕ, zero, suc, List, Option, Some, None, IsSome, [], map}
 use Rattle.g1_words.specs.declared.limits.Limits.TheVariants.{Wide}
 use Rattle.g1_words.specs.declared.fault.Fault.{Fault}
+use Rattle.g1_words.specs.declared.fault.Fault.TheVariants.{Memory}
+use Rattle.g1_image.specs.Faults.{FaultWithin}
 use Rattle.g1_image.specs.declared.stale.Stale.{Stale}
 use Rattle.g1_image.specs.Image.{IsTextWithin}
 use Rattle.g1_text.specs.Graphs.{NamedGraph, SaysGraph}
 use Rattle.g1_text.specs.ByName.{read_holder, holders_from}
-use Rattle.g1_text.specs.Carried.{Carries, AreListed, AllNamed}
+use Rattle.g1_text.specs.Carried.{Carries, AreListed, AllNamed, HoldsGraph}
 use Rattle.g1_text.specs.Renamed.{SameByName}
-use Rattle.g1_text.specs.declared.expected.Wrong.TheVariants.{Fault as OfFault}
+use Rattle.g1_text.specs.declared.named.Graph.{Graph}
+use Rattle.g1_text.specs.declared.expected.Wrong.{Wrong}
+use Rattle.g1_text.specs.declared.expected.Wrong.TheVariants.{Line, Fault as OfFault}
 use Rattle.g1_report.specs.declared.reporting.Asked.{Asked}
 use Rattle.g1_report.specs.declared.sides.Side.{Side}
 use Rattle.g1_report.specs.declared.sides.Strays.{Strays}
@@ -38,6 +42,24 @@ pub record ShowsText (text : List ℕ) (s : Side) : Type 0 where
   pub labels : AreNamesOf graph ats (labels_of s)
   pub holders : map read_holder s.holders.items ≡ holders_from 0 graph.roots
   pub named : s.stale ≡ None → AllNamed graph
+
+-- the objects of the side have names, as those of lines do
+abbrev pub HasNames : Side → Type 0
+HasNames s = IsSome s.labels
+
+-- the text says a graph, and the bytes that hold it have this fault
+pub record HoldsFault (text : List ℕ) (f : Fault) : Type 0 where
+  pub graph : NamedGraph
+  pub says : SaysGraph text graph
+  pub holder : Graph
+  pub holds : HoldsGraph graph holder
+  pub fault : FaultWithin Wide holder.text.items f
+
+-- WHY LINES HAVE NO SIDE: a line is not what is expected there, and which line that is, nothing says; or memory ran out; or the
+-- text says a graph, and the bytes that hold it have a fault
+abbrev pub IsNoText : List ℕ → Wrong → Type 0
+IsNoText text (Line number expected) = Unit {0}
+IsNoText text (OfFault f) = (f ≡ Memory) ⊎ HoldsFault text f
 
 -- the side shows a text that says this graph
 abbrev pub ShowsGraph : NamedGraph → Side → Type 0

@@ -1,5 +1,12 @@
--- What lines were taken, where that is told.
-use Rattle.std.specs.Prelude.{◌≡◌, ℕ, List, ◌++◌, Option, Some, None, ⊤}
+-- What lines were taken, where that is told, and why no more are.
+use Rattle.std.specs.Prelude.{◌≡◌, ◌⊎◌, ℕ, List, ◌++◌, Option, Some, None, ⊤}
+use Rattle.g1_words.specs.declared.fault.Fault.{Fault}
+use Rattle.g1_words.specs.declared.fault.Fault.TheVariants.{Memory, Device}
+use Rattle.g1_words.specs.declared.fault.Device.TheVariants.{Output}
+
+-- A REPORT STOPS for memory, or for the output
+abbrev pub StopsLines : Fault → Type 0
+StopsLines f = (f ≡ Memory) ⊎ (f ≡ Device Output)
 
 -- a beginning of the text was taken, or nothing
 abbrev pub TakesPart : Option (List ℕ) → Option (List ℕ) → List ℕ → Type 0

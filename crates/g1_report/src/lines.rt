@@ -1,7 +1,7 @@
 //! Where lines go.
-ghost use Rattle.std.specs.Prelude.{ℕ, List, Option, None, OnErr, OnOk};
+ghost use Rattle.std.specs.Prelude.{ℕ, List, Option, None, IfErr, OnErr, OnOk};
 ghost use Rattle.std.specs.Io.KnownBytes.{Appends};
-ghost use Rattle.g1_report.specs.Taken.{TakesPart};
+ghost use Rattle.g1_report.specs.Taken.{StopsLines, TakesPart};
 
 use g1_words::Fault;
 
@@ -14,8 +14,9 @@ pub trait Lines {
     ///
     /// # Errors
     ///
-    /// `Fault::Memory`, or the device that failed. A beginning of the lines may have been taken then.
+    /// `Fault::Memory`, or that the output failed. A beginning of the lines may have been taken then.
     fn take(&mut self, lines: &str) -> Result<bool, Fault>
         ensures ok { OnOk result (Appends (taken self.old) (taken self.new) lines.now) }
-        ensures err { OnErr result (TakesPart (taken self.old) (taken self.new) lines.now) };
+        ensures err { OnErr result (TakesPart (taken self.old) (taken self.new) lines.now) }
+        ensures fault { IfErr result StopsLines };
 }

@@ -1,7 +1,9 @@
 //! The heaps that are compared: those of images, or of lines of objects by name.
-ghost use Rattle.std.specs.Prelude.{◌≡◌, Option, Some, None, IfOk, IfSome, OnOk};
+ghost use Rattle.std.specs.Prelude.{◌≡◌, ℕ, List, [], ◌∷◌, ◌++◌, Option, Some, None, IfOk, IfErr, IfSome, IfNone, OnOk};
 ghost use Rattle.g1_report.specs.Answer.{CountsFrom, IsByNumber, IsInOrder, stale_names};
-ghost use Rattle.g1_report.specs.Opened.{IsStale, ShowsText};
+ghost use Rattle.g1_report.specs.Opened.{HasNames, IsNoText, IsStale, ShowsText};
+ghost use Rattle.g1_report.specs.Shared.{HasTwoTexts, IsAnother, IsLeastOf, SharesTexts};
+ghost use Rattle.g1_report.specs.Wording.{Called, name_of};
 
 use crate::comparing::Labels;
 use g1_image::{Image, Stale, decode_within};
@@ -42,19 +44,55 @@ impl<'a> Side<'a> {
 }
 
 /// Two texts of two heaps that can't be told apart, since one word stands for both: those of the least word.
-pub fn shared_text<'a>(before: &'a Side<'_>, after: &'a Side<'_>) -> Option<(&'a str, &'a str)> {
-    let mut found = None;
-    let mut least = u64::MAX;
-    for (word, text) in after.texts.iter() {
-        match before.texts.get(word) {
-            Some(other) if *other != *text && *word <= least => {
-                least = *word;
-                found = Some((*other, *text));
-            }
-            _ => (),
-        }
+pub fn shared_text<'a>(before: &'a Side<'_>, after: &'a Side<'_>) -> Option<(&'a str, &'a str)>
+    ensures some { IfSome result (λ r. (word : ℕ) × HasTwoTexts before.now after.now word r.0.now r.1.now) }
+    ensures none { IfNone result (SharesTexts before.now after.now → ⊥) }
+{
+    let mut least = None;
+    for (word, other) in after.texts.iter() {
+        least = least_with(least, &before.texts, *word, other);
     }
-    found
+    match least {
+        Some(Shared { text, other, .. }) => Some((text, other)),
+        None => None,
+    }
+}
+
+// A word, and two texts that it stands for: one before, and another one after.
+#[derive(Clone, Copy)]
+struct Shared<'a> {
+    word: u64,
+    text: &'a str,
+    other: &'a str,
+}
+
+// The same with a word more, if it stands for another text before: the least word stays.
+fn least_with<'a>(
+    least: Option<Shared<'a>>,
+    before: &'a HashMap<u64, &str>,
+    word: u64,
+    other: &'a str,
+) -> Option<Shared<'a>>
+    ensures { (passed : Called) → IsLeastOf before.now.entries passed least.entry → IsLeastOf before.now.entries (passed ++ (word, other.entry) ∷ []) result }
+{
+    let Some(text) = another_text(before, word, other) else {
+        return least;
+    };
+    match least {
+        Some(shared) if shared.word <= word => least,
+        _ => Some(Shared { word, text, other }),
+    }
+}
+
+// The text that stands for the word, if it is another one than this.
+fn another_text<'a>(texts: &'a HashMap<u64, &str>, word: u64, other: &str) -> Option<&'a str>
+    ensures some { IfSome result (λ text. IsAnother texts.now.entries word text.now other.now) }
+    ensures none { IfNone result ((text : List ℕ) → name_of texts.now.entries word ≡ Some text → text ≡ other.now) }
+{
+    match texts.get(&word) {
+        Some(text) if *text != other => Some(*text),
+        _ => None,
+    }
 }
 
 /// The words that reference no object, and what is wrong with them where they are not reported.
@@ -69,6 +107,8 @@ pub struct Strays<'a> {
 /// The side of an image.
 pub fn open_image<'a>(alloc: Global, image: Image) -> Side<'a>
     ensures image { result.image ≡ image }
+    ensures labels { result.labels ≡ None }
+    ensures texts { result.texts.entries ≡ [] }
     ensures stale { result.stale ≡ None }
     ensures in_order { IsInOrder result }
 {
@@ -84,20 +124,18 @@ pub fn open_image<'a>(alloc: Global, image: Image) -> Side<'a>
 /// The side of an image that has stale words, which are null in it, and this fault with them.
 pub fn open_stale<'a>(alloc: Global, image: Image, words: Stale, fault: Fault) -> Side<'a>
     ensures image { result.image ≡ image }
+    ensures labels { result.labels ≡ None }
+    ensures texts { result.texts.entries ≡ [] }
     ensures stale { IsStale words fault result.stale }
     ensures in_order { IsInOrder result }
 {
-    Side {
-        image,
-        labels: None,
-        holders: Vec::new(alloc),
-        texts: HashMap::new(alloc),
-        stale: Some(Strays {
-            words,
-            names: Vec::new(alloc),
-            wrong: Wrong::Fault(fault),
-        }),
-    }
+    let mut side = open_image(alloc, image);
+    side.stale = Some(Strays {
+        words,
+        names: Vec::new(alloc),
+        wrong: Wrong::Fault(fault),
+    });
+    side
 }
 
 /// The side of lines. Lines with names that no object has are an image once these names are null.
@@ -107,7 +145,9 @@ pub fn open_stale<'a>(alloc: Global, image: Image, words: Stale, fault: Fault) -
 /// The first line that is not what is expected there, or the fault of the image of the lines.
 pub fn open_lines<'a>(alloc: Global, lines: &'a [u8]) -> Result<Side<'a>, Wrong>
     ensures shows { IfOk result (ShowsText lines.now) }
+    ensures labels { IfOk result HasNames }
     ensures in_order { IfOk result IsInOrder }
+    ensures no_text { IfErr result (IsNoText lines.now) }
 {
     let graph = read_graph(alloc, lines)?;
     let image = match decode_within(alloc, Limits::Wide, graph.text.as_slice()) {

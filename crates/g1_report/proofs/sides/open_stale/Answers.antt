@@ -3,7 +3,7 @@ use Rattle.g1_report.proofs.sides.open_stale.Goals as goal
 
 pub returns-clause-in_order : goal.returns-clause-in_order
 returns-clause-in_order c = record {
-  objects = tt;
-  roots = of_none c.new.result.items c.new.ensures.items;
-  stale = names_in_order c.new-3.result.items (of_none c.new-3.result.items c.new-3.ensures.items);
+  objects = c.open_image-side.ensures.in_order.objects;
+  roots = c.open_image-side.ensures.in_order.roots;
+  stale = names_in_order c.new.result.items (of_none c.new.result.items c.new.ensures.items);
 }
