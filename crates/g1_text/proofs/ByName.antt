@@ -1,5 +1,5 @@
 -- What lines of objects by name say, and what is kept of it.
-use Rattle.std.proofs.Common.{◌≡◌, ◌≢◌, Bool, true, false, cond, ℕ, suc, ◌+◌, ◌-◌, ◌<◌, ◌^◌, List, [], ◌∷◌, ◌++◌, length, map, append-nil, append_assoc, refl, sym, ◌∙◌, ap, subst, arith}
+use Rattle.std.proofs.Common.{◌≡◌, ◌≢◌, Bool, true, false, cond, ℕ, suc, ◌+◌, ◌-◌, ◌<◌, ◌^◌, List, [], ◌∷◌, ◌++◌, length, map, min, append-nil, append_assoc, refl, sym, ◌∙◌, ap, subst, arith}
 use Rattle.std.specs.Prelude.{Option, Some, None, MatchOption, IfSome, codes, All}
 use Rattle.std.specs.Borrow.{Bor}
 use Rattle.std.specs.List.{AllZip, position_from}
@@ -10,10 +10,11 @@ use Rattle.std.proofs.lemmas.Bool.{false≢true}
 use Rattle.std.proofs.lemmas.Slice.Eq.{bytes_eq-Decides}
 use Rattle.std.proofs.lemmas.List.Elements.{All-nil, All-cons}
 use Rattle.std.proofs.lemmas.Map.Text.{hash_map_updates_str}
-use Rattle.g1_words.specs.Geometry.{IsWithinBounds}
+use Rattle.std.proofs.lemmas.List.Sums.{sum_by_push}
+use Rattle.g1_words.specs.Geometry.{Geometry, IsWithinBounds}
 use Rattle.g1_text.specs.declared.placing.Entry.{Entry}
 use Rattle.g1_text.specs.Forms.{Single, Spells, HasSize, IsTarget, IsName, ◌▸◌, HasFront}
-use Rattle.g1_text.specs.Graphs.{NamedObject, NamedRoot, NamedGraph, SaysSizes, SaysRoot, SaysObject, IsTargetName, IsNewName, Shortens, size_of, target_word}
+use Rattle.g1_text.specs.Graphs.{NamedObject, NamedRoot, NamedGraph, SaysSizes, SaysRoot, SaysObject, IsTargetName, IsNewName, AreWithinBounds, Shortens, size_of, words_of, target_word}
 use Rattle.g1_text.specs.ByName.{IsEntryOf, Fills, read_root, root_word, holder_of, holders_from, place_of}
 use Rattle.g1_text.proofs.Gathering.{map_count, map_push}
 
@@ -64,6 +65,11 @@ sizes_said w k n x y z e limits r end =
 pub no_sizes_said : (words : List (List ℕ)) → length words ≡ 0 → SaysSizes None (codes "graph" ∷ words)
 no_sizes_said [] e = refl
 no_sizes_said (word ∷ words) e = absurd (omega (arith, e))
+
+-- sizes that were told are within bounds
+pub sizes_within : (sizes : Option Geometry) (words : List (List ℕ)) → SaysSizes sizes words → AreWithinBounds sizes
+sizes_within None words says = tt
+sizes_within (Some s) words says = says.4
 
 -- A ROOT
 pub root_said : (name : Bor (List ℕ)) (holder : Option (Bor (List ℕ))) (words : List (List ℕ))
@@ -167,6 +173,11 @@ holders_more old new roots r n e push count =
 
 pub entries_more : (old new : List Entry) (objects : List NamedObject) (e : Entry) (o : NamedObject) → AllZip IsEntryOf old objects → new ≡ old ++ e ∷ [] → IsEntryOf e o → AllZip IsEntryOf new (objects ++ o ∷ [])
 entries_more old new objects e o all push is = subst (λ es. AllZip IsEntryOf es (objects ++ o ∷ [])) (sym push) (zip_push IsEntryOf old objects e o all is)
+
+-- the words of the objects, with those of one more
+pub words_more : (old new size : ℕ) (g : NamedGraph) (o : NamedObject) → old ≡ min (words_of g) (2 ^ 64 - 1) → new ≡ min (old + size) (2 ^ 64 - 1) → size ≡ size_of o
+    → new ≡ min (words_of (record g { objects = g.objects ++ o ∷ [] })) (2 ^ 64 - 1)
+words_more old new size g o e sum same = let more = sum_by_push size_of g.objects o in omega (arith, e, sum, same, more)
 
 -- a name without an object is new
 pub is_new_name : (name : List ℕ) (g : NamedGraph) → place_of name g.objects ≡ None → IsNewName name g

@@ -33,6 +33,7 @@ pub mod Fronts
 pub mod Written
 pub mod ByName
 pub mod NamedLines
+pub mod Overfull
 pub mod OneGraph
 pub mod OneValue
 pub mod NamedObjects

@@ -177,7 +177,7 @@ line_one (Some f) words g h (inl a) (inr b) = absurd (not_both a.0 b.0 words a.1
 line_one (Some f) words g h (inr a) (inl b) = absurd (not_both b.0 a.0 words b.1 a.1)
 line_one (Some f) words g h (inr a) (inr b) = a.3 ∙ ap (λ o. record f { objects = f.objects ++ o ∷ [] }) (object_one a.0 b.0 words a.1 b.1) ∙ sym b.3
 
-lines_one : (before g h : Option NamedGraph) (lines : List (List (List ℕ))) → SayNamed before lines g → SayNamed before lines h → g ≡ h
+pub lines_one : (before g h : Option NamedGraph) (lines : List (List (List ℕ))) → SayNamed before lines g → SayNamed before lines h → g ≡ h
 lines_one before g h [] a b = sym a ∙ b
 lines_one before g h (line ∷ lines) a b =
     let first = line_one before line a.0 b.0 a.1 b.1 in

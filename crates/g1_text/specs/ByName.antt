@@ -1,5 +1,5 @@
 -- What lines of objects by name hold when they are read.
-use Rattle.std.specs.Prelude.{◌≡◌, ◌≢◌, ◌≤◌, ℕ, Option, Some, None, List, [], ◌∷◌, ◌++◌, ◌+◌, length, map, All}
+use Rattle.std.specs.Prelude.{◌≡◌, ◌≢◌, ◌≤◌, ℕ, Option, Some, None, List, [], ◌∷◌, ◌++◌, ◌+◌, ◌-◌, ◌^◌, length, map, min, All}
 use Rattle.std.specs.List.{AllZip, position_from}
 use Rattle.std.specs.Str.{bytes_eq}
 use Rattle.std.specs.HashMap.{get_by}
@@ -9,7 +9,7 @@ use Rattle.g1_text.specs.declared.named.Lines.{Lines}
 use Rattle.g1_text.specs.declared.placing.Entry.{Entry}
 use Rattle.g1_text.specs.declared.reading.HeapSizes.{HeapSizes}
 use Rattle.g1_text.specs.Reading.{words_in}
-use Rattle.g1_text.specs.Graphs.{NamedObject, NamedRoot, NamedGraph, SaysObject, IsTargetName, Shortens, size_of, target_word, empty_graph}
+use Rattle.g1_text.specs.Graphs.{NamedObject, NamedRoot, NamedGraph, SaysObject, IsTargetName, AreWithinBounds, Shortens, size_of, words_of, target_word, empty_graph}
 use Rattle.g1_text.specs.Forms.{Form, Many, IsTarget, IsDataWord}
 
 -- the sizes are these, if there are any
@@ -58,11 +58,13 @@ place_of name objects = position_from (λ o. bytes_eq name o.name) 0 objects
 -- WHAT WAS READ IS THE GRAPH: no line is lost, and each name leads to the place of its object
 pub record HasRead (l : Lines) (g : NamedGraph) : Type 0 where
   pub sizes : AreSizes l.sizes g.sizes
+  pub bounds : AreWithinBounds g.sizes
   pub roots : map read_root l.roots.items ≡ map root_word g.roots
   pub targets : All (λ r. IsTargetName r.target) g.roots
   pub few : length g.roots ≤ most_roots
   pub holders : map read_holder l.holders.items ≡ holders_from 0 g.roots
   pub entries : AllZip IsEntryOf l.entries.items g.objects
+  pub words : l.words ≡ min (words_of g) (2 ^ 64 - 1)
   pub places : (name : List ℕ) → get_by (λ k. bytes_eq name k.now) l.places ≡ place_of name g.objects
 
 -- the lines that were read so far say this: before the heading nothing

@@ -1,6 +1,6 @@
 -- Graphs by name: what lines of objects by name say, one case a line.
-use Rattle.std.specs.Prelude.{◌≡◌, ◌≢◌, ◌⊎◌, ◌<◌, ◌+◌, ◌-◌, ◌^◌, ℕ, Option, Some, None, List, [], ◌∷◌, ◌++◌, length, map, take, drop, codes, All, IfSome}
-use Rattle.g1_words.specs.Geometry.{Geometry, IsWithinBounds, most_roots}
+use Rattle.std.specs.Prelude.{◌≡◌, ◌≢◌, ◌⊎◌, ◌≤◌, ◌<◌, ◌+◌, ◌-◌, ◌*◌, ◌^◌, ℕ, Option, Some, None, List, [], ◌∷◌, ◌++◌, length, map, take, drop, codes, sum_by, All, IfSome}
+use Rattle.g1_words.specs.Geometry.{Geometry, IsWithinBounds, most_roots, most_words}
 use Rattle.g1_text.specs.Reading.{HasLines}
 use Rattle.g1_text.specs.Forms.{Spells, HasSize, IsName, IsDataWord}
 
@@ -24,6 +24,23 @@ pub record NamedGraph : Type 0 where
 -- how many words an object has, with its header
 abbrev pub size_of : NamedObject → ℕ
 size_of o = length o.slots + length o.written + 1
+
+-- how many words all objects have
+abbrev pub words_of : NamedGraph → ℕ
+words_of g = sum_by size_of g.objects
+
+-- the most words that a heap may have: one of these sizes, if they were told, or else any
+abbrev pub most_words_of : Option Geometry → ℕ
+most_words_of None = most_words
+most_words_of (Some s) = s.n * s.w
+
+-- THE OBJECTS FIT by their words: a heap may have as many
+abbrev pub FitsHeap : NamedGraph → Type 0
+FitsHeap g = words_of g ≤ most_words_of g.sizes
+
+-- sizes that were told are those of a heap
+abbrev pub AreWithinBounds : Option Geometry → Type 0
+AreWithinBounds sizes = IfSome sizes (λ s. IsWithinBounds s.w s.k s.n)
 
 -- the word for a target: `-` for null, else the name
 abbrev pub target_word : Option (List ℕ) → List ℕ

@@ -15,6 +15,7 @@ pub mod Renamed
 pub mod RenamedExample
 pub mod Late
 pub mod Reported
+pub mod Overfull
 pub mod Short
 pub mod Weak
 pub mod Marking

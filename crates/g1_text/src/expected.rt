@@ -55,7 +55,10 @@ pub enum Expected {
     NamedSlot(u64),
     /// At least this many regions.
     Regions(u64),
-    Smaller,
+    /// Objects for which there are regions. These have so many words.
+    Smaller(u64),
+    /// Fewer words than these, since a heap has at most so many.
+    FewerWords(u64, u64),
 }
 
 impl Expected {
@@ -88,7 +91,6 @@ impl Expected {
             Expected::NewName => "a name that no object above has",
             Expected::NamedRoot => "'-' or the name of an object",
             Expected::Holder => "one word behind 'as', which is neither '-' nor '..'",
-            Expected::Smaller => "objects that fit into a heap of 268435456 words",
             _ => "",
         }
     }
@@ -100,6 +102,11 @@ impl Expected {
             Expected::Slot(slot) => Some(("'-' or the address of an object in slot ", slot, "")),
             Expected::NamedSlot(slot) => Some(("'-' or the name of an object in slot ", slot, "")),
             Expected::Regions(least) => Some(("at least ", least, " regions")),
+            Expected::Smaller(words) => Some((
+                "objects that fit into the regions of a heap of 268435456 words: these have ",
+                words,
+                " words",
+            )),
             Expected::AtMost(most) => Some(("an object of at most ", most, " words")),
             Expected::AtLeast(least) => Some(("an object of at least ", least, " words")),
             _ => None,
@@ -115,6 +122,10 @@ impl fmt::Display for Expected {
             Expected::Follows(what, number) => write!(f, "{what} {number}"),
             Expected::Region(first, last) => write!(f, "a region from {first} to {last}"),
             Expected::Content(slots, data) => write!(f, "{slots} slots and {data} data words"),
+            Expected::FewerWords(words, most) => write!(
+                f,
+                "fewer words: with this object there are {words}, and the heap has at most {most}"
+            ),
             _ => match self.number() {
                 Some((lead, number, tail)) => write!(f, "{lead}{number}{tail}"),
                 None => f.write_str(self.text()),

@@ -1,17 +1,18 @@
 //! Lines of objects by name, without regions and addresses.
-ghost use Rattle.std.specs.Prelude.{◌≡◌, ◌<◌, ◌↔◌, ◌-◌, ◌^◌, ℕ, List, Option, None, Some, [], ◌∷◌, ◌++◌, true, false, IsUtf8, length, map, codes, All, IsTrue, IfErr, IfOk, IfSome, OnOk, MatchOption};
+ghost use Rattle.std.specs.Prelude.{◌≡◌, ◌<◌, ◌↔◌, ◌-◌, ◌^◌, ℕ, List, Option, None, Some, [], ◌∷◌, ◌++◌, true, false, IsUtf8, length, map, codes, All, IsTrue, IfErr, IfOk, IfSome, OnOk, MatchOption, MatchResult};
 ghost use Rattle.g1_words.specs.Geometry.{Geometry as GeometryOf};
 ghost use Rattle.g1_image.specs.Image.{IsImageTextWithin};
 ghost use Rattle.g1_text.specs.Reading.{words_in, says_something, parts_of, lines_in, AreGraphLines};
 ghost use Rattle.g1_text.specs.Forms.{GraphHeading, GraphLine, NamedRootLine, NamedObjectLine, HasMeaning, HasSize, IsTarget, IsName, IsDataWord, Sizes, Maybe, Single, Word, ◌▸◌, Many, Holding, HasFront};
 ghost use Rattle.g1_text.specs.Drafts.{content, is_begun, IsTaken, AreTaken};
-ghost use Rattle.g1_text.specs.Graphs.{NamedGraph, SaysGraph, SaysSizes, SaysNamed, SayNamed, AddsRoot, AddsObject, IsTargetName, target_word, empty_graph};
+ghost use Rattle.g1_text.specs.Graphs.{NamedGraph, SaysGraph, SaysSizes, SaysNamed, SayNamed, AddsRoot, AddsObject, FitsHeap, AreWithinBounds, IsTargetName, words_of, most_words_of, target_word, empty_graph};
 ghost use Rattle.g1_text.specs.ByName.{HasRead, IsRead, AreSizes, Fills, read_holder, holder_of, holders_from};
 ghost use Rattle.g1_text.specs.Carried.{HoldsGraph, CarryGraph, reference_for, word_for, stale_at};
 ghost use Rattle.g1_text.specs.Filled.{AreLocated, IsNoted};
 ghost use Rattle.g1_text.specs.Laid.{ArePlaced};
 ghost use Rattle.std.specs.Option.{option_copied};
-ghost use Rattle.g1_text.specs.Refused.{IsLineOrMemory};
+ghost use Rattle.g1_text.specs.Refused.{IsLineOrMemory, IsOther, IsOtherRefusal};
+ghost use Rattle.g1_text.specs.Overfull.{RefusesOverfull, FitsSoFar};
 
 use crate::covering::cover;
 use crate::draft::{Draft, Heading};
@@ -68,13 +69,15 @@ pub fn is_graph(text: &[u8]) -> bool
 ///
 /// # Errors
 ///
-/// The number of the first line that is not what is expected there, and what is expected; the heading's, if the objects
-/// do not fit into a heap. `Fault::Memory` else.
+/// The number of the first line that is not what is expected there, and what is expected; the heading's, if the regions of
+/// a heap do not hold the objects, though it may have as many words. `Fault::Memory` else.
 pub fn read_graph<'a>(alloc: Global, text: &'a [u8]) -> Result<Graph<'a>, Wrong>
     ensures fault { IfErr result IsLineOrMemory }
     ensures known { OnOk result (HasMeaning GraphHeading GraphLine text.now) }
     ensures says { IfOk result (λ r. (g : NamedGraph) × SaysGraph text.now g × (map read_holder r.root_names.items ≡ holders_from 0 g.roots)) }
     ensures holds { IfOk result (λ r. (g : NamedGraph) × SaysGraph text.now g × HoldsGraph g r) }
+    ensures fits { OnOk result ((g : NamedGraph) × SaysGraph text.now g × FitsHeap g) }
+    ensures overfull { RefusesOverfull text.now result }
 {
     let lines = read_lines(alloc, text)?;
     let mut graph = place_and_fill(alloc, &lines)?;
@@ -163,6 +166,8 @@ pub fn make_graph(alloc: Global, text: &[u8]) -> Result<Vec<u8>, Wrong>
     ensures known { OnOk result (HasMeaning GraphHeading GraphLine text.now) }
     ensures says { OnOk result ((g : NamedGraph) × SaysGraph text.now g) }
     ensures carries { IfOk result (λ v. (g : NamedGraph) × SaysGraph text.now g × CarryGraph g v.items) }
+    ensures fits { OnOk result ((g : NamedGraph) × SaysGraph text.now g × FitsHeap g) }
+    ensures overfull { RefusesOverfull text.now result }
 {
     let lines = read_lines(alloc, text)?;
     let Graph {
@@ -199,6 +204,8 @@ pub(crate) struct Lines<'a> {
     /// The numbers of the roots whose lines say what holds them, and what that is called.
     holders: Vec<(u64, &'a str)>,
     pub(crate) entries: Vec<Entry<'a>>,
+    /// How many words the objects have.
+    words: u64,
     /// The place of each name's entry.
     pub(crate) places: HashMap<&'a str, u64>,
     /// The texts among the data words, by the words that stand for them.
@@ -209,6 +216,8 @@ fn read_lines<'a>(alloc: Global, text: &'a [u8]) -> Result<Lines<'a>, Wrong>
     ensures fault { IfErr result IsLineOrMemory }
     ensures known { IfOk result (λ l. All IsUtf8 (parts_of text.now) × AreTaken GraphHeading GraphLine false (lines_in text.now) (is_begun l)) }
     ensures says { IfOk result (λ l. (g : Option NamedGraph) × SayNamed None (lines_in text.now) g × IsRead l g) }
+    ensures fits { OnOk result ((g : Option NamedGraph) × SayNamed None (lines_in text.now) g × FitsSoFar g) }
+    ensures overfull { RefusesOverfull text.now result }
 {
     let mut lines = Lines {
         heading: 0,
@@ -216,6 +225,7 @@ fn read_lines<'a>(alloc: Global, text: &'a [u8]) -> Result<Lines<'a>, Wrong>
         roots: Vec::new(alloc),
         holders: Vec::new(alloc),
         entries: Vec::new(alloc),
+        words: 0,
         places: HashMap::new(alloc),
         texts: HashMap::new(alloc),
     };
@@ -227,6 +237,9 @@ fn read_lines<'a>(alloc: Global, text: &'a [u8]) -> Result<Lines<'a>, Wrong>
         number = number.saturating_add(1);
         if let Err(refusal) = lines.read(&mut words, number, line) {
             return Err(refusal.at(number));
+        }
+        if let Err(expected) = lines.check_words() {
+            return Err(Refusal::Expected(expected).at(number));
         }
         rest = behind;
     }
@@ -240,6 +253,7 @@ impl<'a> Lines<'a> {
         ensures nothing { says_something (words_in line.now) ≡ false → OnOk result (is_begun self.new ≡ is_begun self.old) }
         ensures says { (g : Option NamedGraph) → 0 < number → says_something (words_in line.now) ≡ true → IsRead self.old g → OnOk result ((h : NamedGraph) × SaysNamed g (words_in line.now) h × IsRead self.new (Some h)) }
         ensures kept { (g : Option NamedGraph) → says_something (words_in line.now) ≡ false → IsRead self.old g → OnOk result (IsRead self.new g) }
+        ensures other { IfErr result IsOtherRefusal }
     {
         let Ok(line) = str::from_utf8(line) else {
             return Err(Refusal::Expected(Expected::Text));
@@ -254,6 +268,7 @@ impl<'a> Lines<'a> {
         ensures nothing { says_something (map (λ t. t.now) words.now) ≡ false → OnOk result (is_begun self.new ≡ is_begun self.old) }
         ensures says { (g : Option NamedGraph) → 0 < number → map (λ t. t.now) words.now ≡ words_in line.now → says_something (words_in line.now) ≡ true → IsRead self.old g → OnOk result ((h : NamedGraph) × SaysNamed g (words_in line.now) h × IsRead self.new (Some h)) }
         ensures kept { (g : Option NamedGraph) → map (λ t. t.now) words.now ≡ words_in line.now → says_something (words_in line.now) ≡ false → IsRead self.old g → OnOk result (IsRead self.new g) }
+        ensures other { IfErr result IsOtherRefusal }
     {
         let Some((first, rest)) = words.split_first() else {
             return Ok(());
@@ -276,6 +291,7 @@ impl<'a> Lines<'a> {
         ensures form { OnOk result (GraphHeading (first.now ∷ map (λ t. t.now) told.now)) }
         ensures number { OnOk result (self.new.heading ≡ number) }
         ensures says { HasRead self.old (empty_graph None) → OnOk result ((sizes : Option GeometryOf) × SaysSizes sizes (first.now ∷ map (λ t. t.now) told.now) × HasRead self.new (empty_graph sizes)) }
+        ensures other { IfErr result IsOtherRefusal }
     {
         if first != "graph" {
             return Err(Refusal::Expected(Expected::Graph));
@@ -290,6 +306,7 @@ impl<'a> Lines<'a> {
         ensures form { OnOk result (NamedRootLine (codes "root" ∷ map (λ t. t.now) words.now)) }
         ensures heading { OnOk result (self.new.heading ≡ self.old.heading) }
         ensures says { (g : NamedGraph) → HasRead self.old g → OnOk result ((h : NamedGraph) × AddsRoot g (codes "root" ∷ map (λ t. t.now) words.now) h × HasRead self.new h) }
+        ensures other { IfErr result IsOtherRefusal }
     {
         let most = u64::from(MOST_ROOTS);
         if self.roots.len() as u64 >= most {
@@ -306,6 +323,7 @@ impl<'a> Lines<'a> {
         ensures form { OnOk result (NamedObjectLine (codes "object" ∷ map (λ t. t.now) words.now)) }
         ensures heading { OnOk result (self.new.heading ≡ self.old.heading) }
         ensures says { (g : NamedGraph) → codes "object" ∷ map (λ t. t.now) words.now ≡ words_in line.now → HasRead self.old g → OnOk result ((h : NamedGraph) × AddsObject g (words_in line.now) h × HasRead self.new h) }
+        ensures other { IfErr result IsOtherRefusal }
     {
         let Some((name, rest)) = words.split_first() else {
             return Err(Refusal::Expected(Expected::Name));
@@ -328,6 +346,18 @@ impl<'a> Lines<'a> {
             number,
             line,
         })?;
+        self.words = self.words.saturating_add(u64::from(size));
+        Ok(())
+    }
+
+    // A heap may have all words of the objects so far.
+    fn check_words(&self) -> Result<(), Expected>
+        ensures { (g : NamedGraph) → HasRead self.now g → MatchResult result (λ _. FitsHeap g) (λ e. (FitsHeap g → ⊥) × (words_of g < 2 ^ 64 → e ≡ Expected.FewerWords (words_of g) (most_words_of g.sizes))) }
+    {
+        let most = most_words(self.sizes);
+        if self.words > most {
+            return Err(Expected::FewerWords(self.words, most));
+        }
         Ok(())
     }
 
@@ -387,6 +417,7 @@ fn keep_holder<'a>(
 fn all_sizes(told: &[&str]) -> Result<Option<HeapSizes>, Expected>
     ensures form { OnOk result (Maybe Sizes (map (λ t. t.now) told.now)) }
     ensures says { IfOk result (λ s. (sizes : Option GeometryOf) × AreSizes s sizes × SaysSizes sizes (codes "graph" ∷ map (λ t. t.now) told.now)) }
+    ensures other { IfErr result IsOther }
 {
     let mut words = Words::new(told);
     if words.len() == 0 {
@@ -403,12 +434,23 @@ fn all_sizes(told: &[&str]) -> Result<Option<HeapSizes>, Expected>
     }
 }
 
+// The most words that a heap may have: one of these sizes, or any.
+fn most_words(sizes: Option<HeapSizes>) -> u64
+    ensures { (told : Option GeometryOf) → AreSizes sizes told → AreWithinBounds told → result ≡ most_words_of told }
+{
+    match sizes {
+        Some(HeapSizes { w, n, .. }) => n.saturating_mul(w),
+        None => Limits::Wide.words(),
+    }
+}
+
 // NAME [as HOLDER]
 fn root_words<'a>(words: &[&'a str]) -> Result<(&'a str, Option<&'a str>), Expected>
     ensures words { IfOk result (λ r. MatchOption r.1 (map (λ t. t.now) words.now ≡ r.0.now ∷ []) (λ h. map (λ t. t.now) words.now ≡ r.0.now ∷ codes "as" ∷ h.now ∷ [])) }
     ensures form { OnOk result ((Single IsTarget ▸ Maybe (Word (codes "as") ▸ Single IsName)) (map (λ t. t.now) words.now)) }
     ensures target { IfOk result (λ r. IsTarget r.0.now) }
     ensures holder { IfOk result (λ r. IfSome r.1 (λ h. IsName h.now)) }
+    ensures other { IfErr result IsOther }
 {
     match words.split_first() {
         Some((name, rest)) if *name != ".." => Ok((*name, holder(rest)?)),
@@ -421,6 +463,7 @@ fn holder<'a>(words: &[&'a str]) -> Result<Option<&'a str>, Expected>
     ensures words { IfOk result (λ r. MatchOption r (map (λ t. t.now) words.now ≡ []) (λ h. map (λ t. t.now) words.now ≡ codes "as" ∷ h.now ∷ [])) }
     ensures form { OnOk result (Maybe (Word (codes "as") ▸ Single IsName) (map (λ t. t.now) words.now)) }
     ensures name { IfOk result (λ r. IfSome r (λ h. IsName h.now)) }
+    ensures other { IfErr result IsOther }
 {
     let Some((first, rest)) = words.split_first() else {
         return Ok(None);
@@ -435,7 +478,8 @@ fn holder<'a>(words: &[&'a str]) -> Result<Option<&'a str>, Expected>
 }
 
 fn check_name(name: &str) -> Result<(), Expected>
-    ensures { OnOk result (IsName name.now) }
+    ensures name { OnOk result (IsName name.now) }
+    ensures other { IfErr result IsOther }
 {
     if name == "-" || name == ".." {
         Err(Expected::Name)
@@ -448,6 +492,7 @@ fn check_name(name: &str) -> Result<(), Expected>
 fn short_size(text: &str) -> Result<(u32, u32), Expected>
     ensures within { IfOk result (λ p. (p.1 < p.0) × (p.0 < 2 ^ 32)) }
     ensures form { IfOk result (λ p. HasSize p.0 p.1 text.now) }
+    ensures other { IfErr result IsOther }
 {
     let Some((size, slots)) = size_and_slots(text) else {
         return Err(Expected::Size);
@@ -457,7 +502,7 @@ fn short_size(text: &str) -> Result<(u32, u32), Expected>
     }
     match u32::try_from(size) {
         Ok(size) => Ok((size, slots as u32)),
-        Err(_) => Err(Expected::Smaller),
+        Err(_) => Err(Expected::AtMost(Limits::Wide.words())),
     }
 }
 
@@ -465,6 +510,7 @@ fn short_size(text: &str) -> Result<(u32, u32), Expected>
 fn check_content(content: &[&str], size: u32, slots: u32) -> Result<(), Expected>
     ensures form { slots < size → OnOk result (Holding IsTarget slots (size - slots - 1) (map (λ t. t.now) content.now)) }
     ensures fills { slots < size → OnOk result (Fills slots (size - slots - 1) (map (λ t. t.now) content.now)) }
+    ensures other { IfErr result IsOther }
 {
     let mut words = Words::new(content);
     let slots = u64::from(slots);
@@ -476,7 +522,8 @@ fn check_content(content: &[&str], size: u32, slots: u32) -> Result<(), Expected
 }
 
 fn check_names(words: &mut Words<'_>, count: u64) -> Result<(), Expected>
-    ensures { OnOk result (HasFront (Many IsTarget count) words.old words.new) }
+    ensures form { OnOk result (HasFront (Many IsTarget count) words.old words.new) }
+    ensures other { IfErr result IsOther }
 {
     for slot in 0..count {
         let Some(name) = words.next() else {
@@ -490,7 +537,8 @@ fn check_names(words: &mut Words<'_>, count: u64) -> Result<(), Expected>
 }
 
 fn check_data(words: &mut Words<'_>, count: u64) -> Result<(), Expected>
-    ensures { OnOk result (HasFront (Many IsDataWord count) words.old words.new) }
+    ensures form { OnOk result (HasFront (Many IsDataWord count) words.old words.new) }
+    ensures other { IfErr result IsOther }
 {
     for _ in 0..count {
         words.value()?;
@@ -503,7 +551,9 @@ fn keep_texts<'a>(
     texts: &mut HashMap<u64, &'a str>,
     content: &[&'a str],
     slots: u32,
-) -> Result<(), Refusal> {
+) -> Result<(), Refusal>
+    ensures { IfErr result IsOtherRefusal }
+{
     for word in content.iter().skip(slots as usize) {
         if !word.starts_with('"') {
             continue;
@@ -550,7 +600,7 @@ fn sizes_of(lines: &Lines<'_>) -> Result<Geometry, Expected>
     }
     let entries = lines.entries.as_slice();
     let Some(HeapSizes { w, k, n }) = lines.sizes else {
-        return choose_sizes(entries);
+        return choose_sizes(entries, lines.words);
     };
     let Ok(geometry) = Geometry::within(Limits::Wide, w, k, n) else {
         return Err(Expected::Sizes);

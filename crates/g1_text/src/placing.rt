@@ -47,12 +47,12 @@ fn widest(limits: Limits, region_words: u64) -> Option<Geometry> {
     widest
 }
 
-/// The sizes of a heap for these objects, within the specification's limits if they fit there.
-pub(crate) fn choose_sizes(entries: &[Entry<'_>]) -> Result<Geometry, Expected> {
+/// The sizes of a heap for these objects, which have so many words, within the specification's limits if they fit there.
+pub(crate) fn choose_sizes(entries: &[Entry<'_>], words: u64) -> Result<Geometry, Expected> {
     if let Some(sizes) = smallest_within(Limits::Specified, entries) {
         return Ok(sizes);
     }
-    smallest_within(Limits::Wide, entries).ok_or(Expected::Smaller)
+    smallest_within(Limits::Wide, entries).ok_or(Expected::Smaller(words))
 }
 
 // The smallest regions of which half stay free, or else the smallest ones that are enough.

@@ -13,7 +13,7 @@ ghost use Rattle.g1_text.specs.Content.{Content, Counts, Dirty, Remembered, IsCo
 ghost use Rattle.g1_text.specs.Short.{Short, RootAs, DirtyAs, RegionAs, RememberedAs, ObjectAs, IsZeroFrom, IsShortLine, NamesRegion, TellsNumber, TellsCards, TellsContent, TellsCounts, TellsBehind, TellsSizes, GoesOn, Skips, MaySkip, Gives, BeginsShort, Tells, TellsAll, Closes};
 ghost use Rattle.g1_text.specs.Late.{numbers_in};
 ghost use Rattle.g1_text.specs.Drafts.{content, counts_of, line_of_region, numbers, numbers_read, with_line, Becomes, said, IsTaken, AreTaken};
-ghost use Rattle.g1_text.specs.Refused.{IsLineOrMemory};
+ghost use Rattle.g1_text.specs.Refused.{IsLineOrMemory, IsOther};
 ghost use Rattle.g1_text.specs.Reported.{IsFirstWrong, IsReported};
 
 use crate::draft::{Draft, Heading, Placed, Told};
@@ -189,6 +189,7 @@ pub(crate) struct HeapSizes {
 pub(crate) fn sizes(words: &mut Words<'_>) -> Result<HeapSizes, Expected>
     ensures digits { IfOk result (λ s. HasFront (Single (Spells (2 ^ 64) s.w) ▸ Single (Spells (2 ^ 64) s.k) ▸ Single (Spells (2 ^ 64) s.n)) words.old words.new) }
     ensures full { (w k n : ℕ) (rest : List (List ℕ)) → HasFront (TellsSizes w k n) words.old rest → (result ≡ Ok (record { w = w; k = k; n = n })) × (words.new ≡ rest) }
+    ensures other { IfErr result IsOther }
 {
     let w = words.number("W")?;
     let k = words.number("K")?;
@@ -440,6 +441,7 @@ pub(crate) fn given_words(
     ensures form { slots + count < 2 ^ 64 → IfOk result (λ p. (p.0 ≡ length words.new) × (p.0 + p.1 ≡ slots + count) × (((p.1 ≡ 0) × (words.old ≡ words.new)) ⊎ (words.old ≡ words.new ++ codes ".." ∷ []))) }
     ensures open { (words.old ≡ words.new ++ codes ".." ∷ []) ⊎ ((words.old ≡ words.new) × ((front : List (List ℕ)) → words.old ≢ front ++ codes ".." ∷ [])) }
     ensures refused { slots + count < 2 ^ 64 → IfErr result (λ _. (slots + count < length words.new) ⊎ ((words.old ≡ words.new) × (length words.new ≢ slots + count))) }
+    ensures other { IfErr result IsOther }
 {
     let whole = slots.saturating_add(count);
     let open = words.take_last("..");

@@ -87,8 +87,9 @@ impl<'a> Model for Words<'a> {
 }
 
 impl<'a> Words<'a> {
-    ghost use Rattle.std.specs.Prelude.{◌≡◌, ◌≢◌, ◌^◌, ℕ, List, [], ◌∷◌, ◌++◌, Some, None, Ok, length, map, OnOk, IfOk, MatchOption, MatchBool, MatchResult};
+    ghost use Rattle.std.specs.Prelude.{◌≡◌, ◌≢◌, ◌^◌, ℕ, List, [], ◌∷◌, ◌++◌, Some, None, Ok, length, map, OnOk, IfOk, IfErr, MatchOption, MatchBool, MatchResult};
     ghost use Rattle.g1_text.specs.Forms.{Spells, IsBelow, StandsFor, IsReferenceWord, Denotes, Word, Single, Labelled, ◌▸◌, HasFront, HasFirst, HasNoFirst};
+    ghost use Rattle.g1_text.specs.Refused.{IsOther};
 
     pub(crate) fn new(words: &'a [&'a str]) -> Words<'a>
         ensures { result ≡ map (λ t. t.now) words.now }
@@ -174,6 +175,7 @@ impl<'a> Words<'a> {
     pub(crate) fn number(&mut self, what: &'static str) -> Result<u64, Expected>
         ensures digits { MatchResult result (λ n. HasFirst (Spells (2 ^ 64) n) self.old self.new) (λ _. HasNoFirst (IsBelow (2 ^ 64)) self.old) }
         ensures full { (n : ℕ) (word : List ℕ) (rest : List (List ℕ)) → Spells (2 ^ 64) n word → self.old ≡ word ∷ rest → (result ≡ Ok n) × (self.new ≡ rest) }
+        ensures other { IfErr result IsOther }
     {
         self.take_number().ok_or(Expected::Number(what))
     }
@@ -182,6 +184,7 @@ impl<'a> Words<'a> {
     pub(crate) fn value(&mut self) -> Result<u64, Expected>
         ensures form { IfOk result (λ n. HasFirst (StandsFor n) self.old self.new) }
         ensures full { (n : ℕ) (word : List ℕ) (rest : List (List ℕ)) → StandsFor n word → self.old ≡ word ∷ rest → (result ≡ Ok n) × (self.new ≡ rest) }
+        ensures other { IfErr result IsOther }
     {
         let Some(word) = self.next() else {
             return Err(Expected::Value);
@@ -235,7 +238,8 @@ impl<'a> Words<'a> {
 
     /// Finds that no word is left.
     pub(crate) fn end(&self) -> Result<(), Expected>
-        ensures { MatchResult result (λ _. self.now ≡ []) (λ _. self.now ≢ []) }
+        ensures none { MatchResult result (λ _. self.now ≡ []) (λ _. self.now ≢ []) }
+        ensures other { IfErr result IsOther }
     {
         if self.len() == 0 {
             Ok(())

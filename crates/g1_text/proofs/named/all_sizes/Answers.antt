@@ -14,7 +14,7 @@ returns-in-Ok-clause-form c =
     let told = c.in_ok-told.told in
     let g = c.in-Ok.geometry in
     let sizes = sizes_read g.w g.k g.n told.w told.k told.n c.in-Ok.ensures.ok c.within_limits.ensures c.in_ok-told.ensures.digits in
-    subst (Maybe Sizes) c.new-words.ensures (if_some Sizes c.new-words.result (read_all Sizes sizes c.in_ok-end.ensures))
+    subst (Maybe Sizes) c.new-words.ensures (if_some Sizes c.new-words.result (read_all Sizes sizes c.in_ok-end.ensures.none))
 
 pub returns-then-len-eq0-clause-says : goal.returns-then-len-eq0-clause-says
 returns-then-len-eq0-clause-says c = (None, refl, subst (λ ws. SaysSizes None (codes "graph" ∷ ws)) c.new-words.ensures (no_sizes_said c.new-words.result (omega (arith, c.len.ensures, c.if-len-eq0.true))))
@@ -23,5 +23,5 @@ pub returns-in-Ok-clause-says : goal.returns-in-Ok-clause-says
 returns-in-Ok-clause-says c =
     let told = c.in_ok-told.told in
     let g = c.in-Ok.geometry in
-    let sizes = sizes_said g.w g.k g.n told.w told.k told.n c.in-Ok.ensures.ok c.within_limits.ensures c.in_ok-told.ensures.digits c.in_ok-end.ensures in
+    let sizes = sizes_said g.w g.k g.n told.w told.k told.n c.in-Ok.ensures.ok c.within_limits.ensures c.in_ok-told.ensures.digits c.in_ok-end.ensures.none in
     (Some (record { w = told.w; k = told.k; n = told.n }), refl, subst (λ ws. SaysSizes (Some (record { w = told.w; k = told.k; n = told.n })) (codes "graph" ∷ ws)) c.new-words.ensures sizes)

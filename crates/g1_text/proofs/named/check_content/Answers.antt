@@ -12,8 +12,8 @@ returns-clause-form c = λ lt.
     let told = c.in_ok-given.ensures.form (omega (arith, same, c.from-slots.ensures, lt, c.ranges.size.fits)) in
     on_ok_weaker c.check_data.result
     (λ last. held_as IsTarget slots count c.args.slots (c.args.size - c.args.slots - 1) c.new-words.result (map (λ (t : Bor (List ℕ)). t.now) c.args.content.now) c.from-slots.ensures same c.new-words.ensures
-    (holding IsTarget dash_is_target slots count c.in_ok-given.given _ c.min-names.result told c.min-names.ensures c.in_ok-check_names.ensures last))
-    c.check_data.ensures
+    (holding IsTarget dash_is_target slots count c.in_ok-given.given _ c.min-names.result told c.min-names.ensures c.in_ok-check_names.ensures.form last))
+    c.check_data.ensures.form
 
 pub returns-clause-fills : goal.returns-clause-fills
 returns-clause-fills c = λ lt.
@@ -23,5 +23,5 @@ returns-clause-fills c = λ lt.
     let told = c.in_ok-given.ensures.form (omega (arith, same, c.from-slots.ensures, lt, c.ranges.size.fits)) in
     on_ok_weaker c.check_data.result
     (λ last. fills_as slots count c.args.slots (c.args.size - c.args.slots - 1) c.new-words.result (map (λ (t : Bor (List ℕ)). t.now) c.args.content.now) c.from-slots.ensures same c.new-words.ensures
-    (filling slots count c.in_ok-given.given _ c.min-names.result told c.min-names.ensures c.in_ok-check_names.ensures last))
-    c.check_data.ensures
+    (filling slots count c.in_ok-given.given _ c.min-names.result told c.min-names.ensures c.in_ok-check_names.ensures.form last))
+    c.check_data.ensures.form

@@ -12,5 +12,5 @@ loop-slot-preserved c =
     let name = c.in-Some.name.now in
     (one_more_read IsTarget c.loop-slot.slot c.loop-slot.invariant.0 (name, c.in-Some.ensures, other_word name (codes "..") c.if-eq.ensures), omega (arith, c.loop-slot-test.true))
 
-pub returns : goal.returns
-returns c = many_read IsTarget c.loop-slot.slot c.args.count (omega (arith, c.loop-slot.invariant.1, c.loop-slot-test.false)) c.loop-slot.invariant.0
+pub returns-clause-form : goal.returns-clause-form
+returns-clause-form c = many_read IsTarget c.loop-slot.slot c.args.count (omega (arith, c.loop-slot.invariant.1, c.loop-slot-test.false)) c.loop-slot.invariant.0

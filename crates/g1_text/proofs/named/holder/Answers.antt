@@ -17,5 +17,6 @@ returns-in-Some-default-empty c =
     record {
       words = all;
       name = named;
+      other = tt;
       form = if_some form (texts c.args.words.now) (subst form (sym all) (begins_with (codes "as") (Single IsName) (holder ∷ []) (holder, refl, named)));
     }

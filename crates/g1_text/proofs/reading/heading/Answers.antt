@@ -73,7 +73,7 @@ returns-in_err-end-clause-short c = λ roots dirty current told.
     let first = named_told (codes "roots") roots c.args.words c.take_named.new.self b.middle c.take_named.result c.take_named.ensures.full c.take_named.ensures.absent b.no_roots b.first_part in
     let second = named_told (codes "dirty") dirty c.take_named.new.self c.take_named-2.new.self b.last c.take_named-2.result c.take_named-2.ensures.full c.take_named-2.ensures.absent b.no_dirty (moved first.1 b.second_part) in
     let third = current_told current c.take_named-2.new.self b.last c.current.new.words c.current.result c.current.ensures.full c.current.ensures.absent second.1 b.third_part in
-    absurd (c.in_err-end.ensures third.1)
+    absurd (c.in_err-end.ensures.none third.1)
 
 pub returns-clause-short : goal.returns-clause-short
 returns-clause-short c = λ roots dirty current told.
@@ -91,4 +91,4 @@ returns-clause-form c =
     read_all (Labelled (codes "roots") ▸ Labelled (codes "dirty") ▸ Current)
     (read_then (Labelled (codes "roots")) (Labelled (codes "dirty") ▸ Current) c.in_ok-roots.ensures.form
     (read_then (Labelled (codes "dirty")) Current c.in_ok-dirty.ensures.form c.in_ok-current.ensures.form))
-    c.in_ok-end.ensures
+    c.in_ok-end.ensures.none

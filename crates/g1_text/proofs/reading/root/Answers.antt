@@ -11,4 +11,4 @@ returns-clause-form c =
       | else-len-gt1 w ↦ subst (HasFront (Maybe Number) c.args.words) (sym w.words-is) (no_number c.args.words)
     ] in
     let read = c.in_ok-reference.ensures.digits in
-    then_all (Maybe Number) (Single IsReferenceWord) told (read_all (Single IsReferenceWord) (read_one IsReferenceWord (read.0, read.1, (c.in_ok-reference.reference, read.2))) c.in_ok-end.ensures)
+    then_all (Maybe Number) (Single IsReferenceWord) told (read_all (Single IsReferenceWord) (read_one IsReferenceWord (read.0, read.1, (c.in_ok-reference.reference, read.2))) c.in_ok-end.ensures.none)

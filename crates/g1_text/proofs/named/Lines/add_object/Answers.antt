@@ -2,7 +2,7 @@ use Rattle.std.proofs.Common.{◌≡◌, ◌++◌, sym, ◌∙◌, subst, arith,
 use Rattle.std.specs.Prelude.{codes}
 use Rattle.g1_text.specs.Forms.{Single, IsName, IsTarget, SizeAndWords, ◌▸◌}
 use Rattle.g1_text.proofs.Fronts.{begins_with}
-use Rattle.g1_text.proofs.ByName.{object_said, entries_more, is_new_name, not_some, places_more}
+use Rattle.g1_text.proofs.ByName.{object_said, entries_more, is_new_name, not_some, words_more, places_more}
 use Rattle.g1_text.specs.declared.placing.Entry.{Entry}
 use Rattle.g1_text.specs.ByName.{IsEntryOf, place_of}
 use Rattle.std.proofs.lemmas.Slice.Zip.{AllZip-long}
@@ -19,7 +19,7 @@ returns-clause-form c =
       name ∷ [],
       texts c.in-Some.rest.now,
       ap texts c.in-Some.ensures.cases.0,
-      (name, refl, c.in_ok-check_name.ensures),
+      (name, refl, c.in_ok-check_name.ensures.name),
       (
         c.in_ok-size.size,
         c.in_ok-size.slots,
@@ -37,7 +37,7 @@ returns-clause-says c = λ g line h.
     let within = c.in_ok-size.ensures.within in
     let content = texts c.in-Some-split_first.content.now in
     let words = sym line ∙ ap (λ ws. codes "object" ∷ ws) (ap texts c.in-Some.ensures.cases.0 ∙ ap (λ ws. name ∷ ws) (ap texts c.in-Some-split_first.ensures.cases.0)) in
-    let o = object_said name size c.in_ok-size.size c.in_ok-size.slots content _ c.in_ok-check_name.ensures within.0 within.1 c.in_ok-size.ensures.form (c.in_ok-check_content.ensures.fills within.0) words in
+    let o = object_said name size c.in_ok-size.size c.in_ok-size.slots content _ c.in_ok-check_name.ensures.name within.0 within.1 c.in_ok-size.ensures.form (c.in_ok-check_content.ensures.fills within.0) words in
     let e : Entry = record { name = c.in-Some.name.now; size = c.in_ok-size.size; slots = c.in_ok-size.slots; number = c.args.number; line = c.args.line } in
     let entry : IsEntryOf e o.0 = record { name = o.1; size = o.2; slots = o.3; line = o.4 } in
     let count = AllZip-long IsEntryOf c.args.self.now.entries.items g.objects h.entries in
@@ -47,11 +47,13 @@ returns-clause-says c = λ g line h.
       (o.0, o.4, is_new_name o.0.name g (subst (λ n. place_of n g.objects ≡ None) o.1 fresh), refl),
       record {
         sizes = h.sizes;
+        bounds = h.bounds;
         roots = h.roots;
         targets = h.targets;
         few = h.few;
         holders = h.holders;
         entries = entries_more c.args.self.now.entries.items _ g.objects e o.0 h.entries c.in_ok-push.ensures.items entry;
+        words = words_more c.args.self.now.words c.saturating_add-self.result c.from.result g o.0 h.words c.saturating_add-self.ensures (c.from.ensures ∙ o.2);
         places = places_more c.args.self.now.places c.insert.new.self g.objects o.0 name c.len-place.result o.1 h.places (omega (arith, count, c.len-place.ensures)) fresh c.in_ok-insert.ensures.updates;
       },
     )

@@ -23,11 +23,13 @@ returns-clause-says c = λ g h.
       (r, root, omega (arith, count), refl),
       record {
         sizes = h.sizes;
+        bounds = h.bounds;
         roots = roots_more c.args.self.now.roots.items _ g.roots r c.args.number name h.roots c.in_ok-push.ensures.items (word_of_target name.now);
         targets = All-push (λ (x : NamedRoot). IsTargetName x.target) g.roots r h.targets root.target;
         few = omega (arith, count, length-append g.roots (r ∷ []));
         holders = holders_more _ _ g.roots r c.len-2.result h.holders c.in_ok-keep_holder.ensures (omega (arith, count, c.len-2.ensures));
         entries = h.entries;
+        words = h.words;
         places = h.places;
       },
     )

@@ -3,6 +3,7 @@ use Rattle.std.specs.Prelude.{codes}
 use Rattle.g1_text.specs.Forms.{GraphHeading, Sizes, Maybe}
 use Rattle.g1_text.proofs.Fronts.{begins_with, same_word}
 use Rattle.g1_text.specs.Graphs.{SaysSizes}
+use Rattle.g1_text.proofs.ByName.{sizes_within}
 use Rattle.g1_text.proofs.named.Lines.begin.Goals as goal
 
 pub returns-clause-form : goal.returns-clause-form
@@ -16,5 +17,5 @@ returns-clause-says c = λ h.
     let s = c.in_ok-self.ensures.says in (
       s.0,
       subst (λ word. SaysSizes s.0 (word ∷ told)) (sym (same_word c.args.first.now (codes "graph") c.if-ne.ensures)) s.2,
-      record { sizes = s.1; roots = h.roots; targets = h.targets; few = h.few; holders = h.holders; entries = h.entries; places = h.places },
+      record { sizes = s.1; bounds = sizes_within s.0 _ s.2; roots = h.roots; targets = h.targets; few = h.few; holders = h.holders; entries = h.entries; words = h.words; places = h.places },
     )
