@@ -1,8 +1,9 @@
 //! Regions whose slots need no card, since a collector looks at all of them.
-ghost use Rattle.std.specs.Prelude.{◌≡◌, ◌<◌, ◌+◌, ◌-◌, ◌*◌, ◌/◌, ◌++◌, IfOk, OnOk};
+ghost use Rattle.std.specs.Prelude.{◌≡◌, ◌<◌, ◌+◌, ◌-◌, ◌*◌, ◌/◌, ◌++◌, All, IfOk, IfErr, OnOk};
 ghost use Rattle.std.specs.List.{range_with_len};
+ghost use Rattle.g1_image.specs.Image.{IsUsedCard};
 ghost use Rattle.g1_image.specs.Dirty.{dirtied};
-ghost use Rattle.g1heap_cli.specs.Young.{region_cards, young_cards};
+ghost use Rattle.g1heap_cli.specs.Young.{region_cards, young_cards, LacksYoung};
 
 use crate::refusal::{no_region, of_file};
 use g1_command::Refusal;
@@ -12,9 +13,10 @@ use std::alloc::{AllocError, Global};
 
 /// A copy of the image in a file, in which all cards of these regions are dirty. Free regions have none.
 pub fn with_young(alloc: Global, name: &str, image: &Image, young: &[u32]) -> Result<Image, Refusal>
-    ensures { IfOk result (λ i. i ≡ dirtied image.now (young_cards image.now.heap young.now)) }
+    ensures dirtied { IfOk result (λ i. i ≡ dirtied image.now (young_cards image.now.heap young.now)) }
+    ensures refused { IfErr result (LacksYoung name.now image.now young.now) }
 {
-    let cards = match cards_of(alloc, name, image.heap(), young) {
+    let cards = match cards_of(alloc, name, image, young) {
         Ok(cards) => cards,
         Err(refusal) => return Err(refusal),
     };
@@ -27,16 +29,22 @@ pub fn with_young(alloc: Global, name: &str, image: &Image, young: &[u32]) -> Re
 }
 
 // The cards of those of the regions that are used. The image has to have all of them.
-fn cards_of(alloc: Global, name: &str, heap: &Heap, young: &[u32]) -> Result<Vec<u32>, Refusal>
-    ensures { IfOk result (λ v. v.items ≡ young_cards heap.now young.now) }
+fn cards_of(alloc: Global, name: &str, image: &Image, young: &[u32]) -> Result<Vec<u32>, Refusal>
+    ensures cards { IfOk result (λ v. v.items ≡ young_cards image.now.heap young.now) }
+    ensures used { IfOk result (λ v. All (IsUsedCard image.now.heap) v.items) }
+    ensures refused { IfErr result (LacksYoung name.now image.now young.now) }
 {
+    let heap = image.heap();
     let geometry = heap.geometry();
     let mut cards = Vec::new(alloc);
     for region in young {
         if u64::from(*region) >= geometry.regions() {
             return Err(no_region(alloc, name, *region, geometry.regions()));
         }
-        push_region(heap, *region, &mut cards)?;
+        match push_region(heap, *region, &mut cards) {
+            Ok(()) => {}
+            Err(_) => return Err(Refusal::Fault(Fault::Memory)),
+        }
     }
     Ok(cards)
 }
