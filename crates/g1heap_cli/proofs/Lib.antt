@@ -13,8 +13,12 @@ pub mod Explains
 pub mod Called
 pub mod Handed
 pub mod NamesRead
+pub mod SideRead
 pub mod SameSides
+pub mod SameRefused
+pub mod StaleFaults
 pub mod YoungCards
+pub mod YoungUsed
 pub mod TraceTold
 pub mod TraceAdds
 pub mod LineByLine

@@ -1,5 +1,5 @@
 -- Why g1heap refuses a request: by the files that it names, and by their bytes. `left` is what standard input has left.
-use Rattle.std.specs.Prelude.{◌≡◌, ◌⊎◌, ℕ, List, ◌++◌, codes, String, Option, Some, None, Result, Ok, Err, ⊤}
+use Rattle.std.specs.Prelude.{◌≡◌, ◌⊎◌, ℕ, List, ◌++◌, codes, String, Option, Some, None, Result, Ok, Err}
 use Rattle.g1_words.specs.declared.fault.Fault.{Fault}
 use Rattle.g1_words.specs.declared.fault.Fault.TheVariants as fault
 use Rattle.g1_words.specs.declared.fault.Device.TheVariants as device
@@ -27,6 +27,7 @@ use Rattle.g1heap_cli.specs.Found.{RefusesBytes}
 use Rattle.g1heap_cli.specs.Reasons.{LacksPart, RefusesMake, RefusesWhy, RefusesCost, RefusesImage, RefusesExplained}
 use Rattle.g1heap_cli.specs.Streams.{HoldsOfNamed}
 use Rattle.g1heap_cli.specs.TraceReasons.{RefusesTraceText}
+use Rattle.g1heap_cli.specs.SameReasons.{RefusesSame}
 
 -- ---- what is written
 -- a file can't be made, or can't get its name
@@ -112,6 +113,7 @@ RefusesTrace trace left r = RefusesTraceBy trace (HoldsOfNamed trace.name.bytes.
 -- WHY A REQUEST IS REFUSED
 abbrev pub Refuses : Request → Option (List ℕ) → Refusal → Type 0
 Refuses (request.Help text) left r = r ≡ refusal.Fault (fault.Device device.Output)
+Refuses (request.Same same) left r = RefusesSame same left r ⊎ (r ≡ refusal.Fault (fault.Device device.Output))
 Refuses (request.Print image part hex out) left r = RefusesPart image part left r ⊎ IsUnsent out r
 Refuses (request.Make lines out) left r = RefusesLinesOf lines.bytes.items left r ⊎ IsUnsent out r
 Refuses (request.Convert c) left r = RefusesDump c r ⊎ IsUnsent c.output r
@@ -120,4 +122,3 @@ Refuses (request.Why why) left r = RefusesWhy why left r ⊎ (r ≡ refusal.Faul
 Refuses (request.Trace trace) left r = RefusesTrace trace left r
 Refuses (request.Ask a) left r = RefusesAsk a left r ⊎ IsUnsent a.output r
 Refuses (request.Rewrite a) left r = RefusesRewrite a left r ⊎ IsUnsent a.output r
-Refuses _ left r = ⊤

@@ -17,13 +17,20 @@ use Rattle.g1heap_cli.specs.declared.files.SideContent.TheVariants as content
 use Rattle.g1heap_cli.specs.Compared.{IsContent}
 use Rattle.g1heap_cli.specs.Streams.{HoldsOfNamed, LeavesBehind, LeavesBehindAny}
 use Rattle.g1heap_cli.specs.Named.{AreNamesGiven, names_on}
+use Rattle.g1heap_cli.specs.SameSuits.{Suits}
 use Rattle.g1heap_cli.specs.Young.{young_cards}
+
+-- the side is of an image: it has no names and no texts
+pub record ShowsImage (image : Image) (s : Side) : Type 0 where
+  pub is : s.image ≡ image
+  pub labels : s.labels ≡ None
+  pub texts : s.texts.entries ≡ []
 
 -- the side is opened of this
 abbrev pub Opens : SideContent → Side → Type 0
 Opens (content.Lines lines) s = ShowsText lines.items s
-Opens (content.Image image) s = (s.image ≡ image) × (s.stale ≡ None)
-Opens (content.Stale image stale fault) s = (s.image ≡ image) × IsStale stale fault s.stale
+Opens (content.Image image) s = ShowsImage image s × (s.stale ≡ None)
+Opens (content.Stale image stale fault) s = ShowsImage image s × IsStale stale fault s.stale
 
 -- THE SIDE OF A FILE: it is opened of what the bytes of the file have, and its names are in order
 pub record IsSideOf (limits : Limits) (file : List ℕ) (left : Option (List ℕ)) (s : Side) : Type 0 where
@@ -46,8 +53,9 @@ pub record AsksOf (same : Same) (left : Option (List ℕ)) (a : Asked) : Type 0 
   pub fill : a.fill ≡ same.fill
   pub all : a.all ≡ same.all
 
--- WHAT IS SAID OF TWO SIDES, as the request asks: the text of all that is found of them
+-- WHAT IS SAID OF TWO SIDES, as the request asks, if that suits them: the text of all that is found of them
 pub record IsSaid (same : Same) (left : Option (List ℕ)) (a : Asked) (status : ℕ) (text : List ℕ) : Type 0 where
+  pub suits : Suits same a.before.now a.after.now
   pub asks : AsksOf same left a
   pub verdict : IsVerdict a.before.now.image.heap a.after.now.image.heap a.after.now.stale a.set.now a.fill status
   pub by_name : (g h : NamedGraph) → AsksOfGraphs a g h → IsVerdictByName g h status

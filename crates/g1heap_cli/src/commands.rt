@@ -6,6 +6,7 @@ ghost use Rattle.g1heap_cli.specs.Written.{taken_of};
 ghost use Rattle.g1heap_cli.specs.Leaving.{Just, Grows, SendsText, SendsLines, SendsSame, WritesReply, HandsText, HandsBytes, HandsPrint, GoesBefore};
 ghost use Rattle.g1heap_cli.specs.Printed.{IfLines, IfBroken, IsRefusalOf, reply_of};
 ghost use Rattle.g1heap_cli.specs.Refuses.{Refuses, RefusesPart, RefusesLinesOf, IsUnsent};
+ghost use Rattle.g1heap_cli.specs.SameReasons.{RefusesSame, OrOutput};
 ghost use Rattle.g1heap_cli.specs.Refusals.{RefusesFile, IsUnread};
 ghost use Rattle.g1heap_cli.specs.Streams.{HoldsOfNamed};
 ghost use Rattle.g1heap_cli.specs.Reasons.{RefusesMake, MayLack};
@@ -175,7 +176,8 @@ fn compare<T: Threads + Sync + Files, R: Read, W: Write + Drop>(
     reader: &mut R,
     writer: &mut Heard<W>,
 ) -> Result<u8, Refusal>
-    ensures { SendsSame same.now.all (IsSameReply same.now (R.remaining reader.old)) (⟦<Heard<W> as Write>⟧.contents writer.old) (⟦<Heard<W> as Write>⟧.contents writer.new) result }
+    ensures sends { SendsSame same.now.all (IsSameReply same.now (R.remaining reader.old)) (⟦<Heard<W> as Write>⟧.contents writer.old) (⟦<Heard<W> as Write>⟧.contents writer.new) result }
+    ensures refused { IfErr result (OrOutput (RefusesSame same.now (R.remaining reader.old))) }
 {
     match same.all {
         None => compare_at_once(rt, alloc, same, reader, writer),
@@ -190,7 +192,8 @@ fn compare_at_once<T: Threads + Sync + Files, R: Read, W: Write>(
     reader: &mut R,
     writer: &mut W,
 ) -> Result<u8, Refusal>
-    ensures { SendsText (IsSameReply same.now (R.remaining reader.old)) (W.contents writer.old) (W.contents writer.new) result }
+    ensures sends { SendsText (IsSameReply same.now (R.remaining reader.old)) (W.contents writer.old) (W.contents writer.new) result }
+    ensures refused { IfErr result (OrOutput (RefusesSame same.now (R.remaining reader.old))) }
 {
     let mut answer = LineText::new(alloc);
     match compare_files(rt, alloc, same, reader, &mut answer) {
@@ -207,7 +210,8 @@ fn compare_in_lines<T: Threads + Sync + Files, R: Read, W: Write + Drop>(
     reader: &mut R,
     writer: &mut Heard<W>,
 ) -> Result<u8, Refusal>
-    ensures { SendsLines (IsSameReply same.now (R.remaining reader.old)) (⟦<Heard<W> as Write>⟧.contents writer.old) (⟦<Heard<W> as Write>⟧.contents writer.new) result }
+    ensures sends { SendsLines (IsSameReply same.now (R.remaining reader.old)) (⟦<Heard<W> as Write>⟧.contents writer.old) (⟦<Heard<W> as Write>⟧.contents writer.new) result }
+    ensures refused { IfErr result (OrOutput (RefusesSame same.now (R.remaining reader.old))) }
 {
     let mut answer = LineWriter::new(alloc, writer.take());
     let sent = send_lines(rt, alloc, same, reader, &mut answer);
@@ -223,6 +227,7 @@ fn send_lines<T: Threads + Sync + Files, R: Read, W: Write>(
     answer: &mut LineWriter<W>,
 ) -> Result<u8, Refusal>
     ensures lines { IfOk result (λ s. WritesReply (IsSameReply same.now (R.remaining reader.old)) (⟦<LineWriter<W> as Lines>⟧.taken answer.old) (⟦<LineWriter<W> as Lines>⟧.taken answer.new) (taken_of W.contents (λ s. s.value) answer.new.gone answer.new.writer answer.new.text.bytes.items) (W.contents answer.new.writer) s) }
+    ensures refused { IfErr result (OrOutput (RefusesSame same.now (R.remaining reader.old))) }
     ensures grown { Grows (⟦<LineWriter<W> as Lines>⟧.taken answer.old) (⟦<LineWriter<W> as Lines>⟧.taken answer.new) }
 {
     match compare_files(rt, alloc, same, reader, answer) {

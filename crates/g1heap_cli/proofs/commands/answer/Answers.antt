@@ -123,3 +123,7 @@ returns-in-Err-explain_pause-clause-refused g c = subst (λ q. Refuses q (g.R.Re
 -- a trace is not answered
 pub returns-in-Trace-clause-refused : goal.returns-in-Trace-clause-refused
 returns-in-Trace-clause-refused g c = subst (λ q. IfErr c.answer_trace.result (Refuses q (g.R.Read.remaining c.args.reader.now))) (sym c.in-Trace.is) c.answer_trace.ensures.refused
+
+-- two files are not compared
+pub returns-in-Same-clause-refused : goal.returns-in-Same-clause-refused
+returns-in-Same-clause-refused g c = subst (λ q. IfErr c.compare.result (Refuses q (g.R.Read.remaining c.args.reader.now))) (sym c.in-Same.is) c.compare.ensures.refused

@@ -16,9 +16,13 @@ returns g c =
     let first = c.new-answer.result in
     let last = c.send_lines-sent.new.answer in
     let all = taken_of (λ h. known_of known h.stream) (λ s. s.value) last.gone last.writer last.text.bytes.items in
-    subst (λ h. SendsLines Is old (known_of known h.stream) c.send_lines-sent.result) (sym c.into_writer.ensures)
-    (sent Is old (known_of known last.stood.value.stream) (known_of known last.writer.stream) all last.begun c.send_lines-sent.result
-    (known_of known first.stood.value.stream) (taken_of (λ h. known_of known h.stream) (λ s. s.value) first.gone first.writer first.text.bytes.items)
-    (ap (λ h. known_of known h.stream) (c.new-answer.ensures.stood ∙ c.take.ensures))
-    (c.new-answer.ensures.taken ∙ ap (λ h. append_known (known_of known h.stream) []) c.take.ensures)
-    c.send_lines-sent.ensures.lines c.send_lines-sent.ensures.grown)
+    record {
+      sends =
+          subst (λ h. SendsLines Is old (known_of known h.stream) c.send_lines-sent.result) (sym c.into_writer.ensures)
+          (sent Is old (known_of known last.stood.value.stream) (known_of known last.writer.stream) all last.begun c.send_lines-sent.result
+          (known_of known first.stood.value.stream) (taken_of (λ h. known_of known h.stream) (λ s. s.value) first.gone first.writer first.text.bytes.items)
+          (ap (λ h. known_of known h.stream) (c.new-answer.ensures.stood ∙ c.take.ensures))
+          (c.new-answer.ensures.taken ∙ ap (λ h. append_known (known_of known h.stream) []) c.take.ensures)
+          c.send_lines-sent.ensures.lines c.send_lines-sent.ensures.grown);
+      refused = c.send_lines-sent.ensures.refused;
+    }

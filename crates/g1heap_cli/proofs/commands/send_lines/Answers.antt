@@ -19,6 +19,7 @@ returns-in-Ok-finish g c =
             mid.stood new.stood said.0 c.finish.ensures.stood c.finish.ensures.taken said.2;
         ends = c.in-Ok-finish.ensures.ends;
       };
+      refused = tt;
       grown = grows-kept (λ s. known s.value) _ (taken_of known (λ s. s.value) mid.gone mid.writer mid.text.bytes.items) (taken_of known (λ s. s.value) new.gone new.writer new.text.bytes.items)
           mid.stood new.stood c.finish.ensures.stood c.finish.ensures.taken c.in-Ok.ensures.grown;
     }

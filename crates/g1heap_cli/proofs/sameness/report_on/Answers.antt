@@ -36,12 +36,13 @@ returns-in-Ok g c =
     } in
     let said = handed a c.in-Ok.status (g.L.Lines.taken c.args.answer.now) (g.L.Lines.taken c.report.new.out) (c.in-Ok.ensures.text order) in
     record {
-      said = λ left are. record {
+      said = λ left suits are. record {
         asked = a;
         text = said.0;
         is_before = refl;
         is_after = refl;
         said = record {
+          suits = suits;
           asks = record {
             names = subst_both (AreProgramNames same left a.before.now a.after.now) told told_after are;
             moved = refl;
@@ -55,5 +56,6 @@ returns-in-Ok g c =
         };
         taken = said.2;
       };
+      refused = tt;
       grown = grows_first (g.L.Lines.taken c.args.answer.now) (g.L.Lines.taken c.report.new.out) c.in-Ok.ensures.grown;
     }
