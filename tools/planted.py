@@ -158,7 +158,9 @@ def functions_of(folder):
             head, impl = HEAD.match(line), IMPL.match(line)
             if impl:
                 of = impl[4].rpartition("::")[2]
-                holder = [*homes.get(of, module_of(path)), of + trait_of(impl)]
+                # (another file may have a type of the same name)
+                home = module_of(path) if of in TYPE.findall(text) else homes.get(of, module_of(path))
+                holder = [*home, of + trait_of(impl)]
                 begin = lines[number:1 + next((at for at in range(number, len(lines)) if lines[at].endswith("{")), number)]
             elif line.startswith("}"):
                 holder, begin = [], []

@@ -196,6 +196,16 @@ class Twins(unittest.TestCase):
             self.assertFalse(self.calls_itself("trees::walk", line), line)
 
 
+class Names(unittest.TestCase):
+    def test_a_method_is_of_the_type_in_its_own_file(self):
+        with tempfile.TemporaryDirectory() as room:
+            folder = pathlib.Path(room, "src")
+            folder.mkdir()
+            for name, method in (("boxes", "add_line"), ("filling", "fill")):
+                folder.joinpath(f"{name}.rt").write_text(f"struct Found {{}}\n\nimpl Found {{\n    fn {method}() {{\n    }}\n}}\n")
+            self.assertEqual(set(planted.functions_of(room)), {"boxes::Found::add_line", "filling::Found::fill"})
+
+
 class Planted(unittest.TestCase):
     def setUp(self):
         self.room = tempfile.TemporaryDirectory()
