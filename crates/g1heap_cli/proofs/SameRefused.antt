@@ -86,10 +86,10 @@ module _ (same : Same) (b a : Side) (left rest : Option (List ℕ)) where
         let suits : Suits same b a = subst_both (Suits same) said.is_before said.is_after is.suits in
         let are : HasProgramNames same rest b a = subst_both (HasProgramNames same rest) said.is_before said.is_after (_, _, is.asks.names) in
         let asked_of : IsVerdict x.before.now.image.heap x.after.now.image.heap x.after.now.stale same.set.items same.fill 0 =
-            subst (λ n. IsVerdict x.before.now.image.heap x.after.now.image.heap x.after.now.stale same.set.items same.fill n) none
-            (subst_both (λ (set : List ℕ) (fill : Bool). IsVerdict x.before.now.image.heap x.after.now.image.heap x.after.now.stale set fill status) is.asks.set is.asks.fill is.verdict) in
+        subst (λ n. IsVerdict x.before.now.image.heap x.after.now.image.heap x.after.now.stale same.set.items same.fill n) none
+        (subst_both (λ (set : List ℕ) (fill : Bool). IsVerdict x.before.now.image.heap x.after.now.image.heap x.after.now.stale set fill status) is.asks.set is.asks.fill is.verdict) in
         let verdict : IsVerdict b.image.heap a.image.heap a.stale same.set.items same.fill 0 =
-            subst_both (λ (s t : Side). IsVerdict s.image.heap t.image.heap t.stale same.set.items same.fill 0) said.is_before said.is_after asked_of in
+        subst_both (λ (s t : Side). IsVerdict s.image.heap t.image.heap t.stale same.set.items same.fill 0) said.is_before said.is_after asked_of in
         inl (inr (a, side, rest, unread, inr (suits, inr (are, inr (asked, verdict, lacks)))))
 
 -- ---- both files

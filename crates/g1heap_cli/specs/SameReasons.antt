@@ -85,7 +85,7 @@ abbrev pub RefusesProgram : Same → Side → Side → Option (List ℕ) → Ref
 RefusesProgram same b a left r =
     RefusesNamesGiven same.names left (names_on b) r
     ⊎ ((names : Option ProgramNames) × AreNamesGiven same.names left (names_on b) names × (rest : Option (List ℕ)) × LeavesBehindAny same.names left rest
-      × RefusesNamesGiven same.names_after rest (names_on a) r)
+    × RefusesNamesGiven same.names_after rest (names_on a) r)
 
 -- both files of names are read, if they are given
 abbrev pub HasProgramNames : Same → Option (List ℕ) → Side → Side → Type 0

@@ -60,5 +60,5 @@ returns-in-Err-read_names-2-clause-refused g c =
     let names = option_map program_of c.in-Ok-read_names.names in
     let are : AreNamesGiven same.names left (names_on before) names = subst (λ (l : ObjectNames). AreNamesGiven same.names left l names) told c.in-Ok-read_names.ensures.names in
     let refused : RefusesNamesGiven same.names_after left_after (names_on after) r =
-        subst (λ (l : ObjectNames). RefusesNamesGiven same.names_after left_after l r) told_after c.in-Err-read_names-2.ensures.refused in
+    subst (λ (l : ObjectNames). RefusesNamesGiven same.names_after left_after l r) told_after c.in-Err-read_names-2.ensures.refused in
     inl (inr (c.in-Ok.ensures.suits, inl (inr (names, are, left_after, c.read_names.ensures.left, refused))))

@@ -14,5 +14,5 @@ returns-clause-refused g c =
     let r = c.refuse_cover.result in
     let of : IsCoverFault c.in-Err-verify.image c.in-Err-verify.fault = subst (λ (i : Image). IsCoverFault i c.in-Err-verify.fault) (sym e.same) e.fault in
     let lacks : LacksCover c.as_str-name.result.now dirty r =
-        subst (λ (i : Image). LacksCover c.as_str-name.result.now i r) (e.same ∙ c.in-Ok.ensures.image) (c.refuse_cover.ensures of) in
+    subst (λ (i : Image). LacksCover c.as_str-name.result.now i r) (e.same ∙ c.in-Ok.ensures.image) (c.refuse_cover.ensures of) in
     inl (inr (subst (λ n. LacksCover n dirty r) c.as_str-name.ensures.value lacks))
