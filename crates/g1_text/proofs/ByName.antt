@@ -1,20 +1,20 @@
 -- What lines of objects by name say, and what is kept of it.
 use Rattle.std.proofs.Common.{◌≡◌, ◌≢◌, Bool, true, false, cond, ℕ, suc, ◌+◌, ◌-◌, ◌<◌, ◌^◌, List, [], ◌∷◌, ◌++◌, length, map, min, append-nil, append_assoc, refl, sym, ◌∙◌, ap, subst, arith}
-use Rattle.std.specs.Prelude.{Option, Some, None, MatchOption, IfSome, codes, All}
+use Rattle.std.specs.Prelude.{Option, Some, None, MatchOption, IfSome, if◌then◌else◌, ◌||◌, codes, position, All}
 use Rattle.std.specs.Borrow.{Bor}
-use Rattle.std.specs.List.{AllZip, position_from}
-use Rattle.std.specs.Option.{option_copied, is_some}
+use Rattle.std.specs.List.{AllZip, position_from, list_any}
+use Rattle.std.specs.Option.{option_copied}
 use Rattle.std.specs.Str.{bytes_eq}
-use Rattle.std.specs.HashMap.{HashMap, UpdatesBy, get_by}
+use Rattle.indexmap.specs.IndexSet.{insert_key}
 use Rattle.std.proofs.lemmas.Bool.{false≢true}
+use Rattle.std.proofs.lemmas.Iterator.Adapters.{position_from-zero}
 use Rattle.std.proofs.lemmas.Slice.Eq.{bytes_eq-Decides}
 use Rattle.std.proofs.lemmas.List.Elements.{All-nil, All-cons}
-use Rattle.std.proofs.lemmas.Map.Text.{hash_map_updates_str}
 use Rattle.std.proofs.lemmas.List.Sums.{sum_by_push}
 use Rattle.g1_words.specs.Geometry.{Geometry, IsWithinBounds}
 use Rattle.g1_text.specs.declared.placing.Entry.{Entry}
 use Rattle.g1_text.specs.Forms.{Single, Spells, HasSize, IsTarget, IsName, ◌▸◌, HasFront}
-use Rattle.g1_text.specs.Graphs.{NamedObject, NamedRoot, NamedGraph, SaysSizes, SaysRoot, SaysObject, IsTargetName, IsNewName, AreWithinBounds, Shortens, size_of, words_of, target_word}
+use Rattle.g1_text.specs.Graphs.{NamedObject, NamedRoot, NamedGraph, SaysSizes, SaysRoot, SaysObject, IsTargetName, AreWithinBounds, Shortens, size_of, words_of, target_word}
 use Rattle.g1_text.specs.ByName.{IsEntryOf, Fills, read_root, root_word, holder_of, holders_from, place_of}
 use Rattle.g1_text.proofs.Gathering.{map_count, map_push}
 
@@ -121,34 +121,34 @@ object_said name size n slots content words named less fits sized filled line =
       },
     )
 
--- the place of a name, where one more object has a name of its own
-place_other : (name : List ℕ) (n : ℕ) (objects : List NamedObject) (o : NamedObject) → bytes_eq name o.name ≡ false
-    → position_from (λ x. bytes_eq name x.name) n (objects ++ o ∷ []) ≡ position_from (λ x. bytes_eq name x.name) n objects
-place_other name n [] o e = ap (λ b. cond b (Some n) None) e
-place_other name n (x ∷ objects) o e = ap (cond (bytes_eq name x.name) (Some n)) (place_other name (n + 1) objects o e)
+-- the place of an element is that of its name among the names
+place_by_name : {A : Type 0} (f : A → List ℕ) (name : List ℕ) (n : ℕ) (xs : List A) → position_from (λ x. bytes_eq name (f x)) n xs ≡ position_from (bytes_eq name) n (map f xs)
+place_by_name f name n [] = refl
+place_by_name f name n (x ∷ xs) = ap (cond (bytes_eq name (f x)) (Some n)) (place_by_name f name (n + 1) xs)
 
-past : (b : Bool) (n : ℕ) (r s t : Option ℕ) → cond b (Some n) r ≡ None → (r ≡ None → s ≡ t) → cond b (Some n) s ≡ t
-past true n r s t e f = absurd (some_none e)
-past false n r s t e f = f e
+-- A NAME LEADS TO ITS OBJECT, where the names are those of the objects
+pub place_among : (name : List ℕ) (keys : List (Bor (List ℕ))) (objects : List NamedObject) → map (λ k. k.now) keys ≡ map (λ o. o.name) objects
+    → position (λ k. bytes_eq name k.now) keys ≡ place_of name objects
+place_among name keys objects same =
+    position_from-zero (λ (k : Bor (List ℕ)). bytes_eq name k.now) keys ∙ place_by_name (λ (k : Bor (List ℕ)). k.now) name 0 keys ∙ ap (position_from (bytes_eq name) 0) same ∙ sym (place_by_name (λ (o : NamedObject). o.name) name 0 objects)
 
-place_new : (name : List ℕ) (n : ℕ) (objects : List NamedObject) (o : NamedObject) → bytes_eq name o.name ≡ true → position_from (λ x. bytes_eq name x.name) n objects ≡ None
-    → position_from (λ x. bytes_eq name x.name) n (objects ++ o ∷ []) ≡ Some (n + length objects)
-place_new name n [] o e none = let z : n ≡ n + 0 = omega arith in ap (λ b. cond b (Some n) None) e ∙ ap Some z
-place_new name n (x ∷ objects) o e none =
-    let same : n + 1 + length objects ≡ n + length (x ∷ objects) = omega arith in
-    past (bytes_eq name x.name) n (position_from (λ x. bytes_eq name x.name) (n + 1) objects) (position_from (λ x. bytes_eq name x.name) (n + 1) (objects ++ o ∷ [])) (Some (n + length (x ∷ objects))) none
-    (λ f. place_new name (n + 1) objects o e f ∙ ap Some same)
+-- no object has a name that is not among the names
+pub is_new_name : (name : List ℕ) (objects : List NamedObject) → list_any (bytes_eq name) (map (λ o. o.name) objects) ≡ false → All (λ o. o.name ≢ name) objects
+is_new_name name [] none = All-nil (λ o. o.name ≢ name)
+is_new_name name (x ∷ objects) none = at (bytes_eq name x.name) refl none (λ f. is_new_name name objects f)
+  where
+    at : (b : Bool) → bytes_eq name x.name ≡ b → (b || list_any (bytes_eq name) (map (λ (o : NamedObject). o.name) objects)) ≡ false
+        → (list_any (bytes_eq name) (map (λ (o : NamedObject). o.name) objects) ≡ false → All (λ o. o.name ≢ name) objects) → All (λ o. o.name ≢ name) (x ∷ objects)
+    at true e f rest = absurd (false≢true (sym f))
+    at false e f rest = All-cons (λ o. o.name ≢ name) x objects (λ same. false≢true (sym e ∙ (bytes_eq-Decides name x.name).1 (sym same))) (rest f)
 
--- no object has a name without a place
-apart : (b : Bool) (name other : List ℕ) (n : ℕ) (r : Option ℕ) → bytes_eq name other ≡ b → cond b (Some n) r ≡ None → (other ≢ name) × (r ≡ None)
-apart true name other n r e f = absurd (some_none f)
-apart false name other n r e f = ((λ same. false≢true (sym e ∙ (bytes_eq-Decides name other).1 (sym same))), f)
-
-new_name : (name : List ℕ) (n : ℕ) (objects : List NamedObject) → position_from (λ x. bytes_eq name x.name) n objects ≡ None → All (λ o. o.name ≢ name) objects
-new_name name n [] none = All-nil (λ o. o.name ≢ name)
-new_name name n (x ∷ objects) none =
-    let p = apart (bytes_eq name x.name) name x.name n (position_from (λ x. bytes_eq name x.name) (n + 1) objects) refl none in
-    All-cons (λ o. o.name ≢ name) x objects p.0 (new_name name (n + 1) objects p.1)
+-- the names with one more, which is new
+pub names_more : (old new : List (Bor (List ℕ))) (name : Bor (List ℕ)) (objects : List NamedObject) (o : NamedObject) → map (λ k. k.now) old ≡ map (λ o. o.name) objects → name.now ≡ o.name
+    → list_any (λ k. bytes_eq name.now k.now) old ≡ false → new ≡ insert_key (λ x y. bytes_eq x.now y.now) old name
+    → map (λ k. k.now) new ≡ map (λ o. o.name) (objects ++ o ∷ [])
+names_more old new name objects o same is none put =
+    ap (map (λ k. k.now)) (put ∙ ap (λ b. if b then old else old ++ name ∷ []) none)
+    ∙ map_push (λ (k : Bor (List ℕ)). k.now) old name ∙ (λ i. same i ++ is i ∷ []) ∙ sym (map_push (λ (o : NamedObject). o.name) objects o)
 
 pub zip_push : {A B : Type 0} (R : A → B → Type 0) (xs : List A) (ys : List B) (x : A) (y : B) → AllZip R xs ys → R x y → AllZip R (xs ++ x ∷ []) (ys ++ y ∷ [])
 zip_push R [] [] x y all r = (r, tt)
@@ -178,29 +178,3 @@ entries_more old new objects e o all push is = subst (λ es. AllZip IsEntryOf es
 pub words_more : (old new size : ℕ) (g : NamedGraph) (o : NamedObject) → old ≡ min (words_of g) (2 ^ 64 - 1) → new ≡ min (old + size) (2 ^ 64 - 1) → size ≡ size_of o
     → new ≡ min (words_of (record g { objects = g.objects ++ o ∷ [] })) (2 ^ 64 - 1)
 words_more old new size g o e sum same = let more = sum_by_push size_of g.objects o in omega (arith, e, sum, same, more)
-
--- a name without an object is new
-pub is_new_name : (name : List ℕ) (g : NamedGraph) → place_of name g.objects ≡ None → IsNewName name g
-is_new_name name g none = new_name name 0 g.objects none
-
--- a value that is none
-pub not_some : (o : Option ℕ) → is_some o ≡ false → o ≡ None
-not_some None e = refl
-not_some (Some n) e = absurd (false≢true (sym e))
-
-pub places_more : {S : Type 0} (old new : HashMap (Bor (List ℕ)) ℕ S) (objects : List NamedObject) (o : NamedObject) (name : List ℕ) (count : ℕ) → name ≡ o.name
-    → ((query : List ℕ) → get_by (λ k. bytes_eq query k.now) old ≡ place_of query objects) → count ≡ length objects → place_of name objects ≡ None
-    → UpdatesBy (λ x y. bytes_eq x.now y.now) (λ k. bytes_eq name k.now) old new (Some count) → (query : List ℕ) → get_by (λ k. bytes_eq query k.now) new ≡ place_of query (objects ++ o ∷ [])
-places_more old new objects o name count same places many fresh more query =
-    hash_map_updates_str name old new (Some count) more query ∙ place (bytes_eq name query) refl
-  where
-    differs : bytes_eq name query ≡ false → (b : Bool) → bytes_eq query o.name ≡ b → b ≡ false
-    differs f false e = refl
-    differs f true e = absurd (false≢true (sym f ∙ (bytes_eq-Decides name query).1 (same ∙ sym ((bytes_eq-Decides query o.name).0 e))))
-
-    place : (b : Bool) → bytes_eq name query ≡ b → cond b (Some count) (get_by (λ k. bytes_eq query k.now) old) ≡ place_of query (objects ++ o ∷ [])
-    place true t =
-        let is : name ≡ query = (bytes_eq-Decides name query).0 t in
-        let here : 0 + length objects ≡ count = omega (arith, many) in
-        sym (place_new query 0 objects o ((bytes_eq-Decides query o.name).1 (sym is ∙ same)) (subst (λ k. place_of k objects ≡ None) is fresh) ∙ ap Some here)
-    place false f = places query ∙ sym (place_other query 0 objects o (differs f (bytes_eq query o.name) refl))

@@ -1,6 +1,5 @@
 -- The exact sets of a heap are remembered sets that an image may have.
-use Rattle.std.proofs.Common.{◌≡◌, ◌≢◌, ◌≤◌, ◌<◌, inl, inr, ℕ, ◌+◌, ◌-◌, ◌*◌, ◌/◌, ◌^◌, not, List, [], length, get_or, map, Contains, refl, sym, ◌∙◌, ap, subst, arith}
-use Rattle.std.specs.Prelude.{All, slice_index_or}
+use Rattle.std.proofs.Common.{◌≡◌, ◌≢◌, ◌≤◌, ◌<◌, inl, inr, ℕ, ◌+◌, ◌-◌, ◌*◌, ◌/◌, ◌^◌, not, [], length, get_or, map, refl, sym, ◌∙◌, ap, subst, arith}
 use Rattle.std.specs.List.{range_with_len}
 use Rattle.std.proofs.lemmas.List.Filters.{length-filter_both}
 use Rattle.std.proofs.lemmas.List.FromFn.{length-range_with_len, get_or-map-range_with_len, length-map-range_with_len}
@@ -16,7 +15,7 @@ use Rattle.g1_words.proofs.Rising.{ref_tells}
 use Rattle.g1_words.proofs.Shapes.{built}
 use Rattle.g1_words.proofs.Sound.{sound}
 use Rattle.g1_words.proofs.Standing.{home, home_region, word_used}
-use Rattle.g1_image.specs.Image.{Image, IsImage, IsLog, IsRememberedSet, IsUsedCard, region_of_card, remembered_of}
+use Rattle.g1_image.specs.Image.{IsImage, IsRememberedSet, IsUsedCard, region_of_card}
 use Rattle.g1_image.specs.Cards.{exact, is_exact}
 use Rattle.g1_image.proofs.Covers.{Puts, card_region, cards_rise, exact_tells}
 

@@ -1,16 +1,13 @@
 -- Objects that were read one after the other are those of the heap, by address.
-use Rattle.std.proofs.Common.{◌≡◌, ◌≤◌, ◌<◌, ◌⊎◌, inl, inr, ℕ, zero, suc, ◌+◌, ◌-◌, ◌*◌, ◌^◌, List, [], ◌∷◌, ◌++◌, length, get_or, slice_index, map, flat_map, min, take, drop, replicate}
+use Rattle.std.proofs.Common.{◌≡◌, ◌≤◌, ◌<◌, ◌⊎◌, inl, inr, ℕ, suc, ◌+◌, ◌-◌, ◌*◌, ◌^◌, List, [], ◌∷◌, ◌++◌, length, get_or, slice_index, map, flat_map, min, take, drop, replicate}
 use Rattle.std.proofs.Common.{append-nil, append_assoc, length-append, length-take, refl, sym, ◌∙◌, ap, subst, arith}
 use Rattle.std.specs.Prelude.{All}
 use Rattle.std.specs.List.{range_with_len}
-use Rattle.std.proofs.Math.Nat.{mul-le-mul_left}
 use Rattle.std.proofs.Math.Seq.{take-append_seam, drop-append_seam}
-use Rattle.std.proofs.lemmas.Bool.{cases_lt}
 use Rattle.std.proofs.lemmas.List.{get_or_at, get_or-take, length-drop, length-replicate, nil_from_length, take-append-drop}
 use Rattle.std.proofs.lemmas.List.Elements.{All-nil, All-cons}
-use Rattle.g1_words.specs.Geometry.{Geometry}
-use Rattle.g1_words.specs.Heap.{Heap, free_region, region, kind, top, start, end, objects, objects_in, objects_by}
-use Rattle.g1_words.specs.Valid.{IsObject, Tiles, HoldsBy, IsShapedBy, AllShaped}
+use Rattle.g1_words.specs.Heap.{Heap, free_region, region, kind, start, end, objects, objects_in, objects_by}
+use Rattle.g1_words.specs.Valid.{Tiles, HoldsBy, IsShapedBy, AllShaped}
 use Rattle.g1_words.specs.declared.object.Object.{Object}
 use Rattle.g1_words.specs.declared.region.Region.{Region}
 use Rattle.g1_words.specs.declared.region.Kind.{Kind}
@@ -19,7 +16,6 @@ use Rattle.g1_words.proofs.Computed.{holds_are}
 use Rattle.g1_image.specs.Text.{table_words}
 use Rattle.g1_image.specs.Image.{entry_of, all_words}
 use Rattle.g1_image.proofs.Words.{table_words-cons}
-use Rattle.g1_text.proofs.Ends.{one_end}
 
 -- these words begin with the object's header
 pub record IsHead (words : List ℕ) (o : Object) : Type 0 where

@@ -1,14 +1,12 @@
 -- What a name in a line leads to.
-use Rattle.std.proofs.Common.{◌≡◌, ◌≢◌, ◌<◌, ℕ, ◌+◌, Bool, true, false, cond, List, [], ◌∷◌, ◌++◌, length, slice_index, append-nil, refl, sym, ◌∙◌, ap, subst, arith}
+use Rattle.std.proofs.Common.{◌≡◌, ◌≢◌, ◌<◌, ℕ, ◌+◌, Bool, true, false, cond, List, [], ◌∷◌, length, slice_index, refl, sym, ◌∙◌, ap, arith}
 use Rattle.std.specs.Prelude.{Option, Some, None, codes}
 use Rattle.std.specs.List.{position_from}
 use Rattle.std.specs.Option.{option_map}
 use Rattle.std.specs.Str.{bytes_eq}
-use Rattle.std.proofs.lemmas.Bool.{false≢true}
-use Rattle.std.proofs.lemmas.Slice.Eq.{bytes_eq-Decides}
-use Rattle.g1_text.specs.Graphs.{NamedObject, NamedGraph, IsTargetName, target_word}
+use Rattle.g1_text.specs.Graphs.{NamedObject, NamedGraph, target_word}
 use Rattle.g1_text.specs.ByName.{place_of}
-use Rattle.g1_text.specs.Carried.{reference_for, word_for, stale_if, stale_at}
+use Rattle.g1_text.specs.Carried.{reference_for, stale_if, stale_at}
 
 pub some_some : {A : Type 0} {x y : A} → ◌≡◌ {A = Option A} (Some x) (Some y) → x ≡ y
 some_some e = cc
@@ -33,6 +31,11 @@ pub found_reference : (g : NamedGraph) (ats : List ℕ) (name : List ℕ) (targe
     → reference_for g ats target ≡ Some (slice_index ats k + 1)
 found_reference g ats name None k other e p = absurd (other e)
 found_reference g ats name (Some n) k other e p = ap (option_map (λ place. slice_index ats place + 1)) (ap (λ m. place_of m g.objects) (sym e) ∙ p)
+
+-- a name that no object has stands for no word
+pub no_reference : (g : NamedGraph) (ats : List ℕ) (name : List ℕ) (target : Option (List ℕ)) → name ≢ codes "-" → name ≡ target_word target → place_of name g.objects ≡ None → reference_for g ats target ≡ None
+no_reference g ats name None other e p = absurd (other e)
+no_reference g ats name (Some n) other e p = ap (option_map (λ place. slice_index ats place + 1)) (ap (λ m. place_of m g.objects) (sym e) ∙ p)
 
 -- names that have a word are not stale, and the others are
 module _ (g : NamedGraph) (ats : List ℕ) (n : ℕ) where

@@ -20,8 +20,8 @@ use Rattle.g1_words.specs.Kind.{kind_number}
 use Rattle.g1_words.proofs.Members.{In}
 use Rattle.g1_image.specs.Text.{File, heading_of, file_text, table_text, words_text, numbers_text, remembered_texts, entry_text, table_words}
 use Rattle.g1_image.specs.declared.cursor.Version.TheVariants.{Two}
-use Rattle.g1_image.specs.Reading.{Are, IsU32, IsU64}
-use Rattle.g1_image.specs.Faults.{HeadingFits, EntryFits, FileFits}
+use Rattle.g1_image.specs.Reading.{Are, IsU64}
+use Rattle.g1_image.specs.Faults.{EntryFits, FileFits}
 use Rattle.g1_image.specs.Image.{Image, IsTextWithin, entry_of, region_of_entry, all_words, flags_of, file_of, heap_of}
 use Rattle.g1_image.proofs.PrefixFree.{Are-free}
 use Rattle.g1_image.proofs.Parts.{magic_free, heading_free, entry_free}

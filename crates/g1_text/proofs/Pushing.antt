@@ -1,14 +1,14 @@
 -- Lists that get the words and the names of one slot or root after the other.
-use Rattle.std.proofs.Common.{◌≡◌, ◌<◌, ℕ, zero, suc, ◌+◌, List, [], ◌∷◌, ◌++◌, length, get_or, map, flat_map, take, append_assoc, length-take, append-nil, sym, ◌∙◌, ap, subst, arith}
-use Rattle.std.specs.Prelude.{Option, None, All}
+use Rattle.std.proofs.Common.{◌≡◌, ◌<◌, ℕ, zero, suc, ◌+◌, List, [], ◌∷◌, ◌++◌, length, get_or, slice_index, map, flat_map, take, append_assoc, append-nil, sym, ◌∙◌, ap, arith}
+use Rattle.std.specs.Prelude.{Option, None}
 use Rattle.std.specs.Borrow.{Bor}
 use Rattle.std.specs.List.{AllZip}
-use Rattle.std.proofs.lemmas.List.{take_more, take_all, map_more, get_or-map, length-map, map-append, length-take-le}
+use Rattle.std.proofs.lemmas.List.{take_more, map_more, get_or-map, length-map, length-take-le}
 use Rattle.std.proofs.lemmas.List.Concat.{flat_map-append}
-use Rattle.std.proofs.lemmas.Slice.Zip.{all_zipped_more}
-use Rattle.g1_text.specs.Graphs.{NamedRoot, NamedGraph, target_word}
+use Rattle.g1_text.specs.Graphs.{NamedObject, NamedRoot, NamedGraph, target_word}
 use Rattle.g1_text.specs.ByName.{read_root, root_word}
 use Rattle.g1_text.specs.Carried.{stale_at, stale_from}
+use Rattle.g1_text.specs.Filled.{located, object_of}
 use Rattle.g1_text.proofs.NamedWords.{stale_push}
 
 -- one element more
@@ -22,6 +22,11 @@ module _ {A B : Type 0} (f : A → List B) (xs : List A) (d : A) (i : ℕ) (lt :
   push_joined so_far push =
       let more = ap (flat_map f) (take_more xs i d lt) ∙ flat_map-append f (take i xs) (get_or xs i d ∷ []) ∙ ap (λ l. flat_map f (take i xs) ++ l) (append-nil (f (get_or xs i d))) in
       push ∙ ap (λ l. l ++ f (get_or xs i d)) so_far ∙ append_assoc first (flat_map f (take i xs)) (f (get_or xs i d)) ∙ ap (λ l. first ++ l) (sym more)
+
+-- the objects at the places of an order, and one more
+pub located_more : (g : NamedGraph) (ats order : List ℕ) (i : ℕ) → i < length order
+    → located g ats (take (i + 1) order) ≡ located g ats (take i order) ++ (object_of g (get_or order i 0), slice_index ats (get_or order i 0)) ∷ []
+located_more g ats order i lt = map_more (λ k. (object_of g k, slice_index ats k)) order i 0 lt
 
 -- one stale name more, or none
 pub push_stale : (g : NamedGraph) (n k i : ℕ) (ts : List (Option (List ℕ))) (first old new : List (ℕ × List ℕ)) → i < length ts → k ≡ n + i → old ≡ first ++ stale_from g n (take i ts)
@@ -50,6 +55,13 @@ slot_read names ts i x e lt =
 
 pub slot_count : (names : List (Bor (List ℕ))) (ts : List (Option (List ℕ))) → map (λ (t : Bor (List ℕ)). t.now) names ≡ map target_word ts → length names ≡ length ts
 slot_count names ts e = sym (length-map names (λ (t : Bor (List ℕ)). t.now)) ∙ ap length e ∙ length-map ts target_word
+
+-- the name of an object
+pub name_read : (names : List (Bor (List ℕ))) (objects : List NamedObject) (k : ℕ) (x : Bor (List ℕ)) (d : NamedObject) → map (λ (t : Bor (List ℕ)). t.now) names ≡ map (λ (o : NamedObject). o.name) objects
+    → k < length objects → (get_or names k x).now ≡ (get_or objects k d).name
+name_read names objects k x d e lt =
+    let count : length names ≡ length objects = sym (length-map names (λ (t : Bor (List ℕ)). t.now)) ∙ ap length e ∙ length-map objects (λ (o : NamedObject). o.name) in
+    sym (get_or-map (λ (t : Bor (List ℕ)). t.now) names k x [] (omega (arith, lt, count))) ∙ ap (λ l. get_or l k []) e ∙ get_or-map (λ (o : NamedObject). o.name) objects k d [] lt
 
 -- what holds at a place of two lists
 pub zip_at : {A B : Type 0} (R : A → B → Type 0) (xs : List A) (ys : List B) (i : ℕ) (d : A) (e : B) → AllZip R xs ys → i < length xs → R (get_or xs i d) (get_or ys i e)

@@ -13,10 +13,9 @@ use Rattle.g1_words.specs.declared.region.Kind.{Kind}
 use Rattle.g1_words.specs.declared.region.Kind.TheVariants.{Free, Ordinary, HumongousFirst, Continuation}
 use Rattle.g1_image.specs.Reading.{IsU32, IsU64}
 use Rattle.g1_image.specs.Image.{entry_of, heap_of}
-use Rattle.g1_text.specs.Reading.{lines_in}
-use Rattle.g1_text.specs.Content.{Content, Counts, HasSpace, MayFollow, words_beyond, with_region, top_behind, beyond_behind, size_with, begun, file_with}
-use Rattle.g1_text.specs.Short.{Short, RootAs, DirtyAs, Covered, RegionAs, RememberedAs, ObjectAs, Gives, GoesOn, Skips, NamesRegion, TellsCurrent, BeginsShort, Tells, TellsAll, Closes}
-use Rattle.g1_text.specs.Drafts.{HeapFits, StandsInHeap}
+use Rattle.g1_text.specs.Content.{Content, Counts, HasSpace, MayFollow, words_beyond, with_region, top_behind, beyond_behind, size_with, file_with}
+use Rattle.g1_text.specs.Short.{Short, RootAs, DirtyAs, Covered, RegionAs, RememberedAs, ObjectAs, Gives, GoesOn, Skips, TellsCurrent, BeginsShort, Tells, TellsAll, Closes}
+use Rattle.g1_text.specs.Drafts.{StandsInHeap}
 use Rattle.g1_text.proofs.Adding.{address_of}
 use Rattle.g1_text.proofs.Ends.{one_end}
 use Rattle.g1_text.proofs.Gathering.{map_push}

@@ -2,7 +2,6 @@
 use Rattle.std.specs.Prelude.{◌≡◌, ◌≢◌, ◌≤◌, ℕ, Option, Some, None, List, [], ◌∷◌, ◌++◌, ◌+◌, ◌-◌, ◌^◌, length, map, min, All}
 use Rattle.std.specs.List.{AllZip, position_from}
 use Rattle.std.specs.Str.{bytes_eq}
-use Rattle.std.specs.HashMap.{get_by}
 use Rattle.std.specs.Borrow.{Bor}
 use Rattle.g1_words.specs.Geometry.{Geometry, most_roots}
 use Rattle.g1_text.specs.declared.named.Lines.{Lines}
@@ -34,9 +33,8 @@ read_holder holder = (holder.0, holder.1.now)
 abbrev pub root_word : NamedRoot → List ℕ
 root_word r = target_word r.target
 
--- an object's line was read: its name, its size and its slots are those of the object
+-- an object's line was read: its size and its slots are those of the object
 pub record IsEntryOf (e : Entry) (o : NamedObject) : Type 0 where
-  pub name : e.name.now ≡ o.name
   pub size : e.size ≡ size_of o
   pub slots : e.slots ≡ length o.slots
   pub line : SaysObject o (words_in e.line.now)
@@ -55,7 +53,7 @@ holders_from n (r ∷ roots) = holder_of n r.holder ++ holders_from (n + 1) root
 abbrev pub place_of : List ℕ → List NamedObject → Option ℕ
 place_of name objects = position_from (λ o. bytes_eq name o.name) 0 objects
 
--- WHAT WAS READ IS THE GRAPH: no line is lost, and each name leads to the place of its object
+-- WHAT WAS READ IS THE GRAPH: no line is lost, and the names are in the order of the objects
 pub record HasRead (l : Lines) (g : NamedGraph) : Type 0 where
   pub sizes : AreSizes l.sizes g.sizes
   pub bounds : AreWithinBounds g.sizes
@@ -64,8 +62,8 @@ pub record HasRead (l : Lines) (g : NamedGraph) : Type 0 where
   pub few : length g.roots ≤ most_roots
   pub holders : map read_holder l.holders.items ≡ holders_from 0 g.roots
   pub entries : AllZip IsEntryOf l.entries.items g.objects
+  pub names : map (λ k. k.now) l.names.keys ≡ map (λ o. o.name) g.objects
   pub words : l.words ≡ min (words_of g) (2 ^ 64 - 1)
-  pub places : (name : List ℕ) → get_by (λ k. bytes_eq name k.now) l.places ≡ place_of name g.objects
 
 -- the lines that were read so far say this: before the heading nothing
 abbrev pub IsRead : Lines → Option NamedGraph → Type 0

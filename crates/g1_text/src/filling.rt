@@ -27,13 +27,6 @@ pub(crate) struct Stale<'a> {
     pub(crate) first: Option<(u64, Expected)>,
 }
 
-/// What is found of names: those of the objects, with their addresses, and those in slots that no object has.
-#[derive(Drop)]
-pub(crate) struct Found<'a> {
-    pub(crate) names: Vec<(u64, &'a str)>,
-    pub(crate) stale: Stale<'a>,
-}
-
 impl<'a> Stale<'a> {
     pub(crate) fn new(alloc: Global) -> Stale<'a>
         ensures { result.names.items ≡ [] }
@@ -89,19 +82,37 @@ pub(crate) fn fill_roots<'a>(
     Ok(())
 }
 
+/// The address and the name of each object, in the order of their addresses.
+pub(crate) fn name_objects<'a>(
+    alloc: Global,
+    names: &[&'a str],
+    places: &Places,
+) -> Result<Vec<(u64, &'a str)>, AllocError>
+    ensures { (g : NamedGraph) → map (λ t. t.now) names.now ≡ map (λ o. o.name) g.objects → length places.now.addresses.items ≡ length g.objects → All (λ k. k < length g.objects) places.now.order.items → IfOk result (λ v. map read_holder v.items ≡ map named_at (located g places.now.addresses.items places.now.order.items)) }
+{
+    let mut named = Vec::with_capacity(alloc, names.len())?;
+    for place in &places.order {
+        let place = *place as usize;
+        if place >= names.len().min(places.addresses.len()) {
+            continue;
+        }
+        named.push((places.addresses[place], names[place]))?;
+    }
+    Ok(named)
+}
+
 /// The words of the objects, in the order of their addresses.
 pub(crate) fn fill_objects<'a>(
     alloc: Global,
-    found: &mut Found<'a>,
+    stale: &mut Stale<'a>,
     draft: &mut Draft,
     lines: &Lines<'a>,
     places: &Places,
 ) -> Result<(), Wrong>
     ensures fault { IfErr result IsLineOrMemory }
     ensures words { (g : NamedGraph) → AreLocated lines.now g places.now.addresses.items → All (λ k. k < length g.objects) places.now.order.items → OnOk result ((wordss : List (List ℕ)) × AllZip (λ o words. AreWordsOf g places.now.addresses.items o.0 words) (located g places.now.addresses.items places.now.order.items) wordss × (content draft.new ≡ record (content draft.old) { words = (content draft.old).words ++ flat_map (λ words. words) wordss })) }
-    ensures names { (g : NamedGraph) → AreLocated lines.now g places.now.addresses.items → All (λ k. k < length g.objects) places.now.order.items → OnOk result (map read_holder found.new.names.items ≡ map read_holder found.old.names.items ++ map named_at (located g places.now.addresses.items places.now.order.items)) }
-    ensures stale { (g : NamedGraph) → AreLocated lines.now g places.now.addresses.items → All (λ k. k < length g.objects) places.now.order.items → OnOk result (map read_holder found.new.stale.names.items ≡ map read_holder found.old.stale.names.items ++ flat_map (stale_slots g) (located g places.now.addresses.items places.now.order.items)) }
-    ensures noted { IsNoted found.old.stale → OnOk result (IsNoted found.new.stale) }
+    ensures stale { (g : NamedGraph) → AreLocated lines.now g places.now.addresses.items → All (λ k. k < length g.objects) places.now.order.items → OnOk result (map read_holder stale.new.names.items ≡ map read_holder stale.old.names.items ++ flat_map (stale_slots g) (located g places.now.addresses.items places.now.order.items)) }
+    ensures noted { IsNoted stale.old → OnOk result (IsNoted stale.new) }
 {
     let mut words = Vec::new(alloc);
     for place in &places.order {
@@ -113,7 +124,7 @@ pub(crate) fn fill_objects<'a>(
         let entry = &lines.entries[place];
         let at = places.addresses[place];
         let addresses = places.addresses.as_slice();
-        if let Err(refusal) = fill_object(found, draft, lines, addresses, entry, at, &mut words) {
+        if let Err(refusal) = fill_object(stale, draft, lines, addresses, entry, at, &mut words) {
             return Err(refusal.at(entry.number));
         }
     }
@@ -121,7 +132,7 @@ pub(crate) fn fill_objects<'a>(
 }
 
 fn fill_object<'a>(
-    found: &mut Found<'a>,
+    stale: &mut Stale<'a>,
     draft: &mut Draft,
     lines: &Lines<'a>,
     addresses: &[u64],
@@ -130,17 +141,15 @@ fn fill_object<'a>(
     words: &mut Vec<&'a str>,
 ) -> Result<(), Refusal>
     ensures words { (g : NamedGraph) (o : NamedObject) → AreLocated lines.now g addresses.now → IsEntryOf entry.now o → IsAddress at → OnOk result ((words : List ℕ) × AreWordsOf g addresses.now o words × (content draft.new ≡ record (content draft.old) { words = (content draft.old).words ++ words })) }
-    ensures names { (g : NamedGraph) (o : NamedObject) → AreLocated lines.now g addresses.now → IsEntryOf entry.now o → IsAddress at → OnOk result (map read_holder found.new.names.items ≡ map read_holder found.old.names.items ++ (at, o.name) ∷ []) }
-    ensures stale { (g : NamedGraph) (o : NamedObject) → AreLocated lines.now g addresses.now → IsEntryOf entry.now o → IsAddress at → OnOk result (map read_holder found.new.stale.names.items ≡ map read_holder found.old.stale.names.items ++ stale_from g (at + 1) o.slots) }
-    ensures noted { IsNoted found.old.stale → OnOk result (IsNoted found.new.stale) }
+    ensures stale { (g : NamedGraph) (o : NamedObject) → AreLocated lines.now g addresses.now → IsEntryOf entry.now o → IsAddress at → OnOk result (map read_holder stale.new.names.items ≡ map read_holder stale.old.names.items ++ stale_from g (at + 1) o.slots) }
+    ensures noted { IsNoted stale.old → OnOk result (IsNoted stale.new) }
 {
-    found.names.push((at, entry.name))?;
     cut_words(words, entry.line)?;
     let whole = words.as_slice();
     let (_, content) = whole.split_at(whole.len().min(3));
     fill_words(
         &mut draft.words,
-        &mut found.stale,
+        stale,
         lines,
         addresses,
         entry,

@@ -4,6 +4,8 @@ ghost use Rattle.g1_words.specs.Geometry.{Geometry as GeometryOf};
 ghost use Rattle.g1_image.specs.Image.{IsImageTextWithin};
 ghost use Rattle.g1_text.specs.Reading.{words_in, says_something, parts_of, lines_in, AreGraphLines};
 ghost use Rattle.g1_text.specs.Forms.{GraphHeading, GraphLine, NamedRootLine, NamedObjectLine, HasMeaning, HasSize, IsTarget, IsName, IsDataWord, Sizes, Maybe, Single, Word, ◌▸◌, Many, Holding, HasFront};
+ghost use Rattle.g1_image.specs.Text.{file_text};
+ghost use Rattle.g1_text.specs.Content.{file_with};
 ghost use Rattle.g1_text.specs.Drafts.{content, is_begun, IsTaken, AreTaken};
 ghost use Rattle.g1_text.specs.Graphs.{NamedGraph, SaysGraph, SaysSizes, SaysNamed, SayNamed, AddsRoot, AddsObject, FitsHeap, AreWithinBounds, IsTargetName, words_of, most_words_of, target_word, empty_graph};
 ghost use Rattle.g1_text.specs.ByName.{HasRead, IsRead, AreSizes, Fills, read_holder, holder_of, holders_from};
@@ -17,13 +19,15 @@ ghost use Rattle.g1_text.specs.Overfull.{RefusesOverfull, FitsSoFar};
 use crate::covering::cover;
 use crate::draft::{Draft, Heading};
 use crate::expected::{Expected, Refusal, Wrong};
-use crate::filling::{Found, Stale, fill_objects, fill_roots};
+use crate::filling::{Stale, fill_objects, fill_roots, name_objects};
 use crate::packing::{check_bytes, pack};
 use crate::placing::{Entry, Places, choose_sizes, place, regions_needed};
 use crate::reading::{HeapSizes, first_line, given_words, sizes, within_limits};
 use crate::values::data_word;
 use crate::words::{Words, cut_words, size_and_slots};
 use g1_words::{Fault, Geometry, Limits, MOST_ROOTS};
+use indexmap::IndexSet;
+use memchr::memmem;
 use std::alloc::{AllocError, Global};
 use std::collections::HashMap;
 use std::str;
@@ -80,20 +84,18 @@ pub fn read_graph<'a>(alloc: Global, text: &'a [u8]) -> Result<Graph<'a>, Wrong>
     ensures overfull { RefusesOverfull text.now result }
 {
     let lines = read_lines(alloc, text)?;
-    let mut graph = place_and_fill(alloc, &lines)?;
-    let Lines { holders, texts, .. } = lines;
-    graph.root_names = holders;
-    graph.texts = texts;
+    let graph = place_and_fill(alloc, lines)?;
     Ok(graph)
 }
 
-fn place_and_fill<'a>(alloc: Global, lines: &Lines<'a>) -> Result<Graph<'a>, Wrong>
+fn place_and_fill<'a>(alloc: Global, lines: Lines<'a>) -> Result<Graph<'a>, Wrong>
     ensures fault { IfErr result IsLineOrMemory }
-    ensures begun { OnOk result (is_begun lines.now ≡ true) }
-    ensures carried { (g : NamedGraph) → HasRead lines.now g → IfOk result (HoldsGraph g) }
+    ensures begun { OnOk result (is_begun lines.entry ≡ true) }
+    ensures carried { (g : NamedGraph) → HasRead lines.entry g → IfOk result (HoldsGraph g) }
+    ensures holders { IfOk result (λ r. r.root_names ≡ lines.entry.holders) }
 {
-    match lay_out(alloc, lines) {
-        Ok((mut draft, places)) => fill(alloc, &mut draft, lines, &places),
+    match lay_out(alloc, &lines) {
+        Ok((draft, places)) => fill(alloc, draft, lines, places),
         Err(refusal) => Err(refusal.at(lines.heading)),
     }
 }
@@ -101,35 +103,54 @@ fn place_and_fill<'a>(alloc: Global, lines: &Lines<'a>) -> Result<Graph<'a>, Wro
 // Fills the places that were found.
 fn fill<'a>(
     alloc: Global,
-    draft: &mut Draft,
-    lines: &Lines<'a>,
-    places: &Places,
+    mut draft: Draft,
+    lines: Lines<'a>,
+    places: Places,
 ) -> Result<Graph<'a>, Wrong>
     ensures fault { IfErr result IsLineOrMemory }
-    ensures carried { (g : NamedGraph) (geometry : GeometryOf) → HasRead lines.now g → ArePlaced geometry lines.now.entries.items places.now.addresses.items places.now.order.items (content draft.old) → IfSome g.sizes (λ s. geometry ≡ s) → IfOk result (HoldsGraph g) }
+    ensures carried { (g : NamedGraph) (geometry : GeometryOf) → HasRead lines.entry g → ArePlaced geometry lines.entry.entries.items places.addresses.items places.order.items (content draft) → IfSome g.sizes (λ s. geometry ≡ s) → IfOk result (HoldsGraph g) }
+    ensures holders { IfOk result (λ r. r.root_names ≡ lines.entry.holders) }
 {
     let mut roots = Stale::new(alloc);
-    let mut found = Found {
-        names: Vec::new(alloc),
-        stale: Stale::new(alloc),
-    };
+    let mut slots = Stale::new(alloc);
     let addresses = places.addresses.as_slice();
-    fill_roots(&mut draft.roots, &mut roots, lines, addresses)?;
-    fill_objects(alloc, &mut found, draft, lines, places)?;
-    cover(draft)?;
-    if let Err(expected) = check_counts(draft.remembered.as_slice()) {
-        return Err(Refusal::Expected(expected).at(lines.heading));
-    }
-    let text = pack(alloc, draft)?;
+    fill_roots(&mut draft.roots, &mut roots, &lines, addresses)?;
+    fill_objects(alloc, &mut slots, &mut draft, &lines, &places)?;
+    let Lines {
+        heading,
+        holders,
+        entries,
+        names,
+        texts,
+        ..
+    } = lines;
+    drop(entries);
+    let named = name_objects(alloc, names.as_slice(), &places)?;
+    drop(names);
+    drop(places);
+    let text = cover_and_pack(alloc, draft, heading)?;
     Ok(Graph {
         text,
-        names: found.names,
-        root_names: Vec::new(alloc),
-        texts: HashMap::new(alloc),
-        first_stale: earlier(roots.first, found.stale.first),
+        names: named,
+        root_names: holders,
+        texts,
+        first_stale: earlier(roots.first, slots.first),
         stale_roots: roots.names,
-        stale_slots: found.stale.names,
+        stale_slots: slots.names,
     })
+}
+
+// The bytes of what was read, with the sets that follow from the references.
+fn cover_and_pack(alloc: Global, mut draft: Draft, heading: u64) -> Result<Vec<u8>, Wrong>
+    ensures fault { IfErr result IsLineOrMemory }
+    ensures text { length (content draft).roots < 2 ^ 32 → length (content draft).log < 2 ^ 32 → IfOk result (λ v. (sets : List (List ℕ)) × (v.items ≡ file_text (file_with (record (content draft) { remembered = sets })))) }
+{
+    cover(&mut draft)?;
+    if let Err(expected) = check_counts(draft.remembered.as_slice()) {
+        return Err(Refusal::Expected(expected).at(heading));
+    }
+    let text = pack(alloc, &draft)?;
+    Ok(text)
 }
 
 // A file has room for the number of cards of each region. No lines are known that reach more.
@@ -170,17 +191,18 @@ pub fn make_graph(alloc: Global, text: &[u8]) -> Result<Vec<u8>, Wrong>
     ensures overfull { RefusesOverfull text.now result }
 {
     let lines = read_lines(alloc, text)?;
+    let heading = lines.heading;
     let Graph {
         text: bytes,
         first_stale,
         ..
-    } = place_and_fill(alloc, &lines)?;
+    } = place_and_fill(alloc, lines)?;
     check_named(first_stale)?;
     match check_bytes(alloc, bytes.as_slice()) {
         Ok(()) => Ok(bytes),
         Err(Fault::Memory) => Err(Wrong::Fault(Fault::Memory)),
         // No lines are known to reach another fault: the objects lie as an image has them.
-        Err(_) => Err(Refusal::Expected(Expected::Sizes).at(lines.heading)),
+        Err(_) => Err(Refusal::Expected(Expected::Sizes).at(heading)),
     }
 }
 
@@ -206,10 +228,32 @@ pub(crate) struct Lines<'a> {
     pub(crate) entries: Vec<Entry<'a>>,
     /// How many words the objects have.
     words: u64,
-    /// The place of each name's entry.
-    pub(crate) places: HashMap<&'a str, u64>,
+    /// Their names, in the same order.
+    pub(crate) names: IndexSet<&'a str>,
     /// The texts among the data words, by the words that stand for them.
     texts: HashMap<u64, &'a str>,
+}
+
+// How many lines begin with the word for an object. So many have room at once; others are read as well.
+fn objects_in(text: &[u8]) -> usize {
+    memmem::find_iter(text, b"\nobject").count()
+}
+
+// Nothing read, with room for so many objects, as far as a heap may have them.
+fn with_room<'a>(alloc: Global, count: usize) -> Result<Lines<'a>, AllocError>
+    ensures { IfOk result (λ l. IsRead l None) }
+{
+    let room = count.min(Limits::Wide.words() as usize);
+    Ok(Lines {
+        heading: 0,
+        sizes: None,
+        roots: Vec::new(alloc),
+        holders: Vec::new(alloc),
+        entries: Vec::with_capacity(alloc, room)?,
+        words: 0,
+        names: IndexSet::with_capacity(alloc, room)?,
+        texts: HashMap::new(alloc),
+    })
 }
 
 fn read_lines<'a>(alloc: Global, text: &'a [u8]) -> Result<Lines<'a>, Wrong>
@@ -219,16 +263,7 @@ fn read_lines<'a>(alloc: Global, text: &'a [u8]) -> Result<Lines<'a>, Wrong>
     ensures fits { OnOk result ((g : Option NamedGraph) × SayNamed None (lines_in text.now) g × FitsSoFar g) }
     ensures overfull { RefusesOverfull text.now result }
 {
-    let mut lines = Lines {
-        heading: 0,
-        sizes: None,
-        roots: Vec::new(alloc),
-        holders: Vec::new(alloc),
-        entries: Vec::new(alloc),
-        words: 0,
-        places: HashMap::new(alloc),
-        texts: HashMap::new(alloc),
-    };
+    let mut lines = with_room(alloc, objects_in(text))?;
     let mut words = Vec::new(alloc);
     let mut number = 0u64;
     let mut rest = Some(text);
@@ -333,14 +368,12 @@ impl<'a> Lines<'a> {
             return Err(Refusal::Expected(Expected::Size));
         };
         let (size, slots) = short_size(size)?;
-        let place = self.entries.len() as u64;
-        if self.places.insert(*name, place)?.is_some() {
+        if !self.names.insert(*name)? {
             return Err(Refusal::Expected(Expected::NewName));
         }
         check_content(content, size, slots)?;
         keep_texts(&mut self.texts, content, slots)?;
         self.entries.push(Entry {
-            name: *name,
             size,
             slots,
             number,
@@ -368,7 +401,7 @@ impl<'a> Lines<'a> {
         if name == "-" {
             return Some(0);
         }
-        let place = *self.places.get(&name)? as usize;
+        let place = self.names.get_index_of(name)?;
         if place >= addresses.len() {
             return None;
         }

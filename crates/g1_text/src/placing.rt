@@ -14,7 +14,6 @@ use std::alloc::{AllocError, Global};
 /// An object with a name, and the line that says what is in it.
 #[derive(Clone, Copy)]
 pub(crate) struct Entry<'a> {
-    pub(crate) name: &'a str,
     pub(crate) size: u32,
     pub(crate) slots: u32,
     pub(crate) number: u64,
@@ -49,14 +48,16 @@ fn widest(limits: Limits, region_words: u64) -> Option<Geometry> {
 
 /// The sizes of a heap for these objects, which have so many words, within the specification's limits if they fit there.
 pub(crate) fn choose_sizes(entries: &[Entry<'_>], words: u64) -> Result<Geometry, Expected> {
-    if let Some(sizes) = smallest_within(Limits::Specified, entries) {
+    if let Some(sizes) = smallest_within(Limits::Specified, entries, words) {
         return Ok(sizes);
     }
-    smallest_within(Limits::Wide, entries).ok_or(Expected::Smaller(words))
+    smallest_within(Limits::Wide, entries, words).ok_or(Expected::Smaller(words))
 }
 
 // The smallest regions of which half stay free, or else the smallest ones that are enough.
-fn smallest_within(limits: Limits, entries: &[Entry<'_>]) -> Option<Geometry> {
+fn smallest_within(limits: Limits, entries: &[Entry<'_>], words: u64) -> Option<Geometry> {
+    // Half of the regions can stay free only if the objects have at most half of the words.
+    let may_stay_free = words.saturating_mul(2) <= limits.words();
     let mut enough = None;
     for doublings in 0..u64::BITS {
         let region_words = LEAST_REGION_WORDS << doublings;
@@ -70,6 +71,9 @@ fn smallest_within(limits: Limits, entries: &[Entry<'_>]) -> Option<Geometry> {
         }
         if needed <= widest.regions() && enough.is_none() {
             enough = Some(widest);
+            if !may_stay_free {
+                break;
+            }
         }
     }
     enough

@@ -1,25 +1,20 @@
-use Rattle.std.proofs.Common.{◌≡◌, ◌<◌, ◌≤◌, ◌+◌, ◌++◌, ℕ, List, [], ◌∷◌, length, get_or, slice_index, map, flat_map, take, append_assoc, sym, ◌∙◌, ap, subst, arith}
+use Rattle.std.proofs.Common.{◌≡◌, ◌<◌, ◌+◌, ◌++◌, ℕ, List, [], ◌∷◌, length, get_or, slice_index, map, flat_map, take, sym, ◌∙◌, ap, subst, arith}
 use Rattle.std.specs.Prelude.{All}
 use Rattle.std.specs.List.{AllZip}
-use Rattle.std.proofs.lemmas.List.{map_more, flat_map_more, map_push, get_or_read}
+use Rattle.std.proofs.lemmas.List.{flat_map_more, get_or_read}
 use Rattle.std.proofs.lemmas.Slice.Zip.{AllZip-long, all_zipped_more}
 use Rattle.g1_text.specs.declared.placing.Entry.{Entry}
 use Rattle.g1_text.specs.Laid.{IsAddress}
 use Rattle.g1_text.specs.Graphs.{NamedObject, NamedGraph}
 use Rattle.g1_text.specs.ByName.{IsEntryOf, read_holder}
-use Rattle.g1_text.specs.Content.{Content}
 use Rattle.g1_text.specs.Drafts.{content}
-use Rattle.g1_text.specs.Carried.{stale_slots, stale_from, named_at}
+use Rattle.g1_text.specs.Carried.{stale_slots, stale_from}
 use Rattle.g1_text.specs.Filled.{AreLocated, AreWordsOf, located, object_of}
-use Rattle.g1_text.proofs.Pushing.{zip_at}
+use Rattle.g1_text.proofs.Pushing.{located_more, zip_at}
 use Rattle.g1_text.proofs.filling.fill_objects.Goals as goal
 
 abbrev no_object : NamedObject
 no_object = record { name = []; slots = []; written = [] }
-
--- the objects so far, and one more
-located_more : (g : NamedGraph) (ats order : List ℕ) (i : ℕ) → i < length order → located g ats (take (i + 1) order) ≡ located g ats (take i order) ++ (object_of g (get_or order i 0), slice_index ats (get_or order i 0)) ∷ []
-located_more g ats order i lt = map_more (λ k. (object_of g k, slice_index ats k)) order i 0 lt
 
 pub loop-place-preserved-then-place-count : goal.loop-place-preserved-then-place-count
 loop-place-preserved-then-place-count c =
@@ -30,7 +25,7 @@ loop-place-preserved-then-place-count c =
     let past : (g : NamedGraph) → AreLocated c.args.lines.now g c.args.places.now.addresses.items → All (λ k. k < length g.objects) order → ⊥ = λ g lie under.
     let k = under i 0 lt in
     omega (arith, k, here, c.if-place-count.true, c.min-count.ensures, c.len.ensures, c.len-in-loop-place.ensures, c.args.lines.now.entries.ok.0, c.args.places.now.addresses.ok.0, lie.count, AllZip-long IsEntryOf c.args.lines.now.entries.items g.objects lie.read.entries) in
-    record { words = λ g lie under. absurd (past g lie under); names = λ g lie under. absurd (past g lie under); stale = λ g lie under. absurd (past g lie under); noted = c.loop-place.invariant.noted }
+    record { words = λ g lie under. absurd (past g lie under); stale = λ g lie under. absurd (past g lie under); noted = c.loop-place.invariant.noted }
 
 pub loop-place-preserved : goal.loop-place-preserved
 loop-place-preserved c =
@@ -63,18 +58,11 @@ loop-place-preserved c =
             new.2 ∙ (λ t. record (before.2 t) { words = (before.2 t).words ++ new.0 })
                 ∙ (λ t. record (content c.args.draft.now) { words = flat_map_more (λ ws. ws) (content c.args.draft.now).words before.0 new.0 t }),
           );
-      names = λ g lie under.
-          let lent : AreLocated c.args.lines.now g c.as_slice-addresses.result.now = subst (AreLocated c.args.lines.now g) (sym addresses) lie in
-          let first = map read_holder c.args.found.now.names.items in
-          let so_far = located g ats (take i order) in
-          c.in_default.ensures.names g (object_of g k) lent (is g lie under) (small g lie under) ∙ ap (λ a. map read_holder c.loop-place.found.names.items ++ (a, (object_of g k).name) ∷ []) (at_is g lie under) ∙ ap (λ l. l ++ (slice_index ats k, (object_of g k).name) ∷ []) (c.loop-place.invariant.names g lie under)
-          ∙ append_assoc first (map named_at so_far) ((slice_index ats k, (object_of g k).name) ∷ [])
-          ∙ ap (λ l. first ++ l) (sym (map_push named_at so_far (object_of g k, slice_index ats k)) ∙ ap (map named_at) (sym (located_more g ats order i lt)));
       stale = λ g lie under.
           let lent : AreLocated c.args.lines.now g c.as_slice-addresses.result.now = subst (AreLocated c.args.lines.now g) (sym addresses) lie in
-          let first = map read_holder c.args.found.now.stale.names.items in
+          let first = map read_holder c.args.stale.now.names.items in
           let so_far = located g ats (take i order) in
-          c.in_default.ensures.stale g (object_of g k) lent (is g lie under) (small g lie under) ∙ ap (λ a. map read_holder c.loop-place.found.stale.names.items ++ stale_from g (a + 1) (object_of g k).slots) (at_is g lie under) ∙ ap (λ l. l ++ stale_slots g (object_of g k, slice_index ats k)) (c.loop-place.invariant.stale g lie under)
+          c.in_default.ensures.stale g (object_of g k) lent (is g lie under) (small g lie under) ∙ ap (λ a. map read_holder c.loop-place.stale.names.items ++ stale_from g (a + 1) (object_of g k).slots) (at_is g lie under) ∙ ap (λ l. l ++ stale_slots g (object_of g k, slice_index ats k)) (c.loop-place.invariant.stale g lie under)
           ∙ flat_map_more (stale_slots g) first so_far (object_of g k, slice_index ats k) ∙ ap (λ l. first ++ flat_map (stale_slots g) l) (sym (located_more g ats order i lt));
       noted = λ n. c.in_default.ensures.noted (c.loop-place.invariant.noted n);
     }

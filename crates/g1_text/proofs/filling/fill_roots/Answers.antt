@@ -1,5 +1,5 @@
-use Rattle.std.proofs.Common.{◌≡◌, ◌<◌, ◌+◌, ◌++◌, ℕ, List, [], ◌∷◌, Bor, length, get_or, map, take, sym, ◌∙◌, ap, subst, arith}
-use Rattle.std.specs.Prelude.{Option, None}
+use Rattle.std.proofs.Common.{◌≡◌, ◌<◌, ◌+◌, ◌++◌, ℕ, List, [], ◌∷◌, Bor, length, get_or, map, sym, ◌∙◌, ap, arith}
+use Rattle.std.specs.Prelude.{None}
 use Rattle.std.proofs.lemmas.List.{take-map, get_or-map, length-map}
 use Rattle.g1_text.specs.Graphs.{NamedRoot}
 use Rattle.g1_text.specs.ByName.{read_root, read_holder}

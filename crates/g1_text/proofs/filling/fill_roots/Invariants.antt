@@ -1,4 +1,4 @@
-use Rattle.std.proofs.Common.{◌≡◌, List, ◌++◌, map, take}
+use Rattle.std.proofs.Common.{◌≡◌, ◌++◌, map, take}
 use Rattle.g1_text.specs.Graphs.{NamedRoot, NamedGraph}
 use Rattle.g1_text.specs.ByName.{read_holder}
 use Rattle.g1_text.specs.Carried.{root_value, stale_from}

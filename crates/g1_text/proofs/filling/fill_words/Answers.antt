@@ -1,7 +1,6 @@
-use Rattle.std.proofs.Common.{◌≡◌, ◌<◌, ◌≤◌, ◌+◌, ◌-◌, ◌*◌, ◌^◌, ◌++◌, ℕ, List, [], ◌∷◌, Bor, length, map, min, take, drop, replicate, refl, sym, ◌∙◌, ap, subst, arith}
-use Rattle.g1_text.specs.Reading.{words_in}
+use Rattle.std.proofs.Common.{◌≡◌, ◌<◌, ◌+◌, ◌-◌, ◌*◌, ◌^◌, ◌++◌, [], ◌∷◌, length, map, take, drop, replicate, refl, sym, ◌∙◌, ap, arith}
 use Rattle.g1_text.specs.ByName.{read_holder}
-use Rattle.g1_text.specs.Carried.{word_for, stale_from}
+use Rattle.g1_text.specs.Carried.{word_for}
 use Rattle.g1_text.proofs.NamedWords.{names_are, are_targets, stale_is, are_words, cut_at, front_is_rest, four_parts, texts}
 use Rattle.g1_text.proofs.filling.fill_words.Goals as goal
 

@@ -1,4 +1,4 @@
-use Rattle.std.proofs.Common.{◌≡◌, ◌<◌, ◌≤◌, ◌+◌, length, map, get_or, refl, sym, ◌∙◌, ap, subst, arith}
+use Rattle.std.proofs.Common.{◌<◌, ◌+◌, length, map, get_or, refl, sym, ◌∙◌, ap, subst, arith}
 use Rattle.g1_text.specs.declared.draft.Placed.{Placed}
 use Rattle.g1_text.specs.Drafts.{line_of_object, address_of_object, content, numbers}
 use Rattle.g1_text.proofs.Gathering.{map_at, map_count}

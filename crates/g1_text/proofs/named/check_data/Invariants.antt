@@ -1,4 +1,4 @@
-use Rattle.std.proofs.Common.{◌≤◌, ◌^◌}
+use Rattle.std.proofs.Common.{◌≤◌}
 use Rattle.g1_text.specs.Forms.{IsDataWord, Many, HasFront}
 use Rattle.g1_text.proofs.named.check_data.Given as goal
 

@@ -1,9 +1,10 @@
-use Rattle.std.proofs.Common.{false, subst, rules}
+use Rattle.std.proofs.Common.{false, map, ◌∙◌, ap, subst, rules}
 use Rattle.g1_text.proofs.NamedLines.{graph_said, graph_fits, begun_is}
 use Rattle.g1_text.specs.Reading.{lines_in}
 use Rattle.g1_text.specs.Overfull.{ReportsOverfull}
 use Rattle.g1_text.specs.Forms.{GraphHeading, GraphLine}
 use Rattle.g1_text.specs.Drafts.{AreTaken}
+use Rattle.g1_text.specs.ByName.{read_holder}
 use Rattle.g1_text.proofs.Formed.{meant_text}
 use Rattle.g1_text.proofs.named.read_graph.Goals as goal
 
@@ -17,15 +18,14 @@ returns-clause-says c =
     let read = c.in_ok-lines.ensures in
     let lines = c.in_ok-lines.lines in
     let said = graph_said c.args.text.now lines read.known.0 (begun_is lines.heading c.in_ok-graph.ensures.begun) read.says in
-    (said.0, said.1, said.2.holders)
+    (said.0, said.1, ap (λ hs. map read_holder hs.items) c.in_ok-graph.ensures.holders ∙ said.2.holders)
 
 pub returns-clause-holds : goal.returns-clause-holds
 returns-clause-holds c =
     let read = c.in_ok-lines.ensures in
     let lines = c.in_ok-lines.lines in
     let said = graph_said c.args.text.now lines read.known.0 (begun_is lines.heading c.in_ok-graph.ensures.begun) read.says in
-    let h = c.in_ok-graph.ensures.carried said.0 said.2 in
-    (said.0, said.1, record { ats = h.ats; file = h.file; text = h.text; carries = h.carries; image = h.image; listed = h.listed; noted = h.noted })
+    (said.0, said.1, c.in_ok-graph.ensures.carried said.0 said.2)
 
 pub returns-clause-fits : goal.returns-clause-fits
 returns-clause-fits c =

@@ -1,12 +1,5 @@
-use Rattle.std.proofs.Common.{◌≡◌, ◌+◌, ◌≤◌, ℕ, List, [], Bor, false, length, map, refl, sym, ap, subst, arith}
-use Rattle.std.specs.Prelude.{None}
-use Rattle.std.specs.List.{AllZip}
-use Rattle.std.specs.Map.{lookup}
-use Rattle.std.specs.Str.{bytes_eq}
-use Rattle.std.proofs.lemmas.List.Elements.{All-nil}
-use Rattle.g1_text.specs.declared.named.Lines.{Lines}
-use Rattle.g1_text.specs.Graphs.{NamedRoot, IsTargetName, empty_graph}
-use Rattle.g1_text.specs.ByName.{HasRead, IsEntryOf, read_root, read_holder}
+use Rattle.std.proofs.Common.{◌≡◌, ◌+◌, ◌≤◌, false, length, refl, sym, ap, subst, arith}
+use Rattle.std.specs.Prelude.{not, ◌==◌}
 use Rattle.g1_text.specs.Reading.{parts_of}
 use Rattle.g1_text.specs.Forms.{GraphHeading, GraphLine}
 use Rattle.g1_text.specs.Drafts.{is_begun}
@@ -20,28 +13,8 @@ use Rattle.g1_text.proofs.named.read_lines.Goals as goal
 pub lines-init : goal.lines-init
 lines-init c =
     let text = parts_of c.args.text.now in
-    let lines : Lines = record {
-      heading = 0;
-      sizes = None;
-      roots = c.new.result;
-      holders = c.new-2.result;
-      entries = c.new-3.result;
-      words = 0;
-      places = c.new-4.result;
-      texts = c.new-5.result;
-    } in
-    let empty : HasRead lines (empty_graph None) = record {
-      sizes = refl;
-      bounds = tt;
-      roots = ap (map read_root) c.new.ensures.items;
-      targets = All-nil (λ (r : NamedRoot). IsTargetName r.target);
-      few = omega arith;
-      holders = ap (map read_holder) c.new-2.ensures.items;
-      entries = subst (λ es. AllZip IsEntryOf es []) (sym c.new-3.ensures.items) tt;
-      words = refl;
-      places = λ name. ap (lookup (λ (k : Bor (List ℕ)). bytes_eq name k.now)) c.new-4.ensures.empty;
-    } in
-    record { forms = nothing_read GraphHeading GraphLine text false; says = none_read text lines (refl, empty); count = omega arith }
+    let empty = c.in_ok-lines.ensures in
+    record { forms = subst (IsLeft GraphHeading GraphLine text false text) (sym (ap (λ n. not (n == 0)) empty.0)) (nothing_read GraphHeading GraphLine text false); says = none_read text c.in_ok-lines.lines empty; count = omega arith }
 
 pub lines-preserved : goal.lines-preserved
 lines-preserved c =

@@ -1,4 +1,4 @@
-use Rattle.std.proofs.Common.{◌≡◌, ◌<◌, ◌++◌, length, map, Bor, List, ℕ, ap, ◌∙◌, arith}
+use Rattle.std.proofs.Common.{◌<◌, ◌++◌, length, map, Bor, List, ℕ, ap, ◌∙◌, arith}
 use Rattle.std.proofs.lemmas.Str.{IsCharBoundary-from_drop}
 use Rattle.g1_text.specs.Reading.{words_in}
 use Rattle.g1_text.proofs.WordEnds.{IsWordEnd, found, end_boundary, next_boundary, word_more, word_less}

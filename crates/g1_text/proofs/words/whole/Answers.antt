@@ -1,4 +1,4 @@
-use Rattle.std.proofs.Common.{rules, ◌≡◌, ◌<◌, ◌≤◌, ◌+◌, ◌*◌, ◌%◌, ◌^◌, ℕ, length, get_or, sym, ◌∙◌, ap, subst, arith}
+use Rattle.std.proofs.Common.{rules, ◌≡◌, ◌<◌, length, get_or, sym, subst, arith}
 use Rattle.std.specs.Prelude.{Some, None}
 use Rattle.g1_text.proofs.Digits.{begun, one_more, no_digit, too_large, all_read, decimal_read}
 use Rattle.g1_text.proofs.words.whole.Goals as goal

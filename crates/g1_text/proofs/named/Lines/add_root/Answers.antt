@@ -30,6 +30,6 @@ returns-clause-says c = λ g h.
         holders = holders_more _ _ g.roots r c.len-2.result h.holders c.in_ok-keep_holder.ensures (omega (arith, count, c.len-2.ensures));
         entries = h.entries;
         words = h.words;
-        places = h.places;
+        names = h.names;
       },
     )

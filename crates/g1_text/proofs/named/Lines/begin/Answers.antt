@@ -17,5 +17,5 @@ returns-clause-says c = λ h.
     let s = c.in_ok-self.ensures.says in (
       s.0,
       subst (λ word. SaysSizes s.0 (word ∷ told)) (sym (same_word c.args.first.now (codes "graph") c.if-ne.ensures)) s.2,
-      record { sizes = s.1; bounds = sizes_within s.0 _ s.2; roots = h.roots; targets = h.targets; few = h.few; holders = h.holders; entries = h.entries; words = h.words; places = h.places },
+      record { sizes = s.1; bounds = sizes_within s.0 _ s.2; roots = h.roots; targets = h.targets; few = h.few; holders = h.holders; entries = h.entries; words = h.words; names = h.names },
     )

@@ -1,4 +1,4 @@
-use Rattle.std.proofs.Common.{◌≡◌, ◌++◌, [], ◌∷◌, map, append-nil, sym, ◌∙◌, ap}
+use Rattle.std.proofs.Common.{◌++◌, map, append-nil, sym, ◌∙◌, ap}
 use Rattle.g1_text.specs.ByName.{read_holder}
 use Rattle.g1_text.proofs.Lookups.{not_stale, is_stale}
 use Rattle.g1_text.proofs.named.Lines.word.Goals as goal
