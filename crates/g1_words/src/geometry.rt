@@ -69,6 +69,16 @@ impl Geometry {
     ///
     /// `Fault::Geometry` unless `w` is a power of two from 16 to 65,536, `k` one from 4 to 64 and at
     /// most `w`, and `n` from 1 to 4,096 with at most 2^24 words in all.
+    ///
+    /// # Examples
+    ///
+    /// ```
+    /// use g1_words::{Fault, Geometry};
+    ///
+    /// let geometry = Geometry::new(16, 4, 4)?;
+    /// assert_eq!(rt; geometry.words(), 64);
+    /// assert_eq!(rt; Geometry::new(24, 4, 4), Err(Fault::Geometry));
+    /// ```
     pub fn new(w: u64, k: u64, n: u64) -> Result<Geometry, Fault>
         ensures ok { IfOk result (λ g. (g.w ≡ w) × (g.k ≡ k) × (g.n ≡ n)) }
         ensures limits { IfOk result (λ g. IsWithinLimits g.w g.k g.n) }
