@@ -175,8 +175,8 @@ def run(top, shown):
         named = set(re.findall(r"\bg1_\w+", "\n".join(line for example in shown for line in example.text))) & set(needs)
         with open(copy / "crates.txt", "a", encoding="utf-8") as file:
             file.write(f"{TESTS}: {' '.join(sorted(named))}\n")
-        done = subprocess.run(["rt", "try", "--test"], cwd=source.parent, stdin=subprocess.DEVNULL, capture_output=True, text=True,
-                              errors="replace", check=False)
+        done = subprocess.run(["rt", "try", "--test"], cwd=source.parent, stdin=subprocess.DEVNULL, capture_output=True,
+                              text=True, errors="replace", check=False)
     told = {int(number): (became == "ok", in_place(shown, said)) for number, became, said in TOLD.findall(done.stdout)}
     if len(told) != len(shown):
         raise unproved.NotBuilt("rt try refused them:\n" + in_place(shown, done.stdout + done.stderr).strip()[-5000:])
