@@ -32,6 +32,15 @@ impl Limits {
     }
 
     /// The most words of a heap.
+    ///
+    /// # Examples
+    ///
+    /// ```
+    /// use g1_words::Limits;
+    ///
+    /// assert_eq!(rt; Limits::Specified.words(), 1 << 24);
+    /// assert_eq!(rt; Limits::Wide.words(), 1 << 28);
+    /// ```
     pub fn words(self) -> u64
         ensures { result ≡ words_within self }
     {

@@ -32,6 +32,18 @@ impl Words {
     ///
     /// # Errors
     /// `AllocError` if the room for the zeros was refused.
+    ///
+    /// # Examples
+    ///
+    /// ```
+    /// use g1_words::Words;
+    ///
+    /// let words = Words::new(vec![in alloc; 7, 9]?, 14)?;
+    /// assert_eq!(rt; words.len(), 16);
+    /// assert_eq!(rt; words.at(1), 9);
+    /// assert_eq!(rt; words.at(15), 0);
+    /// assert_eq!(rt; words.laid(), [7, 9].as_slice());
+    /// ```
     pub fn new(mut laid: Vec<u64>, zeros: usize) -> Result<Words, AllocError>
         ensures { IfOk result (λ w. (w.items ≡ laid.items ++ replicate zeros 0) × (w.laid ≡ length laid.items)) }
     {
@@ -75,6 +87,15 @@ impl Words {
     }
 
     /// What the word at an address says, read as a header: the object that starts there, if one does.
+    ///
+    /// # Examples
+    ///
+    /// ```
+    /// use g1_words::{Object, Words, header_word};
+    ///
+    /// let words = Words::new(vec![in alloc; header_word(5, 3)]?, 15)?;
+    /// assert_eq!(rt; words.header(0), Object { at: 0, size: 5, refs: 3 });
+    /// ```
     pub fn header(&self, at: u64) -> Object
         ensures value { result ≡ header self.now.items at }
         ensures at { result.at ≡ at }
@@ -87,6 +108,15 @@ impl Words {
     }
 
     /// The words from one address up to another, all of which are in memory.
+    ///
+    /// # Examples
+    ///
+    /// ```
+    /// use g1_words::Words;
+    ///
+    /// let words = Words::new(vec![in alloc; 7, 9, 8]?, 13)?;
+    /// assert_eq!(rt; words.between(1, 3), [9, 8].as_slice());
+    /// ```
     pub fn between(&self, from: usize, to: usize) -> &[u64]
         requires order { from ≤ to }
         requires laid { to ≤ self.now.laid }
@@ -110,6 +140,17 @@ impl Words {
     }
 
     /// Writes a word.
+    ///
+    /// # Examples
+    ///
+    /// ```
+    /// use g1_words::Words;
+    ///
+    /// let mut words = Words::new(Vec::new(alloc), 16)?;
+    /// words.set(4, 7);
+    /// assert_eq!(rt; words.laid(), [0, 0, 0, 0, 7].as_slice());
+    /// assert_eq!(rt; words.len(), 16);
+    /// ```
     pub fn set(&mut self, a: u64, word: u64)
         requires { a < length self.old.items }
         ensures items { self.new.items ≡ slice_set self.old.items a word }
@@ -132,6 +173,19 @@ impl Words {
     }
 
     /// Words of which these are in memory, with so many zeros behind them, for which there is room.
+    ///
+    /// # Examples
+    ///
+    /// ```
+    /// use g1_words::Words;
+    ///
+    /// let words = Words::new(vec![in alloc; 7, 9]?, 14)?;
+    /// let (mut laid, zeros) = words.into_parts();
+    /// laid[1] = 8;
+    /// let words = Words::of_parts(laid, zeros);
+    /// assert_eq!(rt; words.len(), 16);
+    /// assert_eq!(rt; words.at(1), 8);
+    /// ```
     pub fn of_parts(laid: Vec<u64>, zeros: usize) -> Words
         requires { vec_len laid + zeros ≤ vec_capacity laid }
         ensures items { result.items ≡ laid.items ++ replicate zeros 0 }
