@@ -70,6 +70,25 @@ impl Plan {
     }
 
     /// A run for each region of to-space, in the same order.
+    ///
+    /// # Examples
+    ///
+    /// ```
+    /// use g1_layout::{Run, place};
+    /// use g1_testing::image;
+    ///
+    /// // After the object of 12 words region 2 has no room for that of 5.
+    /// let image = image(alloc, "heap 16 4 4
+    ///     root 0
+    ///     root 16
+    ///     region 0 ordinary
+    ///     object 12/0 ..
+    ///     region 1 ordinary
+    ///     object 5/0 ..")?;
+    /// let plan = place(alloc, image.heap(), &[0, 1], &[0, 16])?;
+    /// assert_eq!(rt; plan.runs()[0], Run { region: 2, from: 0, to: 1, end: 12 });
+    /// assert_eq!(rt; plan.runs()[1], Run { region: 3, from: 1, to: 2, end: 5 });
+    /// ```
     pub fn runs(&self) -> &[Run]
         ensures { result.now ≡ self.now.runs }
     {
@@ -91,6 +110,18 @@ impl Plan {
     }
 
     /// The new address of what is at an address: a survivor's place, and any other address itself.
+    ///
+    /// # Examples
+    ///
+    /// ```
+    /// use g1_layout::place;
+    /// use g1_testing::{image, pictures::shared};
+    ///
+    /// let image = image(alloc, shared())?;
+    /// let plan = place(alloc, image.heap(), &[1], &[21, 16])?;
+    /// assert_eq!(rt; plan.forward(16), 34);
+    /// assert_eq!(rt; plan.forward(0), 0);
+    /// ```
     pub fn forward(&self, a: u64) -> u64
         ensures { result ≡ moved_to self.now.survivors self.now.places a }
     {
