@@ -154,6 +154,16 @@ impl<W: Write> ToWriter<W> {
     }
 
     /// The writer itself.
+    ///
+    /// # Examples
+    ///
+    /// ```
+    /// use g1_image::{Sink, ToWriter};
+    ///
+    /// let mut sink = ToWriter::new(Vec::new(alloc));
+    /// sink.write(&[7, 9])?;
+    /// assert_eq!(rt; sink.into_inner().as_slice(), [7, 9].as_slice());
+    /// ```
     pub fn into_inner(self) -> W
         ensures { W.contents result ≡ ⟦<ToWriter<W> as Sink>⟧.written self }
     {
