@@ -42,6 +42,17 @@ impl Model for Plan {
 
 impl Plan {
     /// The regions of the set, rising.
+    ///
+    /// # Examples
+    ///
+    /// ```
+    /// use g1_layout::place;
+    /// use g1_testing::{image, pictures::shared};
+    ///
+    /// let image = image(alloc, shared())?;
+    /// let plan = place(alloc, image.heap(), &[1], &[21, 16])?;
+    /// assert_eq!(rt; plan.set(), [1].as_slice());
+    /// ```
     pub fn set(&self) -> &[u32]
         ensures { result.now ≡ self.now.set }
     {
@@ -49,6 +60,17 @@ impl Plan {
     }
 
     /// The survivors' addresses, in the order in which they are found.
+    ///
+    /// # Examples
+    ///
+    /// ```
+    /// use g1_layout::place;
+    /// use g1_testing::{image, pictures::shared};
+    ///
+    /// let image = image(alloc, shared())?;
+    /// let plan = place(alloc, image.heap(), &[1], &[21, 16])?;
+    /// assert_eq!(rt; plan.survivors(), [21, 16].as_slice());
+    /// ```
     pub fn survivors(&self) -> &[u64]
         ensures { result.now ≡ self.now.survivors }
     {
@@ -56,6 +78,17 @@ impl Plan {
     }
 
     /// The survivors' new addresses, in the same order.
+    ///
+    /// # Examples
+    ///
+    /// ```
+    /// use g1_layout::place;
+    /// use g1_testing::{image, pictures::shared};
+    ///
+    /// let image = image(alloc, shared())?;
+    /// let plan = place(alloc, image.heap(), &[1], &[21, 16])?;
+    /// assert_eq!(rt; plan.places(), [32, 34].as_slice());
+    /// ```
     pub fn places(&self) -> &[u64]
         ensures { result.now ≡ self.now.places }
     {
@@ -63,6 +96,17 @@ impl Plan {
     }
 
     /// The regions that survivors are placed in, rising.
+    ///
+    /// # Examples
+    ///
+    /// ```
+    /// use g1_layout::place;
+    /// use g1_testing::{image, pictures::shared};
+    ///
+    /// let image = image(alloc, shared())?;
+    /// let plan = place(alloc, image.heap(), &[1], &[21, 16])?;
+    /// assert_eq!(rt; plan.to_space(), [2].as_slice());
+    /// ```
     pub fn to_space(&self) -> &[u32]
         ensures { result.now ≡ self.now.to_space }
     {
@@ -96,6 +140,17 @@ impl Plan {
     }
 
     /// The number of the survivors' words, headers included.
+    ///
+    /// # Examples
+    ///
+    /// ```
+    /// use g1_layout::place;
+    /// use g1_testing::{image, pictures::shared};
+    ///
+    /// let image = image(alloc, shared())?;
+    /// let plan = place(alloc, image.heap(), &[1], &[21, 16])?;
+    /// assert_eq!(rt; plan.words(), 7);
+    /// ```
     pub fn words(&self) -> u64
         ensures { result ≡ self.now.words }
     {
@@ -103,6 +158,17 @@ impl Plan {
     }
 
     /// The number of regions of to-space.
+    ///
+    /// # Examples
+    ///
+    /// ```
+    /// use g1_layout::place;
+    /// use g1_testing::{image, pictures::shared};
+    ///
+    /// let image = image(alloc, shared())?;
+    /// let plan = place(alloc, image.heap(), &[1], &[21, 16])?;
+    /// assert_eq!(rt; plan.need(), 1);
+    /// ```
     pub fn need(&self) -> u64
         ensures { result ≡ length self.now.to_space }
     {
