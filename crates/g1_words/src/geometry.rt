@@ -137,6 +137,15 @@ impl Geometry {
     }
 
     /// The words of a region.
+    ///
+    /// # Examples
+    ///
+    /// ```
+    /// use g1_words::Geometry;
+    ///
+    /// let geometry = Geometry::new(32, 8, 6)?;
+    /// assert_eq!(rt; geometry.region_words(), 32);
+    /// ```
     pub fn region_words(&self) -> u64
         ensures value { result ≡ self.now.w }
         ensures limits { IsWithinBounds self.now.w self.now.k self.now.n }
@@ -145,6 +154,15 @@ impl Geometry {
     }
 
     /// The words of a card.
+    ///
+    /// # Examples
+    ///
+    /// ```
+    /// use g1_words::Geometry;
+    ///
+    /// let geometry = Geometry::new(32, 8, 6)?;
+    /// assert_eq!(rt; geometry.card_words(), 8);
+    /// ```
     pub fn card_words(&self) -> u64
         ensures value { result ≡ self.now.k }
         ensures limits { IsWithinBounds self.now.w self.now.k self.now.n }
@@ -153,6 +171,15 @@ impl Geometry {
     }
 
     /// The number of regions.
+    ///
+    /// # Examples
+    ///
+    /// ```
+    /// use g1_words::Geometry;
+    ///
+    /// let geometry = Geometry::new(32, 8, 6)?;
+    /// assert_eq!(rt; geometry.regions(), 6);
+    /// ```
     pub fn regions(&self) -> u64
         ensures value { result ≡ self.now.n }
         ensures limits { IsWithinBounds self.now.w self.now.k self.now.n }
@@ -161,6 +188,15 @@ impl Geometry {
     }
 
     /// The number of words of the heap.
+    ///
+    /// # Examples
+    ///
+    /// ```
+    /// use g1_words::Geometry;
+    ///
+    /// let geometry = Geometry::new(32, 8, 6)?;
+    /// assert_eq!(rt; geometry.words(), 192);
+    /// ```
     pub fn words(&self) -> u64
         ensures value { result ≡ self.now.n * self.now.w }
         ensures limits { IsWithinBounds self.now.w self.now.k self.now.n }
@@ -205,6 +241,15 @@ impl Geometry {
     }
 
     /// The number of words of this many regions.
+    ///
+    /// # Examples
+    ///
+    /// ```
+    /// use g1_words::Geometry;
+    ///
+    /// let geometry = Geometry::new(32, 8, 6)?;
+    /// assert_eq!(rt; geometry.words_of(10), 320);
+    /// ```
     pub fn words_of(&self, regions: u64) -> u64
         requires { regions * self.now.w < 2 ^ 64 }
         ensures value { result ≡ regions * self.now.w }
@@ -214,6 +259,15 @@ impl Geometry {
     }
 
     /// The address of the first word of a card, also of one past the heap's last.
+    ///
+    /// # Examples
+    ///
+    /// ```
+    /// use g1_words::Geometry;
+    ///
+    /// let geometry = Geometry::new(32, 8, 6)?;
+    /// assert_eq!(rt; geometry.card_start(4), 32);
+    /// ```
     pub fn card_start(&self, card: u32) -> u64
         ensures value { result ≡ card * self.now.k }
         ensures limits { IsWithinBounds self.now.w self.now.k self.now.n }
@@ -240,6 +294,15 @@ impl Geometry {
     }
 
     /// The most words of an object that is not humongous, the header included.
+    ///
+    /// # Examples
+    ///
+    /// ```
+    /// use g1_words::Geometry;
+    ///
+    /// let geometry = Geometry::new(16, 4, 4)?;
+    /// assert_eq!(rt; geometry.most_ordinary(), 12);
+    /// ```
     pub fn most_ordinary(&self) -> u64
         ensures { result ≡ 3 * self.now.w / 4 }
     {

@@ -22,6 +22,15 @@ pub enum Limits {
 
 impl Limits {
     /// The most words of a region.
+    ///
+    /// # Examples
+    ///
+    /// ```
+    /// use g1_words::Limits;
+    ///
+    /// assert_eq!(rt; Limits::Specified.region_words(), 65_536);
+    /// assert_eq!(rt; Limits::Wide.region_words(), 1 << 22);
+    /// ```
     pub fn region_words(self) -> u64
         ensures { result ≡ region_words_within self }
     {

@@ -53,6 +53,15 @@ impl Marks {
     ///
     /// # Errors
     /// `AllocError` if the allocation was refused.
+    ///
+    /// # Examples
+    ///
+    /// ```
+    /// use g1_words::Marks;
+    ///
+    /// let marks = Marks::with_capacity(alloc, 128)?;
+    /// assert_eq!(rt; marks.len(), 0);
+    /// ```
     pub fn with_capacity(alloc: Global, count: usize) -> Result<Marks, AllocError>
         ensures { IfOk result (λ m. m ≡ []) }
     {
@@ -63,6 +72,14 @@ impl Marks {
     }
 
     /// How many marks there are.
+    ///
+    /// # Examples
+    ///
+    /// ```
+    /// use g1_words::Marks;
+    ///
+    /// assert_eq!(rt; Marks::none(alloc, 100)?.len(), 100);
+    /// ```
     pub fn len(&self) -> usize
         ensures { result ≡ length self.now }
     {
@@ -70,6 +87,17 @@ impl Marks {
     }
 
     /// Returns whether a mark is set.
+    ///
+    /// # Examples
+    ///
+    /// ```
+    /// use g1_words::Marks;
+    ///
+    /// let mut marks = Marks::none(alloc, 100)?;
+    /// marks.set_each(&[7, 70]);
+    /// assert!(rt; marks.is_set(70));
+    /// assert!(rt; !marks.is_set(71));
+    /// ```
     pub fn is_set(&self, at: usize) -> bool
         requires { at < length self.now }
         ensures { result ≡ slice_index_or self.now at false }
@@ -96,6 +124,18 @@ impl Marks {
     }
 
     /// Sets a mark.
+    ///
+    /// # Examples
+    ///
+    /// ```
+    /// use g1_words::Marks;
+    ///
+    /// let mut marks = Marks::none(alloc, 100)?;
+    /// marks.set(70);
+    /// marks.set(7);
+    /// assert_eq!(rt; marks.next_set(0), Some(7));
+    /// assert_eq!(rt; marks.next_set(8), Some(70));
+    /// ```
     pub fn set(&mut self, at: usize)
         requires { at < length self.old }
         ensures { self.new ≡ set self.old at true }

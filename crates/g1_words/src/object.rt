@@ -97,6 +97,15 @@ pub fn slots<'a>(words: &'a [u64], object: &Object) -> &'a [u64]
 }
 
 /// The data words of an object among these words, by number.
+///
+/// # Examples
+///
+/// ```
+/// use g1_words::{data, header, header_word};
+///
+/// let words = [header_word(3, 0), 1, 2];
+/// assert_eq!(rt; data(&words, &header(&words, 0)), [1, 2].as_slice());
+/// ```
 pub fn data<'a>(words: &'a [u64], object: &Object) -> &'a [u64]
     requires refs { object.now.refs < object.now.size }
     requires within { object.now.at + object.now.size ≤ length words.now }

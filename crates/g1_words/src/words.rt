@@ -55,6 +55,17 @@ impl Words {
     ///
     /// # Errors
     /// `AllocError` if a request for memory was refused.
+    ///
+    /// # Examples
+    ///
+    /// ```
+    /// use g1_words::Words;
+    ///
+    /// let mut words = Words::new(vec![in alloc; 7, 9]?, 14)?;
+    /// let copied = words.copy(alloc)?;
+    /// words.set(1, 8);
+    /// assert_eq!(rt; copied.at(1), 9);
+    /// ```
     pub fn copy(&self, alloc: Global) -> Result<Words, AllocError>
         ensures { IfOk result (λ w. w ≡ self.now) }
     {
@@ -62,6 +73,15 @@ impl Words {
     }
 
     /// How many words there are.
+    ///
+    /// # Examples
+    ///
+    /// ```
+    /// use g1_words::Words;
+    ///
+    /// let words = Words::new(vec![in alloc; 7, 9]?, 14)?;
+    /// assert_eq!(rt; words.len(), 16);
+    /// ```
     pub fn len(&self) -> usize
         ensures { result ≡ length self.now.items }
     {
@@ -69,6 +89,15 @@ impl Words {
     }
 
     /// The words in memory. All behind them are 0.
+    ///
+    /// # Examples
+    ///
+    /// ```
+    /// use g1_words::Words;
+    ///
+    /// let words = Words::new(vec![in alloc; 7, 9]?, 14)?;
+    /// assert_eq!(rt; words.laid(), [7, 9].as_slice());
+    /// ```
     pub fn laid(&self) -> &[u64]
         ensures many { length result.now ≡ self.now.laid }
         ensures within { self.now.laid ≤ length self.now.items }
@@ -79,6 +108,16 @@ impl Words {
     }
 
     /// The word at an address.
+    ///
+    /// # Examples
+    ///
+    /// ```
+    /// use g1_words::Words;
+    ///
+    /// let words = Words::new(vec![in alloc; 7, 9]?, 14)?;
+    /// assert_eq!(rt; words.at(1), 9);
+    /// assert_eq!(rt; words.at(2), 0);
+    /// ```
     pub fn at(&self, a: u64) -> u64
         ensures { result ≡ slice_index self.now.items a }
     {
@@ -126,6 +165,16 @@ impl Words {
     }
 
     /// Lays the words up to an address.
+    ///
+    /// # Examples
+    ///
+    /// ```
+    /// use g1_words::Words;
+    ///
+    /// let mut words = Words::new(vec![in alloc; 7, 9]?, 14)?;
+    /// words.lay_to(4);
+    /// assert_eq!(rt; words.laid(), [7, 9, 0, 0].as_slice());
+    /// ```
     pub fn lay_to(&mut self, to: usize)
         requires { to ≤ length self.old.items }
         ensures items { self.new.items ≡ self.old.items }
@@ -163,6 +212,17 @@ impl Words {
     }
 
     /// The words in memory, and how many zeros are behind them.
+    ///
+    /// # Examples
+    ///
+    /// ```
+    /// use g1_words::Words;
+    ///
+    /// let words = Words::new(vec![in alloc; 7, 9]?, 14)?;
+    /// let (laid, zeros) = words.into_parts();
+    /// assert_eq!(rt; laid.as_slice(), [7, 9].as_slice());
+    /// assert_eq!(rt; zeros, 14);
+    /// ```
     pub fn into_parts(self) -> (Vec<u64>, usize)
         ensures items { self.items ≡ result.0.items ++ replicate result.1 0 }
         ensures laid { self.laid ≡ length result.0.items }
