@@ -4,7 +4,7 @@
 Runs the examples in the doc comments of all crates, or of these, as tests and without any proof. An example is a block
 between two lines ``` in the doc comment of a `pub fn`. A block that is marked, as ```text, is none. The block is the body of a
 test: `rt` is its HostRuntime, `alloc` its allocator, and `?` takes any error that has Debug. The examples are one crate of tests
-in a copy of the repository, which `rt try` compiles and runs in about a minute. It needs `rt`, the kit's command.
+in a copy of the repository, which `rt try` compiles and runs in a minute or two. It needs `rt`, the kit's command.
 
 For each example that fails there is a line 'FILE:LINE: FUNCTION failed', and below it what the test said. The last line is
 'N passed, M failed'.
@@ -156,10 +156,8 @@ def count_public(top, found):
 
 def in_place(shown, said):
     """What `rt try` said of the tests, with the places of the examples."""
-    def place(found):
-        example = shown[int(found[1])]
-        return f"{example.call.file}:{example.line + int(found[2]) - HEAD.count(chr(10))}"
-    return PLACE.sub(place, said)
+    head = HEAD.count("\n")
+    return PLACE.sub(lambda found: f"{shown[int(found[1])].call.file}:{shown[int(found[1])].line + int(found[2]) - head}", said)
 
 
 def run(top, shown):
