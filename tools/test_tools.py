@@ -3,6 +3,7 @@
 
 Pages with a wrong output, a command that fails, a file left behind or a picture that changed have to fail. The examples
 have to be those that examples/make.py makes.
+Examples of doc comments are found with their functions, and no other block is.
 Tables of definitions and of the map that leave something out, or name what is not there, have to fail, and so does a definition
 that no clause cites; those of the repository have to pass.
 A script that takes long has to say how far it is, in place on a terminal.
@@ -28,6 +29,7 @@ sys.path[:0] = [str(TOP / "tools"), str(TOP / "tools" / "lib")]
 
 import check_pages  # noqa: E402
 import check_tables  # noqa: E402
+import doc_examples  # noqa: E402
 import judge_opponent  # noqa: E402
 import progress  # noqa: E402
 import real_traces  # noqa: E402
@@ -573,6 +575,76 @@ class Planted(unittest.TestCase):
         self.assertEqual(self.run_in(noticed), "trace 1: status 8 ")
 
 
+class DocExamples(unittest.TestCase):
+    """The examples in the doc comments of a small file."""
+
+    SOURCE = """//! ```
+//! of_the_file();
+//! ```
+
+/// Adds.
+///
+/// ```
+/// assert_eq!(rt; add(1, 2), 3);
+///
+/// assert_eq!(rt; add(2, 2), 4);
+/// ```
+#[inline]
+pub fn add(a: u64, b: u64) -> u64 {
+    a + b
+}
+
+impl<'a, T: Iterator<Item = &'a u64>> Sum<T> {
+    /// ```text
+    /// no example
+    /// ```
+    pub const fn new(items: T) -> Sum<T> {
+    }
+
+    /// ```
+    /// let sum = Sum::of(&[1, 2]);
+    /// ```
+    ///
+    /// ```
+    /// let sum = Sum::of(&[]);
+    /// ```
+    pub fn of(items: T) -> Sum<T> {
+    }
+}
+
+/// ```
+/// of_a_private_one();
+/// ```
+fn other() {}
+"""
+
+    def setUp(self):
+        self.calls = list(doc_examples.calls("crates/g1_a/src/sums.rt", self.SOURCE))
+
+    def test_each_example_has_its_place_and_its_lines(self):
+        found = [example for call in self.calls for example in doc_examples.examples(call)]
+        self.assertEqual([example.place() for example in found], [
+            "crates/g1_a/src/sums.rt:7: g1_a::add", "crates/g1_a/src/sums.rt:24: g1_a::Sum::of",
+            "crates/g1_a/src/sums.rt:28: g1_a::Sum::of"])
+        self.assertEqual(found[0].text, ["assert_eq!(rt; add(1, 2), 3);", "", "assert_eq!(rt; add(2, 2), 4);"])
+        self.assertIn("fn g1_a_sum_of(rt: HostRuntime)", found[1].test())
+
+    def test_a_block_without_an_end_is_refused(self):
+        with self.assertRaises(doc_examples.unproved.NotBuilt):
+            list(doc_examples.examples(self.calls[0]._replace(comment=[(1, "```"), (2, "let a = 1;")])))
+
+    def test_a_place_in_a_test_is_that_in_the_source(self):
+        shown = list(doc_examples.examples(self.calls[0]))
+        line = shown[0].test().splitlines().index("    assert_eq!(rt; add(2, 2), 4);") + 1
+        self.assertEqual(doc_examples.in_place(shown, f"src/e0.rt:{line}:5: no"), "crates/g1_a/src/sums.rt:10:5: no")
+
+    def test_a_public_call_is_named_or_of_a_type_that_is(self):
+        root = "mod sums;\npub use sums::{\n    Sum, less,\n};\npub use others::add;\n"
+        public = [call.title() for call in self.calls if doc_examples.is_public(call, root)]
+        self.assertEqual(public, ["g1_a::Sum::new", "g1_a::Sum::of"])
+        self.assertTrue(doc_examples.is_public(self.calls[0], "pub use sums::add;\n"))
+
+
 class SignsOfLife(unittest.TestCase):
     """What a script of two cases and of four requests each says while it works, a line each tenth of a second."""
 
@@ -626,8 +698,8 @@ print("the end")
 class Scripts(unittest.TestCase):
     """All scripts, in a copy where no program is built, so that none has all that it wants."""
 
-    WANT_NOTHING = ("build_judge.py", "repeated_lemmas.py", "test_bench.py", "test_build.py", "test_hprof.py", "test_images.py",
-                    "test_planted.py", "test_release.py", "test_repeated.py", "test_tools.py")
+    WANT_NOTHING = ("build_judge.py", "doc_examples.py", "repeated_lemmas.py", "test_bench.py", "test_build.py", "test_hprof.py",
+                    "test_images.py", "test_planted.py", "test_release.py", "test_repeated.py", "test_tools.py")
 
     @classmethod
     def setUpClass(cls):

@@ -19,6 +19,22 @@ pub struct Purchase {
 
 /// The longest beginning of an order that the budget pays, in a pause with `d` dirty cards. Nothing is
 /// taken if not even the pause alone is within the budget: the total is then the cost of that pause.
+///
+/// # Examples
+///
+/// ```
+/// use g1_choose::{Candidate, Cost, buy};
+///
+/// let order = [
+///     Candidate { region: 0, cost: 16, garbage: 16 },
+///     Candidate { region: 1, cost: 16, garbage: 16 },
+///     Candidate { region: 2, cost: 9, garbage: 8 },
+/// ];
+/// let prices = Cost { fixed: 10, dirty: 1, card: 1, byte: 1 };
+/// assert_eq!(rt; buy(&order, &prices, 0, 25).taken, 0);
+/// let bought = buy(&order, &prices, 0, 50);
+/// assert_eq!(rt; (bought.taken, bought.total), (2, 42));
+/// ```
 pub fn buy(order: &[Candidate], parameters: &Cost, d: u64, budget: u64) -> Purchase
     requires { IsCost parameters.now }
     ensures { IsPurchase parameters.now d budget order.now result }
@@ -44,6 +60,18 @@ pub fn buy(order: &[Candidate], parameters: &Cost, d: u64, budget: u64) -> Purch
 /// # Errors
 ///
 /// `Fault::Memory` alone.
+///
+/// # Examples
+///
+/// ```
+/// use g1_choose::{Candidate, rising_regions};
+///
+/// let taken = [
+///     Candidate { region: 2, cost: 9, garbage: 16 },
+///     Candidate { region: 0, cost: 16, garbage: 16 },
+/// ];
+/// assert_eq!(rt; rising_regions(alloc, &taken)?.as_slice(), [0, 2].as_slice());
+/// ```
 pub fn rising_regions(alloc: Global, candidates: &[Candidate]) -> Result<Vec<u32>, Fault>
     ensures ok { IfOk result (λ v. AreRegionsOf candidates.now v.items) }
     ensures memory { IfErr result (λ e. e ≡ Fault.Memory) }

@@ -76,6 +76,30 @@ fn candidates(alloc: Global, pricing: &Pricing<'_>) -> Result<Vec<Candidate>, Al
 /// # Errors
 ///
 /// `Fault::Memory` alone.
+///
+/// # Examples
+///
+/// ```
+/// use g1_choose::{Candidate, Cost, order};
+/// use g1_testing::image;
+///
+/// // A root references the object at 0 alone.
+/// let image = image(alloc, "heap 16 4 4
+///     root 0
+///     region 0 ordinary
+///     object 2/0 1
+///     object 2/0 1
+///     region 1 ordinary
+///     object 4/0 1 2 3")?;
+/// let live = [16, 0, 0, 0];
+/// let prices = Cost { fixed: 10, dirty: 1, card: 1, byte: 1 };
+/// let order = order(alloc, image.heap(), image.remembered(), &live, &prices)?;
+/// let expected = [
+///     Candidate { region: 1, cost: 0, garbage: 32 },
+///     Candidate { region: 0, cost: 16, garbage: 16 },
+/// ];
+/// assert_eq!(rt; order.as_slice(), expected.as_slice());
+/// ```
 pub fn order(
     alloc: Global,
     heap: &Heap,
@@ -120,6 +144,22 @@ pub struct Chosen {
 /// # Errors
 ///
 /// `Fault::Memory` alone.
+///
+/// # Examples
+///
+/// ```
+/// use g1_choose::{Cost, choose};
+/// use g1_testing::{image, pictures::shared};
+///
+/// // All objects of region 1 are live, and none of region 0 is.
+/// let image = image(alloc, shared())?;
+/// let live = [0, 56, 0, 0];
+/// let prices = Cost { fixed: 10, dirty: 1, card: 1, byte: 1 };
+/// for (budget, regions) in [(9, [].as_slice()), (10, [0].as_slice())] {
+///     let found = choose(alloc, image.heap(), 0, image.remembered(), &live, &prices, budget)?;
+///     assert_eq!(rt; found.as_slice(), regions);
+/// }
+/// ```
 pub fn choose(
     alloc: Global,
     heap: &Heap,
@@ -144,6 +184,21 @@ pub fn choose(
 /// # Errors
 ///
 /// `Fault::Memory` alone.
+///
+/// # Examples
+///
+/// ```
+/// use g1_choose::{Cost, choose_in_order};
+/// use g1_testing::{image, pictures::shared};
+///
+/// let image = image(alloc, shared())?;
+/// let live = [0, 56, 0, 0];
+/// let prices = Cost { fixed: 10, dirty: 1, card: 1, byte: 1 };
+/// let chosen =
+///     choose_in_order(alloc, image.heap(), 0, image.remembered(), &live, &prices, 9)?;
+/// assert_eq!(rt; chosen.order[0].region, 0);
+/// assert_eq!(rt; chosen.taken, 0);
+/// ```
 pub fn choose_in_order(
     alloc: Global,
     heap: &Heap,

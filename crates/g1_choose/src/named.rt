@@ -35,6 +35,20 @@ fn check(alloc: Global, heap: &Heap, list: &[u32]) -> Result<(), Fault>
 ///
 /// `Fault::Set` of the first region of the list that is out of range, isn't ordinary, is pinned, or
 /// is earlier in the list; else `Fault::Memory` alone.
+///
+/// # Examples
+///
+/// ```
+/// use g1_choose::given;
+/// use g1_testing::{image, pictures::shared};
+/// use g1_words::Fault;
+///
+/// let image = image(alloc, shared())?;
+/// let set = given(alloc, image.heap(), &[1, 0])?;
+/// assert_eq!(rt; set.as_slice(), [0, 1].as_slice());
+/// let twice = given(alloc, image.heap(), &[1, 1]).err();
+/// assert_eq!(rt; twice, Some(Fault::Set(1)));
+/// ```
 pub fn given(alloc: Global, heap: &Heap, list: &[u32]) -> Result<Vec<u32>, Fault>
     ensures rising { IfOk result (λ v. v.items ≡ filter (has list.now) (regions heap.now)) }
     ensures accepted { OnOk result (AreTakeable heap.now list.now) }

@@ -68,6 +68,16 @@ fn with_log(alloc: Global, image: &Image, log: IndexSet<u32>) -> Result<Image, A
 /// # Errors
 ///
 /// `AllocError` if a request for memory was refused.
+///
+/// # Examples
+///
+/// ```
+/// use g1_image::{copy, encode};
+/// use g1_testing::{image, pictures::shared, text};
+///
+/// let copied = copy(alloc, &image(alloc, shared())?)?;
+/// assert!(rt; encode(alloc, &copied)? == text(alloc, shared())?);
+/// ```
 pub fn copy(alloc: Global, image: &Image) -> Result<Image, AllocError>
     ensures { IfOk result (λ i. i ≡ image.now) }
 {
@@ -106,6 +116,19 @@ fn are_used(heap: &Heap, cards: &[u32]) -> bool
 /// # Errors
 ///
 /// `AllocError` if a request for memory was refused.
+///
+/// # Examples
+///
+/// ```
+/// use g1_image::with_dirty;
+/// use g1_testing::{image, pictures::shared};
+///
+/// // Regions 0 and 1 are used: they have the cards 0 to 7.
+/// let image = image(alloc, shared())?;
+/// let dirtied = with_dirty(alloc, &image, &[5, 0, 5])?.ok_or("a card of no used region")?;
+/// assert_eq!(rt; dirtied.log().as_slice(), [5, 0].as_slice());
+/// assert!(rt; with_dirty(alloc, &image, &[8])?.is_none());
+/// ```
 pub fn with_dirty(alloc: Global, image: &Image, cards: &[u32]) -> Result<Option<Image>, AllocError>
     ensures dirtied { IfOk result (λ r. IfSome r (λ i. i ≡ dirtied image.now cards.now)) }
     ensures used { IfOk result (λ r. IfSome r (λ i. All (IsUsedCard image.now.heap) cards.now)) }

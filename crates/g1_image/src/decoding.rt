@@ -142,6 +142,20 @@ fn read_parts<S: Source>(
 /// # Errors
 ///
 /// `Fault::Memory`, and the fault of the bytes.
+///
+/// # Examples
+///
+/// ```
+/// use g1_image::decode;
+/// use g1_testing::{pictures::one_object, text};
+/// use g1_words::Fault;
+///
+/// let bytes = text(alloc, one_object())?;
+/// let image = decode(alloc, &bytes)?;
+/// assert_eq!(rt; image.heap().roots(), [17].as_slice());
+/// let cut = decode(alloc, &bytes[..bytes.len() - 1]).err();
+/// assert_eq!(rt; cut, Some(Fault::Short));
+/// ```
 pub fn decode(alloc: Global, bytes: &[u8]) -> Result<Image, Fault>
     ensures ok { IfOk result (λ i. IsTextOf bytes.now i) }
     ensures err { IfErr result (MayFail bytes.now) }
@@ -154,6 +168,19 @@ pub fn decode(alloc: Global, bytes: &[u8]) -> Result<Image, Fault>
 /// # Errors
 ///
 /// Those of `decode`.
+///
+/// # Examples
+///
+/// ```
+/// use g1_image::{decode, decode_within};
+/// use g1_testing::text;
+/// use g1_words::{Fault, Limits};
+///
+/// let bytes = text(alloc, "heap 131072 64 2")?;
+/// assert_eq!(rt; decode(alloc, &bytes).err(), Some(Fault::Geometry));
+/// let image = decode_within(alloc, Limits::Wide, &bytes)?;
+/// assert_eq!(rt; image.heap().words().len(), 262_144);
+/// ```
 pub fn decode_within(alloc: Global, limits: Limits, bytes: &[u8]) -> Result<Image, Fault>
     ensures ok { IfOk result (λ i. IsTextWithin limits bytes.now i) }
     ensures err { IfErr result (MayFailWithin limits bytes.now) }
@@ -169,6 +196,23 @@ pub fn decode_within(alloc: Global, limits: Limits, bytes: &[u8]) -> Result<Imag
 /// # Errors
 ///
 /// Those of `decode`, except `Fault::Reference`.
+///
+/// # Examples
+///
+/// ```
+/// use g1_image::{decode, decode_stale};
+/// use g1_testing::text;
+/// use g1_words::{Fault, Limits, Place};
+///
+/// // No object starts at 5.
+/// let bytes = text(alloc, "heap 16 4 4
+///     root 5")?;
+/// let refused = decode(alloc, &bytes).err();
+/// assert_eq!(rt; refused, Some(Fault::Reference(Place::Root(0))));
+/// let (image, stale) = decode_stale(alloc, Limits::Specified, &bytes)?;
+/// assert_eq!(rt; image.heap().roots(), [0].as_slice());
+/// assert_eq!(rt; stale.roots.as_slice(), [(0, 6)].as_slice());
+/// ```
 pub fn decode_stale(alloc: Global, limits: Limits, bytes: &[u8]) -> Result<(Image, Stale), Fault>
     ensures ok { IfOk result (λ x. IsTextWithout limits bytes.now x.0 x.1.roots.items x.1.slots.items) }
     ensures image { IfOk result (λ x. IsImage x.0) }
@@ -187,6 +231,17 @@ pub fn decode_stale(alloc: Global, limits: Limits, bytes: &[u8]) -> Result<(Imag
 /// # Errors
 ///
 /// `Fault::Device(Device::Input)` if a read failed, `Fault::Memory`, and the fault of the bytes.
+///
+/// # Examples
+///
+/// ```
+/// use g1_image::{FromReader, read};
+/// use g1_testing::{pictures::one_object, text};
+///
+/// let bytes = text(alloc, one_object())?;
+/// let image = read(alloc, &mut FromReader::new(bytes.as_slice()))?;
+/// assert_eq!(rt; image.heap().roots(), [17].as_slice());
+/// ```
 pub fn read<S: Source>(alloc: Global, source: &mut S) -> Result<Image, Fault>
     ensures ok { IfOk result (λ i. HoldsOfLeft (S.left source.old) (λ xs. IsTextOf xs i)) }
     ensures err { IfErr result (λ e. (e ≡ Fault.Device Device.Input) ⊎ HoldsOfLeft (S.left source.old) (λ xs. MayFail xs e)) }
@@ -201,6 +256,19 @@ pub fn read<S: Source>(alloc: Global, source: &mut S) -> Result<Image, Fault>
 /// # Errors
 ///
 /// Those of `read`.
+///
+/// # Examples
+///
+/// ```
+/// use g1_image::{FromReader, read_within};
+/// use g1_testing::text;
+/// use g1_words::Limits;
+///
+/// let bytes = text(alloc, "heap 131072 64 2")?;
+/// let mut source = FromReader::new(bytes.as_slice());
+/// let image = read_within(alloc, Limits::Wide, &mut source)?;
+/// assert_eq!(rt; image.heap().words().len(), 262_144);
+/// ```
 pub fn read_within<S: Source>(alloc: Global, limits: Limits, source: &mut S) -> Result<Image, Fault>
     ensures ok { IfOk result (λ i. HoldsOfLeft (S.left source.old) (λ xs. IsTextWithin limits xs i)) }
     ensures err { IfErr result (λ e. (e ≡ Fault.Device Device.Input) ⊎ HoldsOfLeft (S.left source.old) (λ xs. MayFailWithin limits xs e)) }
@@ -217,6 +285,23 @@ pub fn read_within<S: Source>(alloc: Global, limits: Limits, source: &mut S) -> 
 /// # Errors
 ///
 /// Those of `read`, except `Fault::Reference`.
+///
+/// # Examples
+///
+/// ```
+/// use g1_image::{FromReader, read_stale};
+/// use g1_testing::text;
+/// use g1_words::Limits;
+///
+/// // No object starts at 16, which the slot at 1 references.
+/// let bytes = text(alloc, "heap 16 4 4
+///     region 0 ordinary
+///     object 2/1 16")?;
+/// let mut source = FromReader::new(bytes.as_slice());
+/// let (image, stale) = read_stale(alloc, Limits::Specified, &mut source)?;
+/// assert_eq!(rt; image.heap().words().at(1), 0);
+/// assert_eq!(rt; stale.slots.as_slice(), [(1, 17)].as_slice());
+/// ```
 pub fn read_stale<S: Source>(
     alloc: Global,
     limits: Limits,
@@ -240,6 +325,17 @@ pub fn read_stale<S: Source>(
 /// # Errors
 ///
 /// Those of `read`.
+///
+/// # Examples
+///
+/// ```
+/// use g1_image::{FromReader, read_by};
+/// use g1_testing::{pictures::shared, text};
+///
+/// let bytes = text(alloc, shared())?;
+/// let image = read_by(&rt, alloc, &mut FromReader::new(bytes.as_slice()), 8)?;
+/// assert_eq!(rt; image.heap().roots(), [22, 17].as_slice());
+/// ```
 pub fn read_by<S: Source>(
     rt: &(impl Threads + Sync),
     alloc: Global,
@@ -259,6 +355,19 @@ pub fn read_by<S: Source>(
 /// # Errors
 ///
 /// Those of `read`.
+///
+/// # Examples
+///
+/// ```
+/// use g1_image::{FromReader, read_by_within};
+/// use g1_testing::text;
+/// use g1_words::Limits;
+///
+/// let bytes = text(alloc, "heap 131072 64 2")?;
+/// let mut source = FromReader::new(bytes.as_slice());
+/// let image = read_by_within(&rt, alloc, Limits::Wide, &mut source, 8)?;
+/// assert_eq!(rt; image.heap().words().len(), 262_144);
+/// ```
 pub fn read_by_within<S: Source>(
     rt: &(impl Threads + Sync),
     alloc: Global,

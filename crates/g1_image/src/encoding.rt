@@ -46,6 +46,17 @@ fn send_used<S: Sink>(
 ///
 /// `Fault::Memory`: nothing was written. `Fault::Device(Device::Output)` if a write failed: a
 /// beginning of the text was written.
+///
+/// # Examples
+///
+/// ```
+/// use g1_image::{ToWriter, write};
+/// use g1_testing::{image, pictures::shared, text};
+///
+/// let mut sink = ToWriter::new(Vec::new(alloc));
+/// write(alloc, &image(alloc, shared())?, &mut sink)?;
+/// assert!(rt; sink.into_inner() == text(alloc, shared())?);
+/// ```
 pub fn write<S: Sink>(alloc: Global, image: &Image, sink: &mut S) -> Result<(), Fault>
     ensures text { (text : List ℕ) × IsTextIn Version.Two text image.now × Writes text (S.written sink.old) (S.written sink.new) result }
     ensures mark { S.failed sink.new ≡ output_mark (S.failed sink.old) result }
@@ -68,6 +79,16 @@ pub fn write<S: Sink>(alloc: Global, image: &Image, sink: &mut S) -> Result<(), 
 /// # Errors
 ///
 /// `Fault::Memory` alone.
+///
+/// # Examples
+///
+/// ```
+/// use g1_image::encode;
+/// use g1_testing::{image, pictures::shared, text};
+///
+/// let bytes = encode(alloc, &image(alloc, shared())?)?;
+/// assert!(rt; bytes == text(alloc, shared())?);
+/// ```
 pub fn encode(alloc: Global, image: &Image) -> Result<Vec<u8>, Fault>
     ensures ok { IfOk result (λ v. IsTextIn Version.Two v.items image.now) }
     ensures err { IfErr result (λ e. e ≡ Fault.Memory) }

@@ -77,6 +77,28 @@ fn push_parts(out: &mut Vec<u8>, parts: &FileParts<'_>) -> Result<(), AllocError
 /// # Errors
 ///
 /// `AllocError` if a growth was refused.
+///
+/// # Examples
+///
+/// ```
+/// use g1_image::{FileParts, decode, encode_parts};
+/// use g1_testing::{image, pictures::one_object};
+/// use g1_words::{Fault, Place, header_word};
+///
+/// // As the picture, but its root references 18, where no object starts.
+/// let image = image(alloc, one_object())?;
+/// let parts = FileParts {
+///     geometry: image.heap().geometry(),
+///     current: None,
+///     regions: image.heap().regions(),
+///     roots: &[19],
+///     log: &[],
+///     remembered: image.remembered(),
+/// };
+/// let bytes = encode_parts(alloc, &parts, &[header_word(4, 1), 0, 7, 9])?;
+/// let refused = decode(alloc, &bytes).err();
+/// assert_eq!(rt; refused, Some(Fault::Reference(Place::Root(0))));
+/// ```
 pub fn encode_parts(
     alloc: Global,
     parts: &FileParts<'_>,

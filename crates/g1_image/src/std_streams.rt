@@ -51,6 +51,19 @@ pub struct FromReader<R> {
 
 impl<R: Read> FromReader<R> {
     /// The source of a reader's bytes; no call of it has failed.
+    ///
+    /// # Examples
+    ///
+    /// ```
+    /// use g1_image::{FromReader, read};
+    /// use g1_testing::{Stream, Trouble, pictures::one_object, text};
+    /// use g1_words::{Device, Fault};
+    ///
+    /// // The fourth read fails.
+    /// let stream = Stream::new(text(alloc, one_object())?, 3, Trouble::Error);
+    /// let refused = read(alloc, &mut FromReader::new(stream)).err();
+    /// assert_eq!(rt; refused, Some(Fault::Device(Device::Input)));
+    /// ```
     pub fn new(inner: R) -> FromReader<R>
         ensures left { ⟦<FromReader<R> as Source>⟧.left result ≡ R.remaining inner }
         ensures mark { ⟦<FromReader<R> as Source>⟧.failed result ≡ false }
@@ -88,6 +101,16 @@ pub struct ToWriter<W> {
 
 impl<W: Write> ToWriter<W> {
     /// The sink into a writer; no call of it has failed.
+    ///
+    /// # Examples
+    ///
+    /// ```
+    /// use g1_image::{Sink, ToWriter};
+    ///
+    /// let mut sink = ToWriter::new(Vec::new(alloc));
+    /// assert_eq!(rt; sink.write(&[7, 9])?, 2);
+    /// assert_eq!(rt; sink.into_inner().as_slice(), [7, 9].as_slice());
+    /// ```
     pub fn new(inner: W) -> ToWriter<W>
         ensures written { ⟦<ToWriter<W> as Sink>⟧.written result ≡ W.contents inner }
         ensures mark { ⟦<ToWriter<W> as Sink>⟧.failed result ≡ false }
@@ -104,6 +127,18 @@ impl<W: Write> ToWriter<W> {
     /// # Errors
     ///
     /// `Fault::Device(Device::Output)` if the writer couldn't.
+    ///
+    /// # Examples
+    ///
+    /// ```
+    /// use g1_image::ToWriter;
+    /// use g1_testing::{Stream, Trouble};
+    /// use g1_words::{Device, Fault};
+    ///
+    /// let stream = Stream::new(Vec::new(alloc), 0, Trouble::Error);
+    /// let refused = ToWriter::new(stream).flush();
+    /// assert_eq!(rt; refused, Err(Fault::Device(Device::Output)));
+    /// ```
     pub fn flush(&mut self) -> Result<(), Fault>
         ensures written { Keeps (⟦<ToWriter<W> as Sink>⟧.written self.old) (⟦<ToWriter<W> as Sink>⟧.written self.new) }
         ensures mark { ⟦<ToWriter<W> as Sink>⟧.failed self.new ≡ marked (⟦<ToWriter<W> as Sink>⟧.failed self.old) result }
@@ -119,6 +154,16 @@ impl<W: Write> ToWriter<W> {
     }
 
     /// The writer itself.
+    ///
+    /// # Examples
+    ///
+    /// ```
+    /// use g1_image::{Sink, ToWriter};
+    ///
+    /// let mut sink = ToWriter::new(Vec::new(alloc));
+    /// sink.write(&[7, 9])?;
+    /// assert_eq!(rt; sink.into_inner().as_slice(), [7, 9].as_slice());
+    /// ```
     pub fn into_inner(self) -> W
         ensures { W.contents result ≡ ⟦<ToWriter<W> as Sink>⟧.written self }
     {

@@ -30,6 +30,23 @@ pub enum TextParts<'a> {
 /// # Errors
 ///
 /// `AllocError` if a request for memory was refused.
+///
+/// # Examples
+///
+/// ```
+/// use g1_image::{TextParts, parts_of};
+/// use g1_testing::text;
+/// use g1_words::Limits;
+///
+/// // No object starts at 5, which the root references.
+/// let bytes = text(alloc, "heap 16 4 4
+///     root 5")?;
+/// let TextParts::Whole(front, words) = parts_of(alloc, Limits::Specified, &bytes)? else {
+///     panic!(rt; "these are not all parts of a file");
+/// };
+/// assert_eq!(rt; front.roots.as_slice(), [6].as_slice());
+/// assert_eq!(rt; words.len(), 64);
+/// ```
 pub fn parts_of<'a>(
     alloc: Global,
     limits: Limits,

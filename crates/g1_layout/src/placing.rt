@@ -149,6 +149,20 @@ fn planned(
 ///
 /// `Fault::Room` if the survivors need more regions than are free, with both numbers, also if memory is
 /// refused; `Fault::Memory` if it is refused and there is room.
+///
+/// # Examples
+///
+/// ```
+/// use g1_layout::place;
+/// use g1_testing::{image, pictures::shared};
+///
+/// // The survivors have 2 and 5 words, and region 2 is the lowest that is free.
+/// let image = image(alloc, shared())?;
+/// let plan = place(alloc, image.heap(), &[1], &[21, 16])?;
+/// assert_eq!(rt; plan.places(), [32, 34].as_slice());
+/// assert_eq!(rt; plan.to_space(), [2].as_slice());
+/// assert_eq!(rt; plan.words(), 7);
+/// ```
 pub fn place(alloc: Global, heap: &Heap, set: &[u32], survivors: &[u64]) -> Result<Plan, Fault>
     requires { CanPlace heap.now set.now survivors.now }
     ensures plan { IfOk result (λ p. p ≡ plan_of heap.now set.now survivors.now) }
@@ -173,6 +187,24 @@ pub fn place(alloc: Global, heap: &Heap, set: &[u32], survivors: &[u64]) -> Resu
 /// # Errors
 ///
 /// As `place`.
+///
+/// # Examples
+///
+/// ```
+/// use g1_layout::place_sized;
+/// use g1_testing::image;
+/// use g1_words::Fault;
+///
+/// let image = image(alloc, "heap 16 4 3
+///     root 0
+///     root 16
+///     region 0 ordinary
+///     object 12/0 ..
+///     region 1 ordinary
+///     object 5/0 ..")?;
+/// let refused = place_sized(alloc, image.heap(), &[0, 1], &[0, 16], &[12, 5]).err();
+/// assert_eq!(rt; refused, Some(Fault::Room { need: 2, free: 1 }));
+/// ```
 pub fn place_sized(
     alloc: Global,
     heap: &Heap,

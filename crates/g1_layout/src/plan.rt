@@ -42,6 +42,17 @@ impl Model for Plan {
 
 impl Plan {
     /// The regions of the set, rising.
+    ///
+    /// # Examples
+    ///
+    /// ```
+    /// use g1_layout::place;
+    /// use g1_testing::{image, pictures::shared};
+    ///
+    /// let image = image(alloc, shared())?;
+    /// let plan = place(alloc, image.heap(), &[1], &[21, 16])?;
+    /// assert_eq!(rt; plan.set(), [1].as_slice());
+    /// ```
     pub fn set(&self) -> &[u32]
         ensures { result.now ≡ self.now.set }
     {
@@ -49,6 +60,17 @@ impl Plan {
     }
 
     /// The survivors' addresses, in the order in which they are found.
+    ///
+    /// # Examples
+    ///
+    /// ```
+    /// use g1_layout::place;
+    /// use g1_testing::{image, pictures::shared};
+    ///
+    /// let image = image(alloc, shared())?;
+    /// let plan = place(alloc, image.heap(), &[1], &[21, 16])?;
+    /// assert_eq!(rt; plan.survivors(), [21, 16].as_slice());
+    /// ```
     pub fn survivors(&self) -> &[u64]
         ensures { result.now ≡ self.now.survivors }
     {
@@ -56,6 +78,17 @@ impl Plan {
     }
 
     /// The survivors' new addresses, in the same order.
+    ///
+    /// # Examples
+    ///
+    /// ```
+    /// use g1_layout::place;
+    /// use g1_testing::{image, pictures::shared};
+    ///
+    /// let image = image(alloc, shared())?;
+    /// let plan = place(alloc, image.heap(), &[1], &[21, 16])?;
+    /// assert_eq!(rt; plan.places(), [32, 34].as_slice());
+    /// ```
     pub fn places(&self) -> &[u64]
         ensures { result.now ≡ self.now.places }
     {
@@ -63,6 +96,17 @@ impl Plan {
     }
 
     /// The regions that survivors are placed in, rising.
+    ///
+    /// # Examples
+    ///
+    /// ```
+    /// use g1_layout::place;
+    /// use g1_testing::{image, pictures::shared};
+    ///
+    /// let image = image(alloc, shared())?;
+    /// let plan = place(alloc, image.heap(), &[1], &[21, 16])?;
+    /// assert_eq!(rt; plan.to_space(), [2].as_slice());
+    /// ```
     pub fn to_space(&self) -> &[u32]
         ensures { result.now ≡ self.now.to_space }
     {
@@ -70,6 +114,25 @@ impl Plan {
     }
 
     /// A run for each region of to-space, in the same order.
+    ///
+    /// # Examples
+    ///
+    /// ```
+    /// use g1_layout::{Run, place};
+    /// use g1_testing::image;
+    ///
+    /// // After the object of 12 words region 2 has no room for that of 5.
+    /// let image = image(alloc, "heap 16 4 4
+    ///     root 0
+    ///     root 16
+    ///     region 0 ordinary
+    ///     object 12/0 ..
+    ///     region 1 ordinary
+    ///     object 5/0 ..")?;
+    /// let plan = place(alloc, image.heap(), &[0, 1], &[0, 16])?;
+    /// assert_eq!(rt; plan.runs()[0], Run { region: 2, from: 0, to: 1, end: 12 });
+    /// assert_eq!(rt; plan.runs()[1], Run { region: 3, from: 1, to: 2, end: 5 });
+    /// ```
     pub fn runs(&self) -> &[Run]
         ensures { result.now ≡ self.now.runs }
     {
@@ -77,6 +140,17 @@ impl Plan {
     }
 
     /// The number of the survivors' words, headers included.
+    ///
+    /// # Examples
+    ///
+    /// ```
+    /// use g1_layout::place;
+    /// use g1_testing::{image, pictures::shared};
+    ///
+    /// let image = image(alloc, shared())?;
+    /// let plan = place(alloc, image.heap(), &[1], &[21, 16])?;
+    /// assert_eq!(rt; plan.words(), 7);
+    /// ```
     pub fn words(&self) -> u64
         ensures { result ≡ self.now.words }
     {
@@ -84,6 +158,17 @@ impl Plan {
     }
 
     /// The number of regions of to-space.
+    ///
+    /// # Examples
+    ///
+    /// ```
+    /// use g1_layout::place;
+    /// use g1_testing::{image, pictures::shared};
+    ///
+    /// let image = image(alloc, shared())?;
+    /// let plan = place(alloc, image.heap(), &[1], &[21, 16])?;
+    /// assert_eq!(rt; plan.need(), 1);
+    /// ```
     pub fn need(&self) -> u64
         ensures { result ≡ length self.now.to_space }
     {
@@ -91,6 +176,18 @@ impl Plan {
     }
 
     /// The new address of what is at an address: a survivor's place, and any other address itself.
+    ///
+    /// # Examples
+    ///
+    /// ```
+    /// use g1_layout::place;
+    /// use g1_testing::{image, pictures::shared};
+    ///
+    /// let image = image(alloc, shared())?;
+    /// let plan = place(alloc, image.heap(), &[1], &[21, 16])?;
+    /// assert_eq!(rt; plan.forward(16), 34);
+    /// assert_eq!(rt; plan.forward(0), 0);
+    /// ```
     pub fn forward(&self, a: u64) -> u64
         ensures { result ≡ moved_to self.now.survivors self.now.places a }
     {

@@ -7,6 +7,16 @@ use std::alloc::{AllocError, Global};
 ///
 /// # Errors
 /// `AllocError` if a growth was refused.
+///
+/// # Examples
+///
+/// ```
+/// use g1_rem::no_cards;
+///
+/// let remembered = no_cards(alloc, 4)?;
+/// assert_eq!(rt; remembered.len(), 4);
+/// assert_eq!(rt; remembered[3].len(), 0);
+/// ```
 pub fn no_cards(alloc: Global, regions: u64) -> Result<Vec<Vec<u32>>, AllocError>
     ensures { IfOk result (λ v. map (λ s. s.items) v.items ≡ replicate regions []) }
 {
@@ -21,6 +31,17 @@ pub fn no_cards(alloc: Global, regions: u64) -> Result<Vec<Vec<u32>>, AllocError
 ///
 /// # Errors
 /// `AllocError` if a growth was refused: then the list is as it was.
+///
+/// # Examples
+///
+/// ```
+/// use g1_rem::push_once;
+///
+/// let mut cards = vec![in alloc; 1, 4]?;
+/// push_once(&mut cards, 4)?;
+/// push_once(&mut cards, 9)?;
+/// assert_eq!(rt; cards.as_slice(), [1, 4, 9].as_slice());
+/// ```
 pub fn push_once(cards: &mut Vec<u32>, card: u32) -> Result<(), AllocError>
     ensures ok { OnOk result ((before : List ℕ) (b : Bool) → All (λ c. c < card) before → cards.old.items ≡ with_card before card b → cards.new.items ≡ with_card before card true) }
     ensures err { OnErr result (cards.new.items ≡ cards.old.items) }

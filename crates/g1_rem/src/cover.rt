@@ -199,6 +199,22 @@ impl Make for Covering<'_> {
 ///
 /// # Errors
 /// `Fault::Memory` where a growth was refused.
+///
+/// # Examples
+///
+/// ```
+/// use g1_rem::first_uncovered;
+/// use g1_testing::{image, pictures::shared};
+///
+/// let covered = image(alloc, shared())?;
+/// assert_eq!(rt; first_uncovered(alloc, &covered)?, None);
+/// let bare = image(alloc, "heap 16 4 4
+///     region 0 ordinary
+///     object 2/1 16
+///     region 1 ordinary
+///     object 3/0 1 2")?;
+/// assert_eq!(rt; first_uncovered(alloc, &bare)?, Some(1));
+/// ```
 pub fn first_uncovered(alloc: Global, image: &Image) -> Result<Option<u64>, Fault>
     ensures ok { IfOk result (IsFirstOf (uncovered image.now)) }
     ensures lowest { IfOk result (λ found. (p q : ℕ) → found ≡ Some p → Contains (uncovered image.now) q → p ≤ q) }
@@ -242,6 +258,23 @@ fn first_by(
 /// # Errors
 /// `Fault::Uncovered` with the address of the lowest slot that isn't covered, `Fault::Memory` if a
 /// growth was refused.
+///
+/// # Examples
+///
+/// ```
+/// use g1_rem::verify;
+/// use g1_testing::{image, pictures::shared};
+/// use g1_words::Fault;
+///
+/// assert!(rt; verify(&rt, alloc, image(alloc, shared())?).is_ok());
+/// let bare = image(alloc, "heap 16 4 4
+///     region 0 ordinary
+///     object 2/1 16
+///     region 1 ordinary
+///     object 3/0 1 2")?;
+/// let refused = verify(&rt, alloc, bare).err();
+/// assert_eq!(rt; refused.map(|(_, fault)| fault), Some(Fault::Uncovered(1)));
+/// ```
 pub fn verify(
     rt: &(impl Threads + Sync),
     alloc: Global,
@@ -262,6 +295,16 @@ pub fn verify(
 ///
 /// # Errors
 /// Those of `verify`.
+///
+/// # Examples
+///
+/// ```
+/// use g1_rem::verify_by;
+/// use g1_testing::{image, pictures::humongous};
+///
+/// let image = image(alloc, humongous())?;
+/// assert!(rt; verify_by(&rt, alloc, image, 8).is_ok());
+/// ```
 pub fn verify_by(
     rt: &(impl Threads + Sync),
     alloc: Global,

@@ -119,6 +119,17 @@ impl<'a> Entering<'a> {
 /// # Errors
 ///
 /// `Fault::Uncovered` with the lowest slot that leads into the region and isn't covered; `Fault::Memory`.
+///
+/// # Examples
+///
+/// ```
+/// use g1_rem::cards_into_region;
+/// use g1_testing::{image, pictures::shared};
+///
+/// let image = image(alloc, shared())?;
+/// let cards = cards_into_region(alloc, &image, 1)?;
+/// assert_eq!(rt; cards.as_slice(), [0, 1].as_slice());
+/// ```
 pub fn cards_into_region(alloc: Global, image: &Image, region: u32) -> Result<Vec<u32>, Fault>
     requires { region < image.now.heap.geometry.n }
     ensures cards { IfOk result (λ v. v.items ≡ exact image.now.heap region) }

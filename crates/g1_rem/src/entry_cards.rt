@@ -49,6 +49,20 @@ fn left_over(
 /// # Errors
 ///
 /// `Fault::Memory` alone.
+///
+/// # Examples
+///
+/// ```
+/// use g1_rem::cards_into;
+/// use g1_testing::{image, pictures::shared};
+///
+/// let image = image(alloc, shared())?;
+/// let cards = cards_into(alloc, image.heap(), image.remembered(), &[1])?;
+/// assert_eq!(rt; cards.as_slice(), [0, 1].as_slice());
+/// // Both cards lie in region 0.
+/// let cards = cards_into(alloc, image.heap(), image.remembered(), &[0, 1])?;
+/// assert_eq!(rt; cards.len(), 0);
+/// ```
 pub fn cards_into(
     alloc: Global,
     heap: &Heap,

@@ -45,6 +45,19 @@ fn one_leads(heap: &Heap, slots: &[u64], region: u32) -> bool
 
 /// Whether a slot on the card, of another region, references an object in the region. Linear in the
 /// slots on the card, and takes no memory.
+///
+/// # Examples
+///
+/// ```
+/// use g1_rem::{Starts, leads_into};
+/// use g1_testing::{image, pictures::humongous};
+///
+/// // The slot at 17 references the object at 48.
+/// let image = image(alloc, humongous())?;
+/// let starts = Starts::build(alloc, image.heap())?;
+/// assert!(rt; leads_into(alloc, image.heap(), &starts, 3, 4));
+/// assert!(rt; !leads_into(alloc, image.heap(), &starts, 3, 5));
+/// ```
 pub fn leads_into(alloc: Global, heap: &Heap, starts: &Starts, region: u32, card: u32) -> bool
     requires starts { IsStartsOf heap.now starts.now }
     requires card { card < card_count heap.now }

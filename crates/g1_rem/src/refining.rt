@@ -28,6 +28,16 @@ use std::thread::Threads;
 pub const MERGED_CARDS_A_THREAD: usize = 32_768;
 
 /// How many cards some lists have, or the greatest number if they have more.
+///
+/// # Examples
+///
+/// ```
+/// use g1_rem::cards_in;
+/// use g1_testing::{image, pictures::shared};
+///
+/// let image = image(alloc, shared())?;
+/// assert_eq!(rt; cards_in(image.remembered()), 2);
+/// ```
 pub fn cards_in(lists: &[Vec<u32>]) -> usize
     ensures { result ≡ min (sum_by (λ s. length s.items) lists.now) (2 ^ 64 - 1) }
 {
@@ -185,6 +195,25 @@ fn refined_remembered(
 ///
 /// # Errors
 /// `Fault::Memory` if a growth was refused.
+///
+/// # Examples
+///
+/// ```
+/// use g1_rem::{Starts, refine, verify};
+/// use g1_testing::image;
+///
+/// let logged = image(alloc, "heap 16 4 4
+///     dirty cards 0
+///     region 0 ordinary
+///     object 2/1 16
+///     region 1 ordinary
+///     object 3/0 1 2")?;
+/// let tracked = verify(&rt, alloc, logged).map_err(|(_, fault)| fault)?;
+/// let starts = Starts::build(alloc, tracked.image.heap())?;
+/// let refined = refine(&rt, alloc, &tracked, &starts)?;
+/// assert_eq!(rt; refined[0].len(), 0);
+/// assert_eq!(rt; refined[1].as_slice(), [0].as_slice());
+/// ```
 pub fn refine(
     rt: &(impl Threads + Sync),
     alloc: Global,
@@ -202,6 +231,19 @@ pub fn refine(
 ///
 /// # Errors
 /// `Fault::Memory` if a growth was refused.
+///
+/// # Examples
+///
+/// ```
+/// use g1_rem::{Starts, refine_by, verify};
+/// use g1_testing::{image, pictures::shared};
+///
+/// let shared = image(alloc, shared())?;
+/// let tracked = verify(&rt, alloc, shared).map_err(|(_, fault)| fault)?;
+/// let starts = Starts::build(alloc, tracked.image.heap())?;
+/// let refined = refine_by(&rt, alloc, &tracked, &starts, 8)?;
+/// assert_eq!(rt; refined[1].as_slice(), [0, 1].as_slice());
+/// ```
 pub fn refine_by(
     rt: &(impl Threads + Sync),
     alloc: Global,

@@ -21,6 +21,17 @@ pub fn row_end(heap: &Heap, region: u32, first: u64) -> u64
 }
 
 /// The address after the last object that starts in a region; the region's own start if none does.
+///
+/// # Examples
+///
+/// ```
+/// use g1_rem::objects_end;
+/// use g1_testing::{image, pictures::shared};
+///
+/// let image = image(alloc, shared())?;
+/// assert_eq!(rt; objects_end(image.heap(), 1), 23);
+/// assert_eq!(rt; objects_end(image.heap(), 2), 32);
+/// ```
 pub fn objects_end(heap: &Heap, region: u32) -> u64
     requires { region < heap.now.geometry.n }
     ensures { Tiles heap.now.words (start heap.now region) (objects_in heap.now region) result }

@@ -60,6 +60,21 @@ fn slots_between(
 
 /// The addresses of the reference slots that lie on a card themselves, rising, wherever their object
 /// began. A card has at most 64 words, so the list never grows: it takes no memory.
+///
+/// # Examples
+///
+/// ```
+/// use g1_rem::{Starts, slots_on};
+/// use g1_testing::{image, pictures::humongous};
+///
+/// // The object at 0 has 20 slots.
+/// let image = image(alloc, humongous())?;
+/// let starts = Starts::build(alloc, image.heap())?;
+/// let slots = slots_on(alloc, image.heap(), &starts, 4);
+/// assert_eq!(rt; slots.as_slice(), [16, 17, 18, 19].as_slice());
+/// let slots = slots_on(alloc, image.heap(), &starts, 5);
+/// assert_eq!(rt; slots.as_slice(), [20].as_slice());
+/// ```
 pub fn slots_on(alloc: Global, heap: &Heap, starts: &Starts, card: u32) -> SmallVec<u64, 64>
     requires starts { IsStartsOf heap.now starts.now }
     requires card { card < card_count heap.now }

@@ -144,6 +144,20 @@ impl Starts {
     ///
     /// # Errors
     /// `Fault::Memory` if a growth was refused.
+    ///
+    /// # Examples
+    ///
+    /// ```
+    /// use g1_rem::Starts;
+    /// use g1_testing::{image, pictures::humongous};
+    ///
+    /// // The objects have 40 words at 0, and 2 at 48.
+    /// let image = image(alloc, humongous())?;
+    /// let starts = Starts::build(alloc, image.heap())?;
+    /// assert_eq!(rt; starts.first(9), Some(0));
+    /// assert_eq!(rt; starts.first(10), None);
+    /// assert_eq!(rt; starts.first(12), Some(48));
+    /// ```
     pub fn build(alloc: Global, heap: &Heap) -> Result<Starts, Fault>
         ensures ok { IfOk result (λ s. IsStartsOf heap.now s) }
         ensures memory { IfErr result (λ e. e ≡ Fault.Memory) }
@@ -160,6 +174,18 @@ impl Starts {
     ///
     /// # Errors
     /// `Fault::Memory` if a growth was refused.
+    ///
+    /// # Examples
+    ///
+    /// ```
+    /// use g1_rem::Starts;
+    /// use g1_testing::{image, pictures::shared};
+    ///
+    /// let image = image(alloc, shared())?;
+    /// let starts = Starts::build_by(&rt, alloc, image.heap(), 8)?;
+    /// assert_eq!(rt; starts.first(1), Some(4));
+    /// assert_eq!(rt; starts.first(2), None);
+    /// ```
     pub fn build_by(
         rt: &(impl Threads + Sync),
         alloc: Global,
@@ -195,6 +221,18 @@ impl Starts {
 
     /// The address, in words, of the object over the first word of a card of the heap; none if no
     /// object is there.
+    ///
+    /// # Examples
+    ///
+    /// ```
+    /// use g1_rem::Starts;
+    /// use g1_testing::{image, pictures::shared};
+    ///
+    /// // The object at 16 has 5 words, and the last of them is the first on card 5.
+    /// let image = image(alloc, shared())?;
+    /// let starts = Starts::build(alloc, image.heap())?;
+    /// assert_eq!(rt; starts.first(5), Some(16));
+    /// ```
     pub fn first(&self, card: u32) -> Option<u32>
         requires { card < length self.now }
         ensures { result ≡ slice_index_or self.now card None }

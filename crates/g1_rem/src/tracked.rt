@@ -23,6 +23,17 @@ impl Model for Tracked {
 }
 
 /// The image that is tracked.
+///
+/// # Examples
+///
+/// ```
+/// use g1_rem::verify;
+/// use g1_testing::{image, pictures::shared};
+///
+/// let shared = image(alloc, shared())?;
+/// let tracked = verify(&rt, alloc, shared).map_err(|(_, fault)| fault)?;
+/// assert_eq!(rt; g1_rem::image(&tracked).heap().roots(), [22, 17].as_slice());
+/// ```
 pub fn image(tracked: &Tracked) -> &Image
     ensures same { result.now ≡ tracked.now }
     ensures covered { Covered tracked.now }

@@ -69,6 +69,16 @@ impl Geometry {
     ///
     /// `Fault::Geometry` unless `w` is a power of two from 16 to 65,536, `k` one from 4 to 64 and at
     /// most `w`, and `n` from 1 to 4,096 with at most 2^24 words in all.
+    ///
+    /// # Examples
+    ///
+    /// ```
+    /// use g1_words::{Fault, Geometry};
+    ///
+    /// let geometry = Geometry::new(16, 4, 4)?;
+    /// assert_eq!(rt; geometry.words(), 64);
+    /// assert_eq!(rt; Geometry::new(24, 4, 4), Err(Fault::Geometry));
+    /// ```
     pub fn new(w: u64, k: u64, n: u64) -> Result<Geometry, Fault>
         ensures ok { IfOk result (λ g. (g.w ≡ w) × (g.k ≡ k) × (g.n ≡ n)) }
         ensures limits { IfOk result (λ g. IsWithinLimits g.w g.k g.n) }
@@ -82,6 +92,16 @@ impl Geometry {
     /// # Errors
     ///
     /// `Fault::Geometry`, as `new`, but the most words of a region and of the heap are those of the limits.
+    ///
+    /// # Examples
+    ///
+    /// ```
+    /// use g1_words::{Fault, Geometry, Limits};
+    ///
+    /// assert_eq!(rt; Geometry::new(131_072, 64, 2), Err(Fault::Geometry));
+    /// let geometry = Geometry::within(Limits::Wide, 131_072, 64, 2)?;
+    /// assert_eq!(rt; geometry.words(), 262_144);
+    /// ```
     pub fn within(limits: Limits, w: u64, k: u64, n: u64) -> Result<Geometry, Fault>
         ensures ok { IfOk result (λ g. (g.w ≡ w) × (g.k ≡ k) × (g.n ≡ n)) }
         ensures limits { IfOk result (λ g. IsWithin limits g.w g.k g.n) }
@@ -117,6 +137,15 @@ impl Geometry {
     }
 
     /// The words of a region.
+    ///
+    /// # Examples
+    ///
+    /// ```
+    /// use g1_words::Geometry;
+    ///
+    /// let geometry = Geometry::new(32, 8, 6)?;
+    /// assert_eq!(rt; geometry.region_words(), 32);
+    /// ```
     pub fn region_words(&self) -> u64
         ensures value { result ≡ self.now.w }
         ensures limits { IsWithinBounds self.now.w self.now.k self.now.n }
@@ -125,6 +154,15 @@ impl Geometry {
     }
 
     /// The words of a card.
+    ///
+    /// # Examples
+    ///
+    /// ```
+    /// use g1_words::Geometry;
+    ///
+    /// let geometry = Geometry::new(32, 8, 6)?;
+    /// assert_eq!(rt; geometry.card_words(), 8);
+    /// ```
     pub fn card_words(&self) -> u64
         ensures value { result ≡ self.now.k }
         ensures limits { IsWithinBounds self.now.w self.now.k self.now.n }
@@ -133,6 +171,15 @@ impl Geometry {
     }
 
     /// The number of regions.
+    ///
+    /// # Examples
+    ///
+    /// ```
+    /// use g1_words::Geometry;
+    ///
+    /// let geometry = Geometry::new(32, 8, 6)?;
+    /// assert_eq!(rt; geometry.regions(), 6);
+    /// ```
     pub fn regions(&self) -> u64
         ensures value { result ≡ self.now.n }
         ensures limits { IsWithinBounds self.now.w self.now.k self.now.n }
@@ -141,6 +188,15 @@ impl Geometry {
     }
 
     /// The number of words of the heap.
+    ///
+    /// # Examples
+    ///
+    /// ```
+    /// use g1_words::Geometry;
+    ///
+    /// let geometry = Geometry::new(32, 8, 6)?;
+    /// assert_eq!(rt; geometry.words(), 192);
+    /// ```
     pub fn words(&self) -> u64
         ensures value { result ≡ self.now.n * self.now.w }
         ensures limits { IsWithinBounds self.now.w self.now.k self.now.n }
@@ -149,6 +205,15 @@ impl Geometry {
     }
 
     /// The number of cards of the heap.
+    ///
+    /// # Examples
+    ///
+    /// ```
+    /// use g1_words::Geometry;
+    ///
+    /// let geometry = Geometry::new(32, 8, 6)?;
+    /// assert_eq!(rt; geometry.cards(), 24);
+    /// ```
     pub fn cards(&self) -> u64
         ensures value { result ≡ self.now.n * self.now.w / self.now.k }
         ensures limits { IsWithinBounds self.now.w self.now.k self.now.n }
@@ -158,6 +223,16 @@ impl Geometry {
     }
 
     /// The address of the first word of a region, also of one past the heap's last.
+    ///
+    /// # Examples
+    ///
+    /// ```
+    /// use g1_words::Geometry;
+    ///
+    /// let geometry = Geometry::new(32, 8, 6)?;
+    /// assert_eq!(rt; geometry.start(5), 160);
+    /// assert_eq!(rt; geometry.start(6), geometry.words());
+    /// ```
     pub fn start(&self, region: u32) -> u64
         ensures value { result ≡ region * self.now.w }
         ensures limits { IsWithinBounds self.now.w self.now.k self.now.n }
@@ -166,6 +241,15 @@ impl Geometry {
     }
 
     /// The number of words of this many regions.
+    ///
+    /// # Examples
+    ///
+    /// ```
+    /// use g1_words::Geometry;
+    ///
+    /// let geometry = Geometry::new(32, 8, 6)?;
+    /// assert_eq!(rt; geometry.words_of(10), 320);
+    /// ```
     pub fn words_of(&self, regions: u64) -> u64
         requires { regions * self.now.w < 2 ^ 64 }
         ensures value { result ≡ regions * self.now.w }
@@ -175,6 +259,15 @@ impl Geometry {
     }
 
     /// The address of the first word of a card, also of one past the heap's last.
+    ///
+    /// # Examples
+    ///
+    /// ```
+    /// use g1_words::Geometry;
+    ///
+    /// let geometry = Geometry::new(32, 8, 6)?;
+    /// assert_eq!(rt; geometry.card_start(4), 32);
+    /// ```
     pub fn card_start(&self, card: u32) -> u64
         ensures value { result ≡ card * self.now.k }
         ensures limits { IsWithinBounds self.now.w self.now.k self.now.n }
@@ -183,6 +276,16 @@ impl Geometry {
     }
 
     /// The number of the region that a card lies in, or would lie in.
+    ///
+    /// # Examples
+    ///
+    /// ```
+    /// use g1_words::Geometry;
+    ///
+    /// let geometry = Geometry::new(32, 8, 6)?;
+    /// assert_eq!(rt; geometry.card_start(23), 184);
+    /// assert_eq!(rt; geometry.region_of_card(23), 5);
+    /// ```
     pub fn region_of_card(&self, card: u32) -> u64
         ensures value { result ≡ card * self.now.k / self.now.w }
         ensures limits { IsWithinBounds self.now.w self.now.k self.now.n }
@@ -191,6 +294,15 @@ impl Geometry {
     }
 
     /// The most words of an object that is not humongous, the header included.
+    ///
+    /// # Examples
+    ///
+    /// ```
+    /// use g1_words::Geometry;
+    ///
+    /// let geometry = Geometry::new(16, 4, 4)?;
+    /// assert_eq!(rt; geometry.most_ordinary(), 12);
+    /// ```
     pub fn most_ordinary(&self) -> u64
         ensures { result ≡ 3 * self.now.w / 4 }
     {
@@ -198,6 +310,17 @@ impl Geometry {
     }
 
     /// Whether an object of this many words is humongous: it takes more than three quarters of a region.
+    ///
+    /// # Examples
+    ///
+    /// ```
+    /// use g1_words::Geometry;
+    ///
+    /// let geometry = Geometry::new(16, 4, 4)?;
+    /// assert_eq!(rt; geometry.most_ordinary(), 12);
+    /// assert!(rt; !geometry.is_humongous(12));
+    /// assert!(rt; geometry.is_humongous(13));
+    /// ```
     pub fn is_humongous(&self, size: u64) -> bool
         ensures { IsTrue result ↔ (3 * self.now.w < 4 * size) }
     {
@@ -205,6 +328,15 @@ impl Geometry {
     }
 
     /// How many regions an object of this many words takes, if it starts at the start of one.
+    ///
+    /// # Examples
+    ///
+    /// ```
+    /// use g1_words::Geometry;
+    ///
+    /// let geometry = Geometry::new(16, 4, 4)?;
+    /// assert_eq!(rt; geometry.regions_for(40), 3);
+    /// ```
     pub fn regions_for(&self, size: u64) -> u64
         ensures { result ≡ div_ceil size self.now.w }
     {

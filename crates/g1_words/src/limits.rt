@@ -22,6 +22,15 @@ pub enum Limits {
 
 impl Limits {
     /// The most words of a region.
+    ///
+    /// # Examples
+    ///
+    /// ```
+    /// use g1_words::Limits;
+    ///
+    /// assert_eq!(rt; Limits::Specified.region_words(), 65_536);
+    /// assert_eq!(rt; Limits::Wide.region_words(), 1 << 22);
+    /// ```
     pub fn region_words(self) -> u64
         ensures { result ≡ region_words_within self }
     {
@@ -32,6 +41,15 @@ impl Limits {
     }
 
     /// The most words of a heap.
+    ///
+    /// # Examples
+    ///
+    /// ```
+    /// use g1_words::Limits;
+    ///
+    /// assert_eq!(rt; Limits::Specified.words(), 1 << 24);
+    /// assert_eq!(rt; Limits::Wide.words(), 1 << 28);
+    /// ```
     pub fn words(self) -> u64
         ensures { result ≡ words_within self }
     {

@@ -28,6 +28,17 @@ impl Marks {
     ///
     /// # Errors
     /// `AllocError` if the allocation was refused.
+    ///
+    /// # Examples
+    ///
+    /// ```
+    /// use g1_words::Marks;
+    ///
+    /// let mut marks = Marks::none(alloc, 100)?;
+    /// marks.set(7);
+    /// assert!(rt; marks.is_set(7));
+    /// assert!(rt; !marks.is_set(8));
+    /// ```
     pub fn none(alloc: Global, count: usize) -> Result<Marks, AllocError>
         ensures { IfOk result (λ m. m ≡ replicate count false) }
     {
@@ -42,6 +53,15 @@ impl Marks {
     ///
     /// # Errors
     /// `AllocError` if the allocation was refused.
+    ///
+    /// # Examples
+    ///
+    /// ```
+    /// use g1_words::Marks;
+    ///
+    /// let marks = Marks::with_capacity(alloc, 128)?;
+    /// assert_eq!(rt; marks.len(), 0);
+    /// ```
     pub fn with_capacity(alloc: Global, count: usize) -> Result<Marks, AllocError>
         ensures { IfOk result (λ m. m ≡ []) }
     {
@@ -52,6 +72,14 @@ impl Marks {
     }
 
     /// How many marks there are.
+    ///
+    /// # Examples
+    ///
+    /// ```
+    /// use g1_words::Marks;
+    ///
+    /// assert_eq!(rt; Marks::none(alloc, 100)?.len(), 100);
+    /// ```
     pub fn len(&self) -> usize
         ensures { result ≡ length self.now }
     {
@@ -59,6 +87,17 @@ impl Marks {
     }
 
     /// Returns whether a mark is set.
+    ///
+    /// # Examples
+    ///
+    /// ```
+    /// use g1_words::Marks;
+    ///
+    /// let mut marks = Marks::none(alloc, 100)?;
+    /// marks.set_each(&[7, 70]);
+    /// assert!(rt; marks.is_set(70));
+    /// assert!(rt; !marks.is_set(71));
+    /// ```
     pub fn is_set(&self, at: usize) -> bool
         requires { at < length self.now }
         ensures { result ≡ slice_index_or self.now at false }
@@ -67,6 +106,17 @@ impl Marks {
     }
 
     /// Returns whether a mark is set. One past the last isn't.
+    ///
+    /// # Examples
+    ///
+    /// ```
+    /// use g1_words::Marks;
+    ///
+    /// let mut marks = Marks::none(alloc, 100)?;
+    /// marks.set(99);
+    /// assert!(rt; marks.has(99));
+    /// assert!(rt; !marks.has(100));
+    /// ```
     pub fn has(&self, at: usize) -> bool
         ensures { result ≡ slice_index_or self.now at false }
     {
@@ -74,6 +124,18 @@ impl Marks {
     }
 
     /// Sets a mark.
+    ///
+    /// # Examples
+    ///
+    /// ```
+    /// use g1_words::Marks;
+    ///
+    /// let mut marks = Marks::none(alloc, 100)?;
+    /// marks.set(70);
+    /// marks.set(7);
+    /// assert_eq!(rt; marks.next_set(0), Some(7));
+    /// assert_eq!(rt; marks.next_set(8), Some(70));
+    /// ```
     pub fn set(&mut self, at: usize)
         requires { at < length self.old }
         ensures { self.new ≡ set self.old at true }
@@ -82,6 +144,17 @@ impl Marks {
     }
 
     /// Sets the marks of these numbers. One past the last mark has none.
+    ///
+    /// # Examples
+    ///
+    /// ```
+    /// use g1_words::Marks;
+    ///
+    /// let mut marks = Marks::none(alloc, 100)?;
+    /// marks.set_each(&[64, 1, 100]);
+    /// assert_eq!(rt; marks.next_set(0), Some(1));
+    /// assert_eq!(rt; marks.next_set(65), None);
+    /// ```
     pub fn set_each(&mut self, numbers: &[u32])
         ensures { AreMarked (has numbers.now) self.old self.new }
     {
@@ -94,6 +167,18 @@ impl Marks {
     }
 
     /// The first mark that is set, from a number on. Passes over up to 64 unset ones at once.
+    ///
+    /// # Examples
+    ///
+    /// ```
+    /// use g1_words::Marks;
+    ///
+    /// let mut marks = Marks::none(alloc, 100)?;
+    /// marks.set(64);
+    /// assert_eq!(rt; marks.next_set(3), Some(64));
+    /// assert_eq!(rt; marks.next_set(64), Some(64));
+    /// assert_eq!(rt; marks.next_set(65), None);
+    /// ```
     pub fn next_set(&self, from: usize) -> Option<usize>
         ensures { IsNextSet self.now from result }
     {
@@ -114,6 +199,20 @@ impl Marks {
     ///
     /// # Errors
     /// `AllocError` if a growth was refused: then the marks are as they were.
+    ///
+    /// # Examples
+    ///
+    /// ```
+    /// use g1_words::Marks;
+    ///
+    /// let mut half = Marks::none(alloc, 64)?;
+    /// half.set(3);
+    /// let mut marks = Marks::with_capacity(alloc, 128)?;
+    /// marks.append(&half)?;
+    /// marks.append(&half)?;
+    /// assert_eq!(rt; marks.len(), 128);
+    /// assert_eq!(rt; marks.next_set(4), Some(67));
+    /// ```
     pub fn append(&mut self, behind: &Marks) -> Result<(), AllocError>
         requires whole { length self.old % 64 ≡ 0 }
         requires room { length self.old + length behind.now < 2 ^ 64 }

@@ -24,6 +24,15 @@ pub struct Object {
 const REFS_RANGE: u64 = 4_294_967_296;
 
 /// What the word at an address says, read as a header: the object that starts there, if one does.
+///
+/// # Examples
+///
+/// ```
+/// use g1_words::{Object, header, header_word};
+///
+/// let words = [0, header_word(5, 3)];
+/// assert_eq!(rt; header(&words, 1), Object { at: 1, size: 5, refs: 3 });
+/// ```
 pub fn header(words: &[u64], at: u64) -> Object
     requires { at < length words.now }
     ensures value { result ≡ header words.now at }
@@ -48,6 +57,14 @@ pub(crate) fn object_of(word: u64, at: u64) -> Object
 }
 
 /// The header word of an object of this many words, the header included, with this many slots.
+///
+/// # Examples
+///
+/// ```
+/// use g1_words::header_word;
+///
+/// assert_eq!(rt; header_word(2, 1), 0x2_0000_0001);
+/// ```
 pub fn header_word(size: u64, refs: u64) -> u64
     requires size { size < 2 ^ 32 }
     requires refs { refs < 2 ^ 32 }
@@ -57,6 +74,17 @@ pub fn header_word(size: u64, refs: u64) -> u64
 }
 
 /// The slots of an object among these words, by number.
+///
+/// # Examples
+///
+/// ```
+/// use g1_words::{data, header, header_word, slots};
+///
+/// let words = [header_word(4, 1), 22, 1, 2];
+/// let object = header(&words, 0);
+/// assert_eq!(rt; slots(&words, &object), [22].as_slice());
+/// assert_eq!(rt; data(&words, &object), [1, 2].as_slice());
+/// ```
 pub fn slots<'a>(words: &'a [u64], object: &Object) -> &'a [u64]
     requires refs { object.now.refs < object.now.size }
     requires within { object.now.at + object.now.size ≤ length words.now }
@@ -69,6 +97,15 @@ pub fn slots<'a>(words: &'a [u64], object: &Object) -> &'a [u64]
 }
 
 /// The data words of an object among these words, by number.
+///
+/// # Examples
+///
+/// ```
+/// use g1_words::{data, header, header_word};
+///
+/// let words = [header_word(3, 0), 1, 2];
+/// assert_eq!(rt; data(&words, &header(&words, 0)), [1, 2].as_slice());
+/// ```
 pub fn data<'a>(words: &'a [u64], object: &Object) -> &'a [u64]
     requires refs { object.now.refs < object.now.size }
     requires within { object.now.at + object.now.size ≤ length words.now }
@@ -81,6 +118,17 @@ pub fn data<'a>(words: &'a [u64], object: &Object) -> &'a [u64]
 }
 
 /// The size in words, the header included, of the word at an address, read as a header.
+///
+/// # Examples
+///
+/// ```
+/// use g1_testing::{image, pictures::shared};
+/// use g1_words::size_at;
+///
+/// let image = image(alloc, shared())?;
+/// assert_eq!(rt; size_at(image.heap(), 16), 5);
+/// assert_eq!(rt; size_at(image.heap(), 21), 2);
+/// ```
 pub fn size_at(heap: &Heap, a: u64) -> u64
     requires { a < length heap.now.words }
     ensures { result ≡ (object_at heap.now a).size }
@@ -107,6 +155,16 @@ pub(crate) fn object_between(words: &Words, from: u64, to: u64, a: u64) -> Optio
 }
 
 /// The region that an address lies in, or would lie in.
+///
+/// # Examples
+///
+/// ```
+/// use g1_words::{Geometry, region_of};
+///
+/// let geometry = Geometry::new(16, 4, 4)?;
+/// assert_eq!(rt; region_of(&geometry, 63), 3);
+/// assert_eq!(rt; region_of(&geometry, 640), 40);
+/// ```
 pub fn region_of(geometry: &Geometry, a: u64) -> u64
     ensures { result ≡ a / geometry.now.w }
 {
@@ -114,6 +172,16 @@ pub fn region_of(geometry: &Geometry, a: u64) -> u64
 }
 
 /// The card that an address lies on, or would lie on.
+///
+/// # Examples
+///
+/// ```
+/// use g1_words::{Geometry, card_of};
+///
+/// let geometry = Geometry::new(16, 4, 4)?;
+/// assert_eq!(rt; card_of(&geometry, 63), 15);
+/// assert_eq!(rt; card_of(&geometry, 640), 160);
+/// ```
 pub fn card_of(geometry: &Geometry, a: u64) -> u64
     ensures { result ≡ a / geometry.now.k }
 {
@@ -121,6 +189,15 @@ pub fn card_of(geometry: &Geometry, a: u64) -> u64
 }
 
 /// The address of an object's first reference slot, and how many there are.
+///
+/// # Examples
+///
+/// ```
+/// use g1_words::{Object, slots_of};
+///
+/// let object = Object { at: 16, size: 5, refs: 3 };
+/// assert_eq!(rt; slots_of(&object), (17, 3));
+/// ```
 pub fn slots_of(object: &Object) -> (u64, u64)
     requires { object.now.at + 1 < 2 ^ 64 }
     ensures first { result.0 ≡ object.now.at + 1 }
@@ -130,6 +207,18 @@ pub fn slots_of(object: &Object) -> (u64, u64)
 }
 
 /// The object that starts at an address.
+///
+/// # Examples
+///
+/// ```
+/// use g1_testing::{image, pictures::shared};
+/// use g1_words::{Object, object_at};
+///
+/// let image = image(alloc, shared())?;
+/// let found = object_at(image.heap(), 21);
+/// assert_eq!(rt; found, Some(Object { at: 21, size: 2, refs: 0 }));
+/// assert_eq!(rt; object_at(image.heap(), 22), None);
+/// ```
 pub fn object_at(heap: &Heap, a: u64) -> Option<Object>
     ensures found { IfSome result (λ o. (o ≡ object_at heap.now a) × Contains (objects heap.now) o) }
     ensures none { IfNone result (Contains (objects heap.now) (object_at heap.now a) → ⊥) }
@@ -180,6 +269,17 @@ pub(crate) fn starts_between(
 ///
 /// # Errors
 /// `Fault::Memory` if a growth was refused.
+///
+/// # Examples
+///
+/// ```
+/// use g1_testing::{image, pictures::shared};
+/// use g1_words::objects_in;
+///
+/// let image = image(alloc, shared())?;
+/// let starts = objects_in(alloc, image.heap(), 1)?;
+/// assert_eq!(rt; starts.as_slice(), [16, 21].as_slice());
+/// ```
 pub fn objects_in(alloc: Global, heap: &Heap, region: u32) -> Result<Vec<u64>, Fault>
     requires { region < heap.now.geometry.n }
     ensures ok { IfOk result (λ v. v.items ≡ map (λ o. o.at) (objects_in heap.now region)) }

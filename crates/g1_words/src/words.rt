@@ -32,6 +32,18 @@ impl Words {
     ///
     /// # Errors
     /// `AllocError` if the room for the zeros was refused.
+    ///
+    /// # Examples
+    ///
+    /// ```
+    /// use g1_words::Words;
+    ///
+    /// let words = Words::new(vec![in alloc; 7, 9]?, 14)?;
+    /// assert_eq!(rt; words.len(), 16);
+    /// assert_eq!(rt; words.at(1), 9);
+    /// assert_eq!(rt; words.at(15), 0);
+    /// assert_eq!(rt; words.laid(), [7, 9].as_slice());
+    /// ```
     pub fn new(mut laid: Vec<u64>, zeros: usize) -> Result<Words, AllocError>
         ensures { IfOk result (λ w. (w.items ≡ laid.items ++ replicate zeros 0) × (w.laid ≡ length laid.items)) }
     {
@@ -43,6 +55,17 @@ impl Words {
     ///
     /// # Errors
     /// `AllocError` if a request for memory was refused.
+    ///
+    /// # Examples
+    ///
+    /// ```
+    /// use g1_words::Words;
+    ///
+    /// let mut words = Words::new(vec![in alloc; 7, 9]?, 14)?;
+    /// let copied = words.copy(alloc)?;
+    /// words.set(1, 8);
+    /// assert_eq!(rt; copied.at(1), 9);
+    /// ```
     pub fn copy(&self, alloc: Global) -> Result<Words, AllocError>
         ensures { IfOk result (λ w. w ≡ self.now) }
     {
@@ -50,6 +73,15 @@ impl Words {
     }
 
     /// How many words there are.
+    ///
+    /// # Examples
+    ///
+    /// ```
+    /// use g1_words::Words;
+    ///
+    /// let words = Words::new(vec![in alloc; 7, 9]?, 14)?;
+    /// assert_eq!(rt; words.len(), 16);
+    /// ```
     pub fn len(&self) -> usize
         ensures { result ≡ length self.now.items }
     {
@@ -57,6 +89,15 @@ impl Words {
     }
 
     /// The words in memory. All behind them are 0.
+    ///
+    /// # Examples
+    ///
+    /// ```
+    /// use g1_words::Words;
+    ///
+    /// let words = Words::new(vec![in alloc; 7, 9]?, 14)?;
+    /// assert_eq!(rt; words.laid(), [7, 9].as_slice());
+    /// ```
     pub fn laid(&self) -> &[u64]
         ensures many { length result.now ≡ self.now.laid }
         ensures within { self.now.laid ≤ length self.now.items }
@@ -67,6 +108,16 @@ impl Words {
     }
 
     /// The word at an address.
+    ///
+    /// # Examples
+    ///
+    /// ```
+    /// use g1_words::Words;
+    ///
+    /// let words = Words::new(vec![in alloc; 7, 9]?, 14)?;
+    /// assert_eq!(rt; words.at(1), 9);
+    /// assert_eq!(rt; words.at(2), 0);
+    /// ```
     pub fn at(&self, a: u64) -> u64
         ensures { result ≡ slice_index self.now.items a }
     {
@@ -75,6 +126,15 @@ impl Words {
     }
 
     /// What the word at an address says, read as a header: the object that starts there, if one does.
+    ///
+    /// # Examples
+    ///
+    /// ```
+    /// use g1_words::{Object, Words, header_word};
+    ///
+    /// let words = Words::new(vec![in alloc; header_word(5, 3)]?, 15)?;
+    /// assert_eq!(rt; words.header(0), Object { at: 0, size: 5, refs: 3 });
+    /// ```
     pub fn header(&self, at: u64) -> Object
         ensures value { result ≡ header self.now.items at }
         ensures at { result.at ≡ at }
@@ -87,6 +147,15 @@ impl Words {
     }
 
     /// The words from one address up to another, all of which are in memory.
+    ///
+    /// # Examples
+    ///
+    /// ```
+    /// use g1_words::Words;
+    ///
+    /// let words = Words::new(vec![in alloc; 7, 9, 8]?, 13)?;
+    /// assert_eq!(rt; words.between(1, 3), [9, 8].as_slice());
+    /// ```
     pub fn between(&self, from: usize, to: usize) -> &[u64]
         requires order { from ≤ to }
         requires laid { to ≤ self.now.laid }
@@ -96,6 +165,16 @@ impl Words {
     }
 
     /// Lays the words up to an address.
+    ///
+    /// # Examples
+    ///
+    /// ```
+    /// use g1_words::Words;
+    ///
+    /// let mut words = Words::new(vec![in alloc; 7, 9]?, 14)?;
+    /// words.lay_to(4);
+    /// assert_eq!(rt; words.laid(), [7, 9, 0, 0].as_slice());
+    /// ```
     pub fn lay_to(&mut self, to: usize)
         requires { to ≤ length self.old.items }
         ensures items { self.new.items ≡ self.old.items }
@@ -110,6 +189,17 @@ impl Words {
     }
 
     /// Writes a word.
+    ///
+    /// # Examples
+    ///
+    /// ```
+    /// use g1_words::Words;
+    ///
+    /// let mut words = Words::new(Vec::new(alloc), 16)?;
+    /// words.set(4, 7);
+    /// assert_eq!(rt; words.laid(), [0, 0, 0, 0, 7].as_slice());
+    /// assert_eq!(rt; words.len(), 16);
+    /// ```
     pub fn set(&mut self, a: u64, word: u64)
         requires { a < length self.old.items }
         ensures items { self.new.items ≡ slice_set self.old.items a word }
@@ -122,6 +212,17 @@ impl Words {
     }
 
     /// The words in memory, and how many zeros are behind them.
+    ///
+    /// # Examples
+    ///
+    /// ```
+    /// use g1_words::Words;
+    ///
+    /// let words = Words::new(vec![in alloc; 7, 9]?, 14)?;
+    /// let (laid, zeros) = words.into_parts();
+    /// assert_eq!(rt; laid.as_slice(), [7, 9].as_slice());
+    /// assert_eq!(rt; zeros, 14);
+    /// ```
     pub fn into_parts(self) -> (Vec<u64>, usize)
         ensures items { self.items ≡ result.0.items ++ replicate result.1 0 }
         ensures laid { self.laid ≡ length result.0.items }
@@ -132,6 +233,19 @@ impl Words {
     }
 
     /// Words of which these are in memory, with so many zeros behind them, for which there is room.
+    ///
+    /// # Examples
+    ///
+    /// ```
+    /// use g1_words::Words;
+    ///
+    /// let words = Words::new(vec![in alloc; 7, 9]?, 14)?;
+    /// let (mut laid, zeros) = words.into_parts();
+    /// laid[1] = 8;
+    /// let words = Words::of_parts(laid, zeros);
+    /// assert_eq!(rt; words.len(), 16);
+    /// assert_eq!(rt; words.at(1), 8);
+    /// ```
     pub fn of_parts(laid: Vec<u64>, zeros: usize) -> Words
         requires { vec_len laid + zeros ≤ vec_capacity laid }
         ensures items { result.items ≡ laid.items ++ replicate zeros 0 }
