@@ -110,10 +110,10 @@ impl Claims {
     /// use g1_claim::Claims;
     ///
     /// let (claims, mut seat) = Claims::new(alloc, 2)?;
-    /// assert_eq!(rt; claims.offer(&mut seat, 0, 9), true);
-    /// assert_eq!(rt; claims.offer(&mut seat, 0, 9), false);
-    /// assert_eq!(rt; claims.offer(&mut seat, 0, 12), false);
-    /// assert_eq!(rt; claims.offer(&mut seat, 0, 4), true);
+    /// assert!(rt; claims.offer(&mut seat, 0, 9));
+    /// assert!(rt; !claims.offer(&mut seat, 0, 9));
+    /// assert!(rt; !claims.offer(&mut seat, 0, 12));
+    /// assert!(rt; claims.offer(&mut seat, 0, 4));
     /// ```
     pub fn offer(&self, seat: &mut ClaimSeat, place: u64, rank: u64) -> bool
         requires table { IsSeatOf self.now seat.old }

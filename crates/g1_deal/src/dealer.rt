@@ -251,7 +251,7 @@ impl Dealer {
     /// use g1_deal::Dealer;
     ///
     /// let (dealer, mut seat) = Dealer::new(alloc, 3)?;
-    /// while let Some(_) = dealer.take(&mut seat) {}
+    /// while dealer.take(&mut seat).is_some() {}
     /// // Three steps found a number each, and the last one found none.
     /// assert_eq!(rt; dealer.close(seat), 4);
     /// ```

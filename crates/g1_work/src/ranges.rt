@@ -14,10 +14,10 @@ pub const WORDS_A_THREAD: usize = 131_072;
 /// # Examples
 ///
 /// ```
-/// use g1_testing::{image, pictures};
+/// use g1_testing::{image, pictures::shared};
 /// use g1_work::used_words;
 ///
-/// let shared = image(alloc, pictures::shared())?;
+/// let shared = image(alloc, shared())?;
 /// // Region 0 has objects of 4 and 2 words, region 1 of 5 and 2.
 /// assert_eq!(rt; used_words(shared.heap().regions()), 13);
 /// ```
@@ -38,11 +38,11 @@ pub fn used_words(regions: &[Region]) -> usize
 /// # Examples
 ///
 /// ```
-/// use g1_testing::{image, pictures};
+/// use g1_testing::{image, pictures::humongous};
 /// use g1_work::{ordinary_words, used_words};
 ///
 /// // An object of 40 words begins in region 0, and one of 2 words in region 3.
-/// let humongous = image(alloc, pictures::humongous())?;
+/// let humongous = image(alloc, humongous())?;
 /// assert_eq!(rt; used_words(humongous.heap().regions()), 42);
 /// assert_eq!(rt; ordinary_words(humongous.heap().regions()), 2);
 /// ```
@@ -85,11 +85,11 @@ fn next_begin(regions: &[Region], from: u32, words: usize) -> u32
 /// # Examples
 ///
 /// ```
-/// use g1_testing::{image, pictures};
+/// use g1_testing::{image, pictures::shared};
 /// use g1_work::cut_regions;
 ///
 /// // Of its four regions, 0 has 6 words in use and 1 has 7.
-/// let shared = image(alloc, pictures::shared())?;
+/// let shared = image(alloc, shared())?;
 /// let begins = cut_regions(alloc, shared.heap().regions(), 3)?;
 /// assert_eq!(rt; begins.as_slice(), [0, 1, 2, 4].as_slice());
 /// ```
