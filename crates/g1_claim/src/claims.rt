@@ -69,6 +69,16 @@ impl Claims {
     ///
     /// # Errors
     /// `Memory`.
+    ///
+    /// # Examples
+    ///
+    /// ```
+    /// use g1_claim::{Claims, EMPTY, shares};
+    ///
+    /// let (claims, mut seat) = Claims::new(alloc, 2)?;
+    /// assert_eq!(rt; shares(&seat), 64);
+    /// assert_eq!(rt; claims.least(&mut seat, 1), EMPTY);
+    /// ```
     pub fn new(alloc: Global, places: u64) -> Result<(Claims, ClaimSeat), Fault>
         requires { places ≤ most_words }
         ensures places { IfOk result (λ r. r.0.places ≡ places) }
@@ -93,6 +103,18 @@ impl Claims {
     /// is below all that were offered there before, by whatever seats.
     ///
     /// It is one `fetch_min` on the word.
+    ///
+    /// # Examples
+    ///
+    /// ```
+    /// use g1_claim::Claims;
+    ///
+    /// let (claims, mut seat) = Claims::new(alloc, 2)?;
+    /// assert!(rt; claims.offer(&mut seat, 0, 9));
+    /// assert!(rt; !claims.offer(&mut seat, 0, 9));
+    /// assert!(rt; !claims.offer(&mut seat, 0, 12));
+    /// assert!(rt; claims.offer(&mut seat, 0, 4));
+    /// ```
     pub fn offer(&self, seat: &mut ClaimSeat, place: u64, rank: u64) -> bool
         requires table { IsSeatOf self.now seat.old }
         requires place { place < self.now.places }
@@ -120,6 +142,18 @@ impl Claims {
     /// The least rank that all seats have offered at a place when its word is read, or `EMPTY`.
     ///
     /// It is one load of the word.
+    ///
+    /// # Examples
+    ///
+    /// ```
+    /// use g1_claim::{Claims, EMPTY};
+    ///
+    /// let (claims, mut seat) = Claims::new(alloc, 2)?;
+    /// claims.offer(&mut seat, 0, 9);
+    /// claims.offer(&mut seat, 0, 4);
+    /// assert_eq!(rt; claims.least(&mut seat, 0), 4);
+    /// assert_eq!(rt; claims.least(&mut seat, 1), EMPTY);
+    /// ```
     pub fn least(&self, seat: &mut ClaimSeat, place: u64) -> u64
         requires table { IsSeatOf self.now seat.old }
         requires place { place < self.now.places }
@@ -143,6 +177,18 @@ impl Claims {
 
     /// Hands one share to a new seat, which has offered and seen nothing, and knows of the words
     /// what the old one knows.
+    ///
+    /// # Examples
+    ///
+    /// ```
+    /// use g1_claim::{Claims, shares};
+    ///
+    /// let (claims, mut seat) = Claims::new(alloc, 1)?;
+    /// let mut other = claims.split(&mut seat);
+    /// assert_eq!(rt; (shares(&seat), shares(&other)), (63, 1));
+    /// claims.offer(&mut seat, 0, 7);
+    /// assert_eq!(rt; claims.least(&mut other, 0), 7);
+    /// ```
     pub fn split(&self, seat: &mut ClaimSeat) -> ClaimSeat
         requires table { IsSeatOf self.now seat.old }
         requires two { 1 < seat.old.hand.shares }
@@ -163,6 +209,17 @@ impl Claims {
 
     /// Puts what another seat has into this one: its shares, its offers, its sights, and what it
     /// knows.
+    ///
+    /// # Examples
+    ///
+    /// ```
+    /// use g1_claim::{Claims, shares};
+    ///
+    /// let (claims, mut seat) = Claims::new(alloc, 1)?;
+    /// let other = claims.split(&mut seat);
+    /// claims.join(&mut seat, other);
+    /// assert_eq!(rt; shares(&seat), 64);
+    /// ```
     pub fn join(&self, seat: &mut ClaimSeat, other: ClaimSeat)
         requires table { IsSeatOf self.now seat.old }
         requires other { IsSeatOf self.now other }
@@ -185,6 +242,19 @@ impl Claims {
 
     /// Ends the claiming, and gives the words: of each place the least rank offered there, or
     /// `EMPTY`.
+    ///
+    /// # Examples
+    ///
+    /// ```
+    /// use g1_claim::{Claims, EMPTY};
+    ///
+    /// let (claims, mut seat) = Claims::new(alloc, 2)?;
+    /// let mut other = claims.split(&mut seat);
+    /// claims.offer(&mut seat, 0, 9);
+    /// claims.offer(&mut other, 0, 4);
+    /// claims.join(&mut seat, other);
+    /// assert_eq!(rt; claims.close(seat).as_slice(), [4, EMPTY].as_slice());
+    /// ```
     pub fn close(self, seat: ClaimSeat) -> Vec<u64>
         requires table { IsSeatOf self seat }
         requires whole { seat.hand.shares ≡ all_shares }
@@ -206,6 +276,17 @@ impl Claims {
 }
 
 /// How many of the table's 64 shares the seat has.
+///
+/// # Examples
+///
+/// ```
+/// use g1_claim::{Claims, shares};
+///
+/// let (claims, mut seat) = Claims::new(alloc, 1)?;
+/// let other = claims.split(&mut seat);
+/// assert_eq!(rt; shares(&seat), 63);
+/// assert_eq!(rt; shares(&other), 1);
+/// ```
 pub fn shares(seat: &ClaimSeat) -> u32
     ensures shares { result ≡ seat.now.hand.shares }
     ensures some { 0 < result }

@@ -13,6 +13,28 @@ use std::thread::Threads;
 
 /// The image after the pause, from what was prepared for it, written in place in one pass over the
 /// regions. Takes no memory and refuses nothing.
+///
+/// # Examples
+///
+/// ```
+/// use g1_copy::{commit, prepare};
+/// use g1_image::encode;
+/// use g1_layout::place;
+/// use g1_rem::{Starts, refine, verify};
+/// use g1_testing::pictures::{shared, shared_after};
+/// use g1_testing::{image, text};
+/// use g1_work::Open;
+///
+/// let shared = image(alloc, shared())?;
+/// let tracked = verify(&rt, alloc, shared).map_err(|(_, fault)| fault)?;
+/// let heap = tracked.image.heap();
+/// let starts = Starts::build(alloc, heap)?;
+/// let remembered = refine(&rt, alloc, &tracked, &starts)?;
+/// let plan = place(alloc, heap, &[1], &[21, 16])?;
+/// let prepared = prepare(&rt, alloc, &tracked, &starts, &remembered, &[1], &plan)?;
+/// let after = commit(&rt, 8, tracked, prepared, &Open);
+/// assert_eq!(rt; encode(alloc, &after.image)?, text(alloc, shared_after())?);
+/// ```
 pub fn commit<R: Threads + Sync, G: Gate + Sync>(
     rt: &R,
     workers: u64,

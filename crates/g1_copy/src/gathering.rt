@@ -99,6 +99,23 @@ impl Fill for Copies<'_> {
 /// # Errors
 ///
 /// `Fault::Memory` alone.
+///
+/// # Examples
+///
+/// ```
+/// use g1_copy::gather;
+/// use g1_layout::place;
+/// use g1_testing::{image, pictures::shared};
+/// use g1_words::header_word;
+///
+/// let shared = image(alloc, shared())?;
+/// let plan = place(alloc, shared.heap(), &[1], &[21, 16])?;
+/// let words = gather(&rt, alloc, shared.heap(), &plan)?;
+/// // The objects are at 32 and 34 then, and a reference to the first is 33.
+/// let copies = [header_word(2, 0), 8, header_word(5, 3), 33, 33, 33, 1];
+/// assert_eq!(rt; &words[..7], copies.as_slice());
+/// assert_eq!(rt; &words[7..], [0; 9].as_slice());
+/// ```
 pub fn gather(
     rt: &(impl Threads + Sync),
     alloc: Global,

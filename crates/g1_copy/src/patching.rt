@@ -131,6 +131,22 @@ fn patches_by_threads(
 /// # Errors
 ///
 /// `Fault::Memory` alone.
+///
+/// # Examples
+///
+/// ```
+/// use g1_copy::patches;
+/// use g1_layout::place;
+/// use g1_rem::Starts;
+/// use g1_testing::{image, pictures::shared};
+///
+/// let shared = image(alloc, shared())?;
+/// let starts = Starts::build(alloc, shared.heap())?;
+/// let plan = place(alloc, shared.heap(), &[1], &[21, 16])?;
+/// // The slots at 1 and 5 reference the object at 21, which moves to 32.
+/// let found = patches(&rt, alloc, shared.heap(), &starts, &plan, &[0, 1])?;
+/// assert_eq!(rt; found.as_slice(), [(1, 33), (5, 33)].as_slice());
+/// ```
 pub fn patches(
     rt: &(impl Threads + Sync),
     alloc: Global,

@@ -67,6 +67,27 @@ impl Model for Prepared {
 
 impl Prepared {
     /// The first regions of the humongous objects that the pause frees, rising.
+    ///
+    /// # Examples
+    ///
+    /// ```
+    /// use g1_copy::prepare;
+    /// use g1_layout::place;
+    /// use g1_rem::{Starts, refine, verify};
+    /// use g1_testing::image;
+    ///
+    /// // Nothing references the one object.
+    /// let unnamed = image(alloc, "heap 16 4 2
+    ///     region 0 humongous
+    ///     object 20/0 ..")?;
+    /// let tracked = verify(&rt, alloc, unnamed).map_err(|(_, fault)| fault)?;
+    /// let heap = tracked.image.heap();
+    /// let starts = Starts::build(alloc, heap)?;
+    /// let remembered = refine(&rt, alloc, &tracked, &starts)?;
+    /// let plan = place(alloc, heap, &[], &[])?;
+    /// let prepared = prepare(&rt, alloc, &tracked, &starts, &remembered, &[], &plan)?;
+    /// assert_eq!(rt; prepared.humongous(), [0].as_slice());
+    /// ```
     pub fn humongous(&self) -> &[u32]
         ensures { result.now ≡ self.now.humongous }
     {
@@ -74,6 +95,24 @@ impl Prepared {
     }
 
     /// The slots outside the set that reference a survivor, by address, each with its new word.
+    ///
+    /// # Examples
+    ///
+    /// ```
+    /// use g1_copy::prepare;
+    /// use g1_layout::place;
+    /// use g1_rem::{Starts, refine, verify};
+    /// use g1_testing::{image, pictures::shared};
+    ///
+    /// let shared = image(alloc, shared())?;
+    /// let tracked = verify(&rt, alloc, shared).map_err(|(_, fault)| fault)?;
+    /// let heap = tracked.image.heap();
+    /// let starts = Starts::build(alloc, heap)?;
+    /// let remembered = refine(&rt, alloc, &tracked, &starts)?;
+    /// let plan = place(alloc, heap, &[1], &[21, 16])?;
+    /// let prepared = prepare(&rt, alloc, &tracked, &starts, &remembered, &[1], &plan)?;
+    /// assert_eq!(rt; prepared.patches(), [(1, 33), (5, 33)].as_slice());
+    /// ```
     pub fn patches(&self) -> &[(u64, u64)]
         ensures { result.now ≡ self.now.patches }
     {
@@ -81,6 +120,27 @@ impl Prepared {
     }
 
     /// The regions after the pause, by number.
+    ///
+    /// # Examples
+    ///
+    /// ```
+    /// use g1_copy::prepare;
+    /// use g1_layout::place;
+    /// use g1_rem::{Starts, refine, verify};
+    /// use g1_testing::{image, pictures::shared};
+    /// use g1_words::Kind;
+    ///
+    /// let shared = image(alloc, shared())?;
+    /// let tracked = verify(&rt, alloc, shared).map_err(|(_, fault)| fault)?;
+    /// let heap = tracked.image.heap();
+    /// let starts = Starts::build(alloc, heap)?;
+    /// let remembered = refine(&rt, alloc, &tracked, &starts)?;
+    /// let plan = place(alloc, heap, &[1], &[21, 16])?;
+    /// let prepared = prepare(&rt, alloc, &tracked, &starts, &remembered, &[1], &plan)?;
+    /// assert_eq!(rt; prepared.regions()[1].kind, Kind::Free);
+    /// assert_eq!(rt; prepared.regions()[2].kind, Kind::Ordinary);
+    /// assert_eq!(rt; prepared.regions()[2].top, 7);
+    /// ```
     pub fn regions(&self) -> &[Region]
         ensures { result.now ≡ self.now.regions }
     {
@@ -88,6 +148,25 @@ impl Prepared {
     }
 
     /// The reference words of the roots after the pause, by root number.
+    ///
+    /// # Examples
+    ///
+    /// ```
+    /// use g1_copy::prepare;
+    /// use g1_layout::place;
+    /// use g1_rem::{Starts, refine, verify};
+    /// use g1_testing::{image, pictures::shared};
+    ///
+    /// let shared = image(alloc, shared())?;
+    /// let tracked = verify(&rt, alloc, shared).map_err(|(_, fault)| fault)?;
+    /// let heap = tracked.image.heap();
+    /// let starts = Starts::build(alloc, heap)?;
+    /// let remembered = refine(&rt, alloc, &tracked, &starts)?;
+    /// let plan = place(alloc, heap, &[1], &[21, 16])?;
+    /// let prepared = prepare(&rt, alloc, &tracked, &starts, &remembered, &[1], &plan)?;
+    /// // The roots reference the objects at 32 and 34 then.
+    /// assert_eq!(rt; prepared.roots(), [33, 35].as_slice());
+    /// ```
     pub fn roots(&self) -> &[u64]
         ensures { result.now ≡ self.now.roots }
     {
@@ -95,6 +174,25 @@ impl Prepared {
     }
 
     /// The remembered set of each region after the pause.
+    ///
+    /// # Examples
+    ///
+    /// ```
+    /// use g1_copy::prepare;
+    /// use g1_layout::place;
+    /// use g1_rem::{Starts, refine, verify};
+    /// use g1_testing::{image, pictures::shared};
+    ///
+    /// let shared = image(alloc, shared())?;
+    /// let tracked = verify(&rt, alloc, shared).map_err(|(_, fault)| fault)?;
+    /// let heap = tracked.image.heap();
+    /// let starts = Starts::build(alloc, heap)?;
+    /// let remembered = refine(&rt, alloc, &tracked, &starts)?;
+    /// let plan = place(alloc, heap, &[1], &[21, 16])?;
+    /// let prepared = prepare(&rt, alloc, &tracked, &starts, &remembered, &[1], &plan)?;
+    /// assert_eq!(rt; prepared.remembered()[1].len(), 0);
+    /// assert_eq!(rt; prepared.remembered()[2].as_slice(), [0, 1].as_slice());
+    /// ```
     pub fn remembered(&self) -> &[Vec<u32>]
         ensures { map (λ s. s.items) result.now ≡ self.now.remembered }
     {
@@ -164,6 +262,25 @@ fn new_roots(alloc: Global, heap: &Heap, plan: &Plan) -> Result<Vec<u64>, AllocE
 /// # Errors
 ///
 /// `Fault::Memory` alone.
+///
+/// # Examples
+///
+/// ```
+/// use g1_copy::prepare;
+/// use g1_layout::place;
+/// use g1_rem::{Starts, refine, verify};
+/// use g1_testing::{image, pictures::shared};
+///
+/// let shared = image(alloc, shared())?;
+/// let tracked = verify(&rt, alloc, shared).map_err(|(_, fault)| fault)?;
+/// let heap = tracked.image.heap();
+/// let starts = Starts::build(alloc, heap)?;
+/// let remembered = refine(&rt, alloc, &tracked, &starts)?;
+/// let plan = place(alloc, heap, &[1], &[21, 16])?;
+/// let prepared = prepare(&rt, alloc, &tracked, &starts, &remembered, &[1], &plan)?;
+/// assert_eq!(rt; prepared.patches(), [(1, 33), (5, 33)].as_slice());
+/// assert_eq!(rt; prepared.roots(), [33, 35].as_slice());
+/// ```
 pub fn prepare(
     rt: &(impl Threads + Sync),
     alloc: Global,
@@ -214,6 +331,32 @@ pub struct Basis<'a> {
 /// # Errors
 ///
 /// `Fault::Memory` alone.
+///
+/// # Examples
+///
+/// ```
+/// use g1_copy::{Basis, prepare_on};
+/// use g1_layout::place;
+/// use g1_rem::{Starts, refine, verify};
+/// use g1_testing::{image, pictures::shared};
+///
+/// let shared = image(alloc, shared())?;
+/// let tracked = verify(&rt, alloc, shared).map_err(|(_, fault)| fault)?;
+/// let heap = tracked.image.heap();
+/// let starts = Starts::build(alloc, heap)?;
+/// let remembered = refine(&rt, alloc, &tracked, &starts)?;
+/// let plan = place(alloc, heap, &[1], &[21, 16])?;
+/// let basis = Basis {
+///     tracked: &tracked,
+///     starts: &starts,
+///     remembered: &remembered,
+///     set: &[1],
+///     plan: &plan,
+///     cards: &[0, 1],
+/// };
+/// let prepared = prepare_on(&rt, alloc, &basis, 8)?;
+/// assert_eq!(rt; prepared.patches(), [(1, 33), (5, 33)].as_slice());
+/// ```
 pub fn prepare_on(
     rt: &(impl Threads + Sync),
     alloc: Global,
@@ -247,6 +390,33 @@ pub fn prepare_on(
 /// # Errors
 ///
 /// `Fault::Memory` alone.
+///
+/// # Examples
+///
+/// ```
+/// use g1_copy::{Basis, prepare_by_leads};
+/// use g1_layout::place;
+/// use g1_rem::{Starts, refine, verify};
+/// use g1_testing::{image, pictures::shared};
+///
+/// let shared = image(alloc, shared())?;
+/// let tracked = verify(&rt, alloc, shared).map_err(|(_, fault)| fault)?;
+/// let heap = tracked.image.heap();
+/// let starts = Starts::build(alloc, heap)?;
+/// let remembered = refine(&rt, alloc, &tracked, &starts)?;
+/// let plan = place(alloc, heap, &[1], &[21, 16])?;
+/// let basis = Basis {
+///     tracked: &tracked,
+///     starts: &starts,
+///     remembered: &remembered,
+///     set: &[1],
+///     plan: &plan,
+///     cards: &[0, 1],
+/// };
+/// let leads = Vec::from_slice(alloc, &[(1, 22), (5, 22)])?;
+/// let prepared = prepare_by_leads(&rt, alloc, &basis, leads, 8)?;
+/// assert_eq!(rt; prepared.patches(), [(1, 33), (5, 33)].as_slice());
+/// ```
 pub fn prepare_by_leads(
     rt: &(impl Threads + Sync),
     alloc: Global,

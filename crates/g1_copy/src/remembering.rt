@@ -180,6 +180,28 @@ pub(crate) fn remembered_by_fate(
 /// # Errors
 ///
 /// `Fault::Memory` alone.
+///
+/// # Examples
+///
+/// ```
+/// use g1_copy::{gather, new_rem};
+/// use g1_layout::place;
+/// use g1_rem::{Starts, refine, verify};
+/// use g1_testing::{image, pictures::shared};
+///
+/// let shared = image(alloc, shared())?;
+/// let tracked = verify(&rt, alloc, shared).map_err(|(_, fault)| fault)?;
+/// let heap = tracked.image.heap();
+/// let starts = Starts::build(alloc, heap)?;
+/// let remembered = refine(&rt, alloc, &tracked, &starts)?;
+/// let plan = place(alloc, heap, &[1], &[21, 16])?;
+/// let words = gather(&rt, alloc, heap, &plan)?;
+/// let patches = [(1, 33), (5, 33)];
+/// let after = new_rem(&rt, alloc, &tracked, &remembered, &[1], &plan, &patches, &words)?;
+/// // The survivors went from region 1 into region 2.
+/// assert_eq!(rt; after[1].len(), 0);
+/// assert_eq!(rt; after[2].as_slice(), [0, 1].as_slice());
+/// ```
 pub fn new_rem(
     rt: &(impl Threads + Sync),
     alloc: Global,

@@ -58,6 +58,16 @@ impl Dealer {
     ///
     /// # Errors
     /// `Memory`.
+    ///
+    /// # Examples
+    ///
+    /// ```
+    /// use g1_deal::{Dealer, shares};
+    ///
+    /// let (dealer, seat) = Dealer::new(alloc, 3)?;
+    /// assert_eq!(rt; dealer.chunks(), 3);
+    /// assert_eq!(rt; shares(&seat), 64);
+    /// ```
     pub fn new(alloc: Global, chunks: u64) -> Result<(Dealer, DealSeat), Fault>
         requires { chunks < 2 ^ 32 }
         ensures chunks { IfOk result (λ r. r.0.chunks ≡ chunks) }
@@ -75,6 +85,15 @@ impl Dealer {
     }
 
     /// How many chunks there are.
+    ///
+    /// # Examples
+    ///
+    /// ```
+    /// use g1_deal::Dealer;
+    ///
+    /// let (dealer, _seat) = Dealer::new(alloc, 9)?;
+    /// assert_eq!(rt; dealer.chunks(), 9);
+    /// ```
     pub fn chunks(&self) -> u64
         ensures { result ≡ self.now.chunks }
     {
@@ -86,6 +105,17 @@ impl Dealer {
     /// It is one step on the cursor: when it comes, all seats together have drawn the numbers below
     /// this one, each once, and no others. A seat that has had None makes no further step, and answers
     /// None.
+    ///
+    /// # Examples
+    ///
+    /// ```
+    /// use g1_deal::Dealer;
+    ///
+    /// let (dealer, mut seat) = Dealer::new(alloc, 2)?;
+    /// assert_eq!(rt; dealer.take(&mut seat), Some(0));
+    /// assert_eq!(rt; dealer.take(&mut seat), Some(1));
+    /// assert_eq!(rt; dealer.take(&mut seat), None);
+    /// ```
     pub fn take(&self, seat: &mut DealSeat) -> Option<u64>
         requires { IsSeatOf self.now seat.old }
         ensures below { IfSome result (λ n. n < self.now.chunks) }
@@ -115,6 +145,18 @@ impl Dealer {
     }
 
     /// How many chunks have been drawn, by all seats, when the cursor is read. It is one load.
+    ///
+    /// # Examples
+    ///
+    /// ```
+    /// use g1_deal::Dealer;
+    ///
+    /// let (dealer, mut seat) = Dealer::new(alloc, 3)?;
+    /// let mut other = dealer.split(&mut seat);
+    /// assert_eq!(rt; dealer.drawn(&mut other), 0);
+    /// dealer.take(&mut seat);
+    /// assert_eq!(rt; dealer.drawn(&mut other), 1);
+    /// ```
     pub fn drawn(&self, seat: &mut DealSeat) -> u64
         requires { IsSeatOf self.now seat.old }
         ensures known { seat.old.floor ≤ result }
@@ -129,6 +171,18 @@ impl Dealer {
     }
 
     /// Hands one share to a new seat, which has drawn nothing and knows what the old one knows.
+    ///
+    /// # Examples
+    ///
+    /// ```
+    /// use g1_deal::{Dealer, shares};
+    ///
+    /// let (dealer, mut seat) = Dealer::new(alloc, 3)?;
+    /// let mut other = dealer.split(&mut seat);
+    /// assert_eq!(rt; (shares(&seat), shares(&other)), (63, 1));
+    /// assert_eq!(rt; dealer.take(&mut other), Some(0));
+    /// assert_eq!(rt; dealer.take(&mut seat), Some(1));
+    /// ```
     pub fn split(&self, seat: &mut DealSeat) -> DealSeat
         requires dealer { IsSeatOf self.now seat.old }
         requires two { 1 < seat.old.shares }
@@ -150,6 +204,17 @@ impl Dealer {
     }
 
     /// Puts what another seat has into this one: its shares, its draws and its steps.
+    ///
+    /// # Examples
+    ///
+    /// ```
+    /// use g1_deal::{Dealer, shares};
+    ///
+    /// let (dealer, mut seat) = Dealer::new(alloc, 3)?;
+    /// let other = dealer.split(&mut seat);
+    /// dealer.join(&mut seat, other);
+    /// assert_eq!(rt; shares(&seat), 64);
+    /// ```
     pub fn join(&self, seat: &mut DealSeat, other: DealSeat)
         requires seat { IsSeatOf self.now seat.old }
         requires other { IsSeatOf self.now other }
@@ -179,6 +244,17 @@ impl Dealer {
     }
 
     /// Ends the dealing, and gives the cursor: how many steps all seats have made.
+    ///
+    /// # Examples
+    ///
+    /// ```
+    /// use g1_deal::Dealer;
+    ///
+    /// let (dealer, mut seat) = Dealer::new(alloc, 3)?;
+    /// while dealer.take(&mut seat).is_some() {}
+    /// // Three steps found a number each, and the last one found none.
+    /// assert_eq!(rt; dealer.close(seat), 4);
+    /// ```
     pub fn close(self, seat: DealSeat) -> u64
         requires dealer { IsSeatOf self seat }
         requires whole { seat.shares ≡ all_shares }
@@ -203,6 +279,17 @@ impl Dealer {
 }
 
 /// How many of the dealer's 64 shares the seat has.
+///
+/// # Examples
+///
+/// ```
+/// use g1_deal::{Dealer, shares};
+///
+/// let (dealer, mut seat) = Dealer::new(alloc, 3)?;
+/// let other = dealer.split(&mut seat);
+/// assert_eq!(rt; shares(&seat), 63);
+/// assert_eq!(rt; shares(&other), 1);
+/// ```
 pub fn shares(seat: &DealSeat) -> u32
     ensures shares { result ≡ seat.now.shares }
     ensures some { 0 < result }

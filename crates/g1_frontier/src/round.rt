@@ -303,6 +303,27 @@ pub(crate) fn round_in<R: Threads + Sync, G: Gate + Sync>(
 ///
 /// # Errors
 /// `Memory`. The table and the seat are then given up.
+///
+/// # Examples
+///
+/// ```
+/// use g1_claim::Claims;
+/// use g1_frontier::{Item, claim_round};
+/// use g1_rem::Starts;
+/// use g1_testing::{image, pictures::shared};
+/// use g1_work::Open;
+///
+/// let shared = image(alloc, shared())?;
+/// let heap = shared.heap();
+/// let starts = Starts::build(alloc, heap)?;
+/// let (claims, seat) = Claims::new(alloc, heap.geometry().region_words())?;
+/// // Root 0 references the object at 21, and root 1 the one at 16.
+/// let items = [Item::Root { index: 0 }, Item::Root { index: 1 }];
+/// let (_, _, won) = claim_round(
+///     &rt, alloc, heap, &starts, &[1], claims, seat, &items, 1, 64, &Open,
+/// )?;
+/// assert_eq!(rt; won.as_slice(), [(0, 21), (1, 16)].as_slice());
+/// ```
 pub fn claim_round<R: Threads + Sync, G: Gate + Sync>(
     rt: &R,
     alloc: Global,

@@ -195,6 +195,22 @@ fn survivors_in<R: Threads + Sync, G: Gate + Sync>(
 ///
 /// # Errors
 /// `Memory`.
+///
+/// # Examples
+///
+/// ```
+/// use g1_frontier::discover;
+/// use g1_rem::Starts;
+/// use g1_testing::{image, pictures::shared};
+/// use g1_work::Open;
+///
+/// let shared = image(alloc, shared())?;
+/// let heap = shared.heap();
+/// let starts = Starts::build(alloc, heap)?;
+/// // Two slots of region 0, on the cards 0 and 1, reference the object at 21.
+/// let found = discover(&rt, alloc, heap, &starts, &[1], &[0, 1], 8, 64, &Open)?;
+/// assert_eq!(rt; found.as_slice(), [21, 16].as_slice());
+/// ```
 pub fn discover<R: Threads + Sync, G: Gate + Sync>(
     rt: &R,
     alloc: Global,
@@ -225,6 +241,24 @@ pub fn discover<R: Threads + Sync, G: Gate + Sync>(
 ///
 /// # Errors
 /// `Memory`.
+///
+/// # Examples
+///
+/// ```
+/// use g1_frontier::discover_seen;
+/// use g1_rem::Starts;
+/// use g1_testing::{image, pictures::shared};
+/// use g1_work::Open;
+///
+/// let shared = image(alloc, shared())?;
+/// let heap = shared.heap();
+/// let starts = Starts::build(alloc, heap)?;
+/// let found = discover_seen(&rt, alloc, heap, &starts, &[1], &[0, 1], 1, 64, &Open)?;
+/// assert_eq!(rt; found.survivors.as_slice(), [21, 16].as_slice());
+/// let seen = found.seen.ok_or("nothing was seen")?;
+/// assert_eq!(rt; seen.sizes.as_slice(), [2, 5].as_slice());
+/// assert_eq!(rt; seen.leads.as_slice(), [(1, 22), (5, 22)].as_slice());
+/// ```
 pub fn discover_seen<R: Threads + Sync, G: Gate + Sync>(
     rt: &R,
     alloc: Global,
@@ -254,6 +288,19 @@ pub fn discover_seen<R: Threads + Sync, G: Gate + Sync>(
 ///
 /// # Errors
 /// `Memory`.
+///
+/// # Examples
+///
+/// ```
+/// use g1_frontier::discover_from_roots;
+/// use g1_testing::{image, pictures::shared};
+/// use g1_work::Open;
+///
+/// // The two objects of region 0 are garbage.
+/// let shared = image(alloc, shared())?;
+/// let found = discover_from_roots(&rt, alloc, shared.heap(), &[0, 1], 8, 64, &Open)?;
+/// assert_eq!(rt; found.survivors.as_slice(), [21, 16].as_slice());
+/// ```
 pub fn discover_from_roots<R: Threads + Sync, G: Gate + Sync>(
     rt: &R,
     alloc: Global,

@@ -20,6 +20,20 @@ use std::thread::Threads;
 ///
 /// # Errors
 /// `Memory`.
+///
+/// # Examples
+///
+/// ```
+/// use g1_mark::live_objects;
+/// use g1_rem::Starts;
+/// use g1_testing::{image, pictures::shared};
+/// use g1_work::{Open, Team};
+///
+/// let shared = image(alloc, shared())?;
+/// let starts = Starts::build(alloc, shared.heap())?;
+/// let live = live_objects(&rt, alloc, shared.heap(), &starts, Team::new(8, 64), &Open)?;
+/// assert_eq!(rt; live.as_slice(), [21, 16].as_slice());
+/// ```
 pub fn live_objects<R: Threads + Sync, G: Gate + Sync>(
     rt: &R,
     alloc: Global,
@@ -68,6 +82,21 @@ fn found_live<R: Threads + Sync, G: Gate + Sync>(
 ///
 /// # Errors
 /// `Memory`.
+///
+/// # Examples
+///
+/// ```
+/// use g1_mark::live_bytes;
+/// use g1_rem::Starts;
+/// use g1_testing::{image, pictures::shared};
+/// use g1_work::Open;
+///
+/// // The roots reach the objects of region 1, which have 7 words, and none of region 0.
+/// let shared = image(alloc, shared())?;
+/// let starts = Starts::build(alloc, shared.heap())?;
+/// let live = live_bytes(&rt, alloc, shared.heap(), &starts, 8, 64, &Open)?;
+/// assert_eq!(rt; live.as_slice(), [0, 56, 0, 0].as_slice());
+/// ```
 pub fn live_bytes<R: Threads + Sync, G: Gate + Sync>(
     rt: &R,
     alloc: Global,
@@ -90,6 +119,19 @@ pub fn live_bytes<R: Threads + Sync, G: Gate + Sync>(
 ///
 /// # Errors
 /// `Memory`.
+///
+/// # Examples
+///
+/// ```
+/// use g1_mark::count_live_bytes;
+/// use g1_testing::{image, pictures::humongous};
+/// use g1_work::Open;
+///
+/// // An object of 40 words over the regions 0 to 2 references one of 2 words in region 3.
+/// let humongous = image(alloc, humongous())?;
+/// let live = count_live_bytes(&rt, alloc, humongous.heap(), 8, 64, &Open)?;
+/// assert_eq!(rt; live.as_slice(), [320, 0, 0, 16, 0, 0].as_slice());
+/// ```
 pub fn count_live_bytes<R: Threads + Sync, G: Gate + Sync>(
     rt: &R,
     alloc: Global,

@@ -38,6 +38,20 @@ impl<'a> Before<'a> {
     /// # Errors
     ///
     /// `Fault::Memory` alone.
+    ///
+    /// # Examples
+    ///
+    /// ```
+    /// use g1_pause::Before;
+    /// use g1_rem::verify;
+    /// use g1_testing::{image, pictures::shared};
+    ///
+    /// let shared = image(alloc, shared())?;
+    /// let tracked = verify(&rt, alloc, shared).map_err(|(_, fault)| fault)?;
+    /// let before = Before::new(&rt, alloc, &tracked, 1)?;
+    /// // The cards 0 and 1 hold slots that reference an object in region 1.
+    /// assert_eq!(rt; before.remembered()[1].as_slice(), [0, 1].as_slice());
+    /// ```
     pub fn new<R: Threads + Sync>(
         rt: &R,
         alloc: Global,
@@ -57,6 +71,19 @@ impl<'a> Before<'a> {
     }
 
     /// The image as it is tracked.
+    ///
+    /// # Examples
+    ///
+    /// ```
+    /// use g1_pause::Before;
+    /// use g1_rem::verify;
+    /// use g1_testing::{image, pictures::shared};
+    ///
+    /// let shared = image(alloc, shared())?;
+    /// let tracked = verify(&rt, alloc, shared).map_err(|(_, fault)| fault)?;
+    /// let before = Before::new(&rt, alloc, &tracked, 1)?;
+    /// assert_eq!(rt; before.tracked().image.heap().roots(), [22, 17].as_slice());
+    /// ```
     pub fn tracked(&self) -> &Tracked
         ensures { result.now ≡ self.now }
     {
@@ -64,6 +91,19 @@ impl<'a> Before<'a> {
     }
 
     /// The image.
+    ///
+    /// # Examples
+    ///
+    /// ```
+    /// use g1_pause::Before;
+    /// use g1_rem::verify;
+    /// use g1_testing::{image, pictures::shared};
+    ///
+    /// let shared = image(alloc, shared())?;
+    /// let tracked = verify(&rt, alloc, shared).map_err(|(_, fault)| fault)?;
+    /// let before = Before::new(&rt, alloc, &tracked, 1)?;
+    /// assert_eq!(rt; before.image().heap().roots(), [22, 17].as_slice());
+    /// ```
     pub fn image(&self) -> &Image
         ensures same { result.now ≡ self.now }
         ensures tracked { IsTracked self.now }
@@ -75,6 +115,21 @@ impl<'a> Before<'a> {
     }
 
     /// The starts of the image's heap.
+    ///
+    /// # Examples
+    ///
+    /// ```
+    /// use g1_pause::Before;
+    /// use g1_rem::verify;
+    /// use g1_testing::{image, pictures::shared};
+    ///
+    /// let shared = image(alloc, shared())?;
+    /// let tracked = verify(&rt, alloc, shared).map_err(|(_, fault)| fault)?;
+    /// let before = Before::new(&rt, alloc, &tracked, 1)?;
+    /// // An object begins at 4, the first word of card 1, and none lies over the first word of card 2.
+    /// assert_eq!(rt; before.starts().first(1), Some(4));
+    /// assert_eq!(rt; before.starts().first(2), None);
+    /// ```
     pub fn starts(&self) -> &Starts
         ensures { IsStartsOf self.now.heap result.now }
     {
@@ -82,6 +137,20 @@ impl<'a> Before<'a> {
     }
 
     /// The refined remembered sets, by region number.
+    ///
+    /// # Examples
+    ///
+    /// ```
+    /// use g1_pause::Before;
+    /// use g1_rem::verify;
+    /// use g1_testing::{image, pictures::shared};
+    ///
+    /// let shared = image(alloc, shared())?;
+    /// let tracked = verify(&rt, alloc, shared).map_err(|(_, fault)| fault)?;
+    /// let before = Before::new(&rt, alloc, &tracked, 1)?;
+    /// assert_eq!(rt; before.remembered().len(), 4);
+    /// assert_eq!(rt; before.remembered()[1].as_slice(), [0, 1].as_slice());
+    /// ```
     pub fn remembered(&self) -> &[Vec<u32>]
         ensures one_each { length result.now ≡ self.now.heap.geometry.n }
         ensures refined { map (λ s. s.items) result.now ≡ map (refined self.now) (regions self.now.heap) }

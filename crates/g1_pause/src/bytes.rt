@@ -46,6 +46,22 @@ pub(crate) fn run_pause<R: Threads + Sync, G: Gate + Sync>(
 ///
 /// The fault of bytes that are no image's text; `Fault::Uncovered` with the lowest slot that isn't
 /// covered; `Fault::Set` and `Fault::Room` as `evacuate` returns them; `Fault::Memory`.
+///
+/// # Examples
+///
+/// ```
+/// use g1_choose::Cost;
+/// use g1_pause::{Choice, Settings, pause_bytes};
+/// use g1_testing::pictures::{shared, shared_after};
+/// use g1_testing::text;
+/// use g1_work::Open;
+///
+/// let cost = Cost { fixed: 10, dirty: 1, card: 1, byte: 1 };
+/// let settings = Settings::new(8, 64, cost, Choice::Given([1].to_vec(alloc)?))?;
+/// let shared = text(alloc, shared())?;
+/// let after = pause_bytes(&rt, alloc, &shared, &settings, &Open)?;
+/// assert_eq!(rt; after, text(alloc, shared_after())?);
+/// ```
 pub fn pause_bytes<R: Threads + Sync, G: Gate + Sync>(
     rt: &R,
     alloc: Global,

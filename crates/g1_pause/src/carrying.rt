@@ -16,6 +16,27 @@ use std::thread::Threads;
 /// # Errors
 ///
 /// `Fault::Room` if the steps found no room for the survivors. The image that comes back is the one handed in.
+///
+/// # Examples
+///
+/// ```
+/// use g1_choose::Cost;
+/// use g1_image::encode;
+/// use g1_pause::{Before, Choice, Settings, carry_out, take_steps};
+/// use g1_rem::verify;
+/// use g1_testing::pictures::{shared, shared_after};
+/// use g1_testing::{image, text};
+/// use g1_work::Open;
+///
+/// let shared = image(alloc, shared())?;
+/// let tracked = verify(&rt, alloc, shared).map_err(|(_, fault)| fault)?;
+/// let before = Before::new(&rt, alloc, &tracked, 1)?;
+/// let cost = Cost { fixed: 10, dirty: 1, card: 1, byte: 1 };
+/// let settings = Settings::new(8, 64, cost, Choice::Given([1].to_vec(alloc)?))?;
+/// let steps = take_steps(&rt, alloc, &before, &settings, &Open)?;
+/// let after = carry_out(&rt, tracked, &settings, steps, &Open).map_err(|(_, fault)| fault)?;
+/// assert_eq!(rt; encode(alloc, &after.image)?, text(alloc, shared_after())?);
+/// ```
 pub fn carry_out<R: Threads + Sync, G: Gate + Sync>(
     rt: &R,
     tracked: Tracked,

@@ -40,6 +40,29 @@ pub struct Bought {
 /// # Errors
 ///
 /// `Fault::Set` with the first region of a given list that can't be taken; `Fault::Memory`.
+///
+/// # Examples
+///
+/// ```
+/// use g1_choose::Cost;
+/// use g1_pause::{Before, Choice, Settings, collection_set};
+/// use g1_rem::verify;
+/// use g1_testing::{image, pictures::shared};
+/// use g1_work::Open;
+///
+/// let shared = image(alloc, shared())?;
+/// let tracked = verify(&rt, alloc, shared).map_err(|(_, fault)| fault)?;
+/// let before = Before::new(&rt, alloc, &tracked, 1)?;
+/// let cost = Cost { fixed: 10, dirty: 1, card: 1, byte: 1 };
+/// // Region 0 alone has garbage. It costs nothing beside the pause: no live byte is in it, and no card
+/// // leads into it.
+/// let enough = Settings::new(8, 64, cost, Choice::Budget(10))?;
+/// let set = collection_set(&rt, alloc, &before, &enough, &Open)?;
+/// assert_eq!(rt; set.regions.as_slice(), [0].as_slice());
+/// let one_short = Settings::new(8, 64, cost, Choice::Budget(9))?;
+/// let set = collection_set(&rt, alloc, &before, &one_short, &Open)?;
+/// assert_eq!(rt; set.regions.len(), 0);
+/// ```
 pub fn collection_set<R: Threads + Sync, G: Gate + Sync>(
     rt: &R,
     alloc: Global,
@@ -106,6 +129,24 @@ fn buy_regions<R: Threads + Sync, G: Gate + Sync>(
 /// # Errors
 ///
 /// `Fault::Memory` alone.
+///
+/// # Examples
+///
+/// ```
+/// use g1_choose::Cost;
+/// use g1_pause::{Before, Choice, Settings, count_live};
+/// use g1_rem::verify;
+/// use g1_testing::{image, pictures::shared};
+/// use g1_work::Open;
+///
+/// let shared = image(alloc, shared())?;
+/// let tracked = verify(&rt, alloc, shared).map_err(|(_, fault)| fault)?;
+/// let before = Before::new(&rt, alloc, &tracked, 1)?;
+/// let cost = Cost { fixed: 10, dirty: 1, card: 1, byte: 1 };
+/// let settings = Settings::new(8, 64, cost, Choice::Budget(42))?;
+/// let live = count_live(&rt, alloc, &before, &settings, &Open)?;
+/// assert_eq!(rt; live.as_slice(), [0, 56, 0, 0].as_slice());
+/// ```
 pub fn count_live<R: Threads + Sync, G: Gate + Sync>(
     rt: &R,
     alloc: Global,

@@ -63,6 +63,30 @@ fn plan_pause<R: Threads + Sync, G: Gate + Sync>(
 /// `Fault::Set` with the first region of a given list that is out of range, isn't ordinary, is pinned
 /// or is earlier in the list; `Fault::Room` if the survivors need more regions than are free;
 /// `Fault::Memory`. The image that comes back equals the one handed in.
+///
+/// # Examples
+///
+/// ```
+/// use g1_choose::Cost;
+/// use g1_pause::{Choice, Settings, evacuate};
+/// use g1_rem::verify;
+/// use g1_testing::{image, pictures::shared};
+/// use g1_words::Fault;
+/// use g1_work::Open;
+///
+/// let shared = image(alloc, shared())?;
+/// let tracked = verify(&rt, alloc, shared).map_err(|(_, fault)| fault)?;
+/// let cost = Cost { fixed: 10, dirty: 1, card: 1, byte: 1 };
+/// let settings = Settings::new(8, 64, cost, Choice::Given([1].to_vec(alloc)?))?;
+/// let (after, report) =
+///     evacuate(&rt, alloc, tracked, &settings, &Open).map_err(|(_, fault)| fault)?;
+/// assert_eq!(rt; report.to.as_slice(), [2].as_slice());
+/// assert_eq!(rt; (report.objects, report.words), (2, 7));
+/// assert_eq!(rt; after.image.heap().roots(), [33, 35].as_slice());
+/// // Region 1 is free now, and can't be collected again.
+/// let again = evacuate(&rt, alloc, after, &settings, &Open).map_err(|(_, fault)| fault);
+/// assert_eq!(rt; again.err(), Some(Fault::Set(1)));
+/// ```
 pub fn evacuate<R: Threads + Sync, G: Gate + Sync>(
     rt: &R,
     alloc: Global,

@@ -21,6 +21,24 @@ use std::thread::Threads;
 /// `Fault::Device(Device::Input)` if a read failed, `Fault::Memory`, and the refusals of
 /// `pause_bytes`: nothing was written. `Fault::Device(Device::Output)` if a write failed: a
 /// beginning of the answer was written.
+///
+/// # Examples
+///
+/// ```
+/// use g1_choose::Cost;
+/// use g1_pause::{Choice, FromReader, Settings, ToWriter, pause_run};
+/// use g1_testing::pictures::{shared, shared_after};
+/// use g1_testing::text;
+/// use g1_work::Open;
+///
+/// let cost = Cost { fixed: 10, dirty: 1, card: 1, byte: 1 };
+/// let settings = Settings::new(8, 64, cost, Choice::Given([1].to_vec(alloc)?))?;
+/// let shared = text(alloc, shared())?;
+/// let mut reader = FromReader::new(shared.as_slice());
+/// let mut writer = ToWriter::new(Vec::new(alloc));
+/// pause_run(&rt, alloc, &mut reader, &mut writer, &settings, &Open)?;
+/// assert_eq!(rt; writer.into_inner(), text(alloc, shared_after())?);
+/// ```
 pub fn pause_run<R: Threads + Sync, I: Source, O: Sink, G: Gate + Sync>(
     rt: &R,
     alloc: Global,
@@ -42,6 +60,30 @@ pub fn pause_run<R: Threads + Sync, I: Source, O: Sink, G: Gate + Sync>(
 /// # Errors
 ///
 /// Those of `pause_run`.
+///
+/// # Examples
+///
+/// ```
+/// use g1_choose::Cost;
+/// use g1_pause::{Choice, FromReader, Settings, ToWriter, pause_run_within};
+/// use g1_testing::text;
+/// use g1_words::Limits;
+/// use g1_work::Open;
+///
+/// let cost = Cost { fixed: 10, dirty: 1, card: 1, byte: 1 };
+/// let settings = Settings::new(8, 64, cost, Choice::Budget(42))?;
+/// // One free region of 1 MiB, which is twice what the specification allows. The pause changes nothing.
+/// let empty = text(alloc, "heap 131072 64 1")?;
+/// let mut writer = ToWriter::new(Vec::new(alloc));
+/// let mut reader = FromReader::new(empty.as_slice());
+/// let refused = pause_run_within(
+///     &rt, alloc, Limits::Specified, &mut reader, &mut writer, &settings, &Open,
+/// );
+/// assert_eq!(rt; refused, Err(g1_words::Fault::Geometry));
+/// let mut reader = FromReader::new(empty.as_slice());
+/// pause_run_within(&rt, alloc, Limits::Wide, &mut reader, &mut writer, &settings, &Open)?;
+/// assert_eq!(rt; writer.into_inner(), empty);
+/// ```
 pub fn pause_run_within<R: Threads + Sync, I: Source, O: Sink, G: Gate + Sync>(
     rt: &R,
     alloc: Global,

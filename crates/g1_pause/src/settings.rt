@@ -67,6 +67,21 @@ impl Settings {
     ///
     /// `Fault::Settings` with the lowest number of what is out of range: 1 the workers, 2 the chunk,
     /// 3 a cost parameter.
+    ///
+    /// # Examples
+    ///
+    /// ```
+    /// use g1_choose::Cost;
+    /// use g1_pause::{Choice, Settings};
+    /// use g1_words::Fault;
+    ///
+    /// let cost = Cost { fixed: 10, dirty: 1, card: 1, byte: 1 };
+    /// let settings = Settings::new(8, 64, cost, Choice::Budget(42))?;
+    /// assert_eq!(rt; (settings.workers(), settings.chunk()), (8, 64));
+    /// // 65 workers are one too many.
+    /// let refused = Settings::new(65, 64, cost, Choice::Budget(42)).err();
+    /// assert_eq!(rt; refused, Some(Fault::Settings(1)));
+    /// ```
     pub fn new(workers: u64, chunk: u64, cost: Cost, choice: Choice) -> Result<Settings, Fault>
         ensures ok { IfOk result (λ s. s ≡ record { workers = workers; chunk = chunk; cost = cost; choice = choice }) }
         ensures err { IfErr result (λ e. (which : ℕ) × IsRefused workers chunk cost which × (e ≡ Fault.Settings which)) }
@@ -85,6 +100,18 @@ impl Settings {
     }
 
     /// How many workers share the pause, and how many items one of them draws at once.
+    ///
+    /// # Examples
+    ///
+    /// ```
+    /// use g1_choose::Cost;
+    /// use g1_pause::{Choice, Settings};
+    ///
+    /// let cost = Cost { fixed: 10, dirty: 1, card: 1, byte: 1 };
+    /// let settings = Settings::new(8, 64, cost, Choice::Budget(42))?;
+    /// let team = settings.team();
+    /// assert_eq!(rt; (team.workers(), team.chunk()), (8, 64));
+    /// ```
     pub fn team(&self) -> Team
         ensures workers { result.workers ≡ self.now.workers }
         ensures chunk { result.chunk ≡ self.now.chunk }
@@ -93,6 +120,17 @@ impl Settings {
     }
 
     /// How many workers share the pause.
+    ///
+    /// # Examples
+    ///
+    /// ```
+    /// use g1_choose::Cost;
+    /// use g1_pause::{Choice, Settings};
+    ///
+    /// let cost = Cost { fixed: 10, dirty: 1, card: 1, byte: 1 };
+    /// let settings = Settings::new(8, 64, cost, Choice::Budget(42))?;
+    /// assert_eq!(rt; settings.workers(), 8);
+    /// ```
     pub fn workers(&self) -> u64
         ensures value { result ≡ self.now.workers }
         ensures range { AreWorkers self.now.workers }
@@ -101,6 +139,17 @@ impl Settings {
     }
 
     /// How many items a worker draws at once.
+    ///
+    /// # Examples
+    ///
+    /// ```
+    /// use g1_choose::Cost;
+    /// use g1_pause::{Choice, Settings};
+    ///
+    /// let cost = Cost { fixed: 10, dirty: 1, card: 1, byte: 1 };
+    /// let settings = Settings::new(8, 64, cost, Choice::Budget(42))?;
+    /// assert_eq!(rt; settings.chunk(), 64);
+    /// ```
     pub fn chunk(&self) -> u64
         ensures value { result ≡ self.now.chunk }
         ensures range { IsChunk self.now.chunk }
@@ -109,6 +158,17 @@ impl Settings {
     }
 
     /// What the parts of a pause cost.
+    ///
+    /// # Examples
+    ///
+    /// ```
+    /// use g1_choose::Cost;
+    /// use g1_pause::{Choice, Settings};
+    ///
+    /// let cost = Cost { fixed: 10, dirty: 1, card: 1, byte: 1 };
+    /// let settings = Settings::new(8, 64, cost, Choice::Budget(42))?;
+    /// assert_eq!(rt; settings.cost(), cost);
+    /// ```
     pub fn cost(&self) -> Cost
         ensures value { result ≡ self.now.cost }
         ensures range { IsCost self.now.cost }
@@ -117,6 +177,17 @@ impl Settings {
     }
 
     /// Which regions it is to collect.
+    ///
+    /// # Examples
+    ///
+    /// ```
+    /// use g1_choose::Cost;
+    /// use g1_pause::{Choice, Settings};
+    ///
+    /// let cost = Cost { fixed: 10, dirty: 1, card: 1, byte: 1 };
+    /// let settings = Settings::new(8, 64, cost, Choice::Budget(42))?;
+    /// assert!(rt; matches!(settings.choice(), Choice::Budget(42)));
+    /// ```
     pub fn choice(&self) -> &Choice
         ensures { result.now ≡ self.now.choice }
     {

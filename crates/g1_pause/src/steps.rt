@@ -57,6 +57,26 @@ pub enum Outcome {
 ///
 /// `Fault::Set` with the first region of a given list that can't be taken; `Fault::Memory`. That there is no
 /// room for the survivors is an outcome.
+///
+/// # Examples
+///
+/// ```
+/// use g1_choose::Cost;
+/// use g1_pause::{Before, Choice, Outcome, Settings, take_steps};
+/// use g1_rem::verify;
+/// use g1_testing::{image, pictures::shared};
+/// use g1_work::Open;
+///
+/// let shared = image(alloc, shared())?;
+/// let tracked = verify(&rt, alloc, shared).map_err(|(_, fault)| fault)?;
+/// let before = Before::new(&rt, alloc, &tracked, 1)?;
+/// let cost = Cost { fixed: 10, dirty: 1, card: 1, byte: 1 };
+/// let settings = Settings::new(8, 64, cost, Choice::Given([1].to_vec(alloc)?))?;
+/// let steps = take_steps(&rt, alloc, &before, &settings, &Open)?;
+/// assert_eq!(rt; steps.cards.as_slice(), [0, 1].as_slice());
+/// // There is room for the survivors.
+/// assert!(rt; matches!(steps.outcome, Outcome::Ready { .. }));
+/// ```
 pub fn take_steps<R: Threads + Sync, G: Gate + Sync>(
     rt: &R,
     alloc: Global,

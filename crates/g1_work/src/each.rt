@@ -128,6 +128,38 @@ fn run_all<R: Threads + Sync, T: Task + Sync, G: Gate + Sync>(
 ///
 /// # Errors
 /// `Memory`, or a fault that the task states for one of the chunks. The states are given up.
+///
+/// # Examples
+///
+/// ```
+/// use g1_words::Fault;
+/// use g1_work::{Open, Task, each_chunk};
+///
+/// struct Squares;
+///
+/// impl Task for Squares {
+///     type State = ();
+///
+///     type Out = u64;
+///
+///     ghost use Rattle.std.specs.Prelude.{◌≡◌, ◌<◌, ◌*◌, ◌^◌};
+///
+///     ghost ready = { λ _ _ chunk. chunk < 2 ^ 32 };
+///
+///     ghost runs = { λ _ _ chunk _ out. out ≡ chunk * chunk };
+///
+///     ghost may_fail = { λ _ _ _. ⊥ };
+///
+///     fn run(&self, _state: &mut (), chunk: u64) -> Result<u64, Fault> {
+///         Ok(chunk * chunk)
+///     }
+/// }
+///
+/// // Two workers, each with a state of its own.
+/// let states = vec![in alloc; (); 2]?;
+/// let (_, squares) = each_chunk(&rt, alloc, states, 5, &Squares, &Open)?;
+/// assert_eq!(rt; squares.as_slice(), [0, 1, 4, 9, 16].as_slice());
+/// ```
 pub fn each_chunk<R: Threads + Sync, T: Task + Sync, G: Gate + Sync>(
     rt: &R,
     alloc: Global,

@@ -52,6 +52,33 @@ fn make_in_turn<M: Make>(alloc: Global, count: usize, maker: &M) -> Result<Vec<M
 ///
 /// # Errors
 /// `Memory`.
+///
+/// # Examples
+///
+/// ```
+/// use g1_words::Fault;
+/// use g1_work::{Make, make_each};
+/// use std::alloc::Global;
+///
+/// struct Following;
+///
+/// impl Make for Following {
+///     type Made = u64;
+///
+///     ghost use Rattle.std.specs.Prelude.{◌≡◌, ◌<◌, ◌+◌, ◌^◌};
+///
+///     ghost ready = { λ _ number. number < 2 ^ 32 };
+///
+///     ghost makes = { λ _ number made. made ≡ number + 1 };
+///
+///     fn make(&self, _alloc: Global, number: usize) -> Result<u64, Fault> {
+///         Ok(number as u64 + 1)
+///     }
+/// }
+///
+/// let made = make_each(&rt, alloc, 2, 4, &Following)?;
+/// assert_eq!(rt; made.as_slice(), [1, 2, 3, 4].as_slice());
+/// ```
 pub fn make_each<R: Threads + Sync, M: Make + Sync>(
     rt: &R,
     alloc: Global,

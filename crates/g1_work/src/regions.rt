@@ -30,6 +30,30 @@ struct Span {
 /// these are fewer. The runs follow one another, are lent to threads disjointly, and each is
 /// reported to the gate as `Fill` once before it is filled. A run for which no thread can be had is
 /// filled by the thread that asked. Takes no memory and refuses nothing.
+///
+/// # Examples
+///
+/// ```
+/// use g1_work::{Fill, Open, each_region_mut};
+///
+/// struct Numbers;
+///
+/// impl Fill for Numbers {
+///     ghost use Rattle.std.specs.Prelude.{◌≡◌, length, replicate};
+///
+///     ghost ready = { λ _ _ _. Unit {0} };
+///
+///     ghost fills = { λ _ region before after. after ≡ replicate (length before) region };
+///
+///     fn fill(&self, region: usize, words: &mut [u64]) {
+///         words.fill(region as u64);
+///     }
+/// }
+///
+/// let mut words = [9; 6];
+/// each_region_mut(&rt, 2, &mut words, 2, &Numbers, &Open);
+/// assert_eq!(rt; words, [0, 0, 1, 1, 2, 2]);
+/// ```
 pub fn each_region_mut<R: Threads + Sync, F: Fill + Sync, G: Gate + Sync>(
     rt: &R,
     workers: u64,
