@@ -27,7 +27,7 @@ use crate::values::data_word;
 use crate::words::{Words, cut_words, size_and_slots};
 use g1_words::{Fault, Geometry, Limits, MOST_ROOTS};
 use indexmap::IndexSet;
-use memchr::memmem;
+use memchr::memchr_iter;
 use std::alloc::{AllocError, Global};
 use std::collections::HashMap;
 use std::str;
@@ -234,9 +234,13 @@ pub(crate) struct Lines<'a> {
     texts: HashMap<u64, &'a str>,
 }
 
-// How many lines begin with the word for an object. So many have room at once; others are read as well.
-fn objects_in(text: &[u8]) -> usize {
-    memmem::find_iter(text, b"\nobject").count()
+// The bytes of the shortest line of an object, as `object a 1/0`, with its LF.
+const LEAST_LINE: usize = 13;
+
+// How many objects the lines may have. So many have room at once; more would be read as well.
+fn most_objects(text: &[u8]) -> usize {
+    let lines = memchr_iter(b'\n', text).count();
+    lines.min(text.len() / LEAST_LINE)
 }
 
 // Nothing read, with room for so many objects, as far as a heap may have them.
@@ -263,7 +267,7 @@ fn read_lines<'a>(alloc: Global, text: &'a [u8]) -> Result<Lines<'a>, Wrong>
     ensures fits { OnOk result ((g : Option NamedGraph) × SayNamed None (lines_in text.now) g × FitsSoFar g) }
     ensures overfull { RefusesOverfull text.now result }
 {
-    let mut lines = with_room(alloc, objects_in(text))?;
+    let mut lines = with_room(alloc, most_objects(text))?;
     let mut words = Vec::new(alloc);
     let mut number = 0u64;
     let mut rest = Some(text);
