@@ -1,8 +1,8 @@
 #!/usr/bin/env python3
-"""planted.py [--jobs N] --all | CRATE ..
+"""planted.py [--every] [--jobs N] --all | CRATE ..
 
 Tries the wrong bodies crates/CRATE/planted/*.edit, of all crates or of those that are named: the prover has to refuse
-each function in which one is planted. It takes the libraries that `rt ci` left in crates/*/out, or builds those that
+each function in which one is planted. With --every it also tries those in planted/beside/, which the gate leaves out. It takes the libraries that `rt ci` left in crates/*/out, or builds those that
 are not there, or are older than their sources and not what `rt ci` keeps for them.
 
 A row is a must-fail edit (`rt help`) whose first line says what it turns:
@@ -41,6 +41,7 @@ refused.
 The last line is 'N refused, M failed'. Statuses: 0 if none failed, 1 if one did, 2 if nothing could be tried.
 """
 import argparse
+import collections
 import importlib.machinery
 import importlib.util
 import json
@@ -474,6 +475,15 @@ def kept_libraries(rt):
     return names
 
 
+def files_of(folder, every):
+    """The rows of a crate that are tried: those of planted/, and if every one is asked for those of planted/beside/, too."""
+    files = sorted(pathlib.Path(folder, "planted").glob("*.edit")) + sorted(pathlib.Path(folder, "planted/beside").glob("*.edit")) * every
+    twice = [name for name, count in collections.Counter(it.name for it in files).items() if count > 1]
+    if twice:
+        raise Stop(f"{pathlib.Path(folder).name}: two rows have the name {twice[0]}")
+    return files
+
+
 def build_libraries(crate, kept):
     """Has the libraries below a crate built: as rt ci left them, or as rt must-fail builds them."""
     if not all(dep.name in kept or is_fresh(dep) for dep in crate.below()):
@@ -482,9 +492,9 @@ def build_libraries(crate, kept):
                 raise Stop(f"{crate.name}: its library {dep.name} is not proved")
 
 
-def try_crate(rt, crate, is_unchanged):
+def try_crate(rt, crate, every, is_unchanged):
     functions = functions_of(crate.folder)
-    rows = [read_row(rt, crate, functions, file) for file in sorted(pathlib.Path(crate.folder, "planted").glob("*.edit"))]
+    rows = [read_row(rt, crate, functions, file) for file in files_of(crate.folder, every)]
     if not any(row.proves for row in rows):
         rows.append(Row(f"{crate.name}/planted", verdict=BAD, why="no row of this crate is one that proves"))
     if is_unchanged:
@@ -504,7 +514,7 @@ def require_rows(names, crates):
         raise Stop(f"no rows: {', '.join(sorted(unknown)) or 'crates/*/planted'}")
 
 
-def try_all(names, is_unchanged):
+def try_all(names, every, is_unchanged):
     """Tries the rows of these crates, or of all, side by side as rt ci tries edits."""
     os.chdir(ROOT)
     rt = load_rt()
@@ -515,14 +525,14 @@ def try_all(names, is_unchanged):
     kept = set() if all(is_fresh(dep) for crate in crates for dep in crate.below()) else kept_libraries(rt)
     for crate in crates:
         build_libraries(crate, kept)
-    work = {(it.name, "edits"): ([], it.count(rb"\n"), rt.need(it), lambda given, jobs, it=it: try_crate(rt, it, is_unchanged)) for it in crates}
+    work = {(it.name, "edits"): ([], it.count(rb"\n"), rt.need(it), lambda given, jobs, it=it: try_crate(rt, it, every, is_unchanged)) for it in crates}
     return [row for rows in rt.in_lanes(work).values() for row in rows]
 
 
-def tried_by_rt(name, lanes):
+def tried_by_rt(name, every, lanes):
     """Has `rt must-fail` try a crate's rows in the place of its must-fail edits, as many at once, and returns what it says of each."""
-    folder, planted = ROOT / "crates" / name / "must-fail", ROOT / "crates" / name / "planted"
-    rows = {file.name: file.read_text() for file in sorted(planted.glob("*.edit"))}
+    folder = ROOT / "crates" / name / "must-fail"
+    rows = {file.name: file.read_text() for file in files_of(folder.parent, every)}
     with tempfile.TemporaryDirectory(prefix="planted-aside-") as aside:
         if folder.is_dir():
             shutil.move(folder, aside)
@@ -549,13 +559,13 @@ def row_by_rt(name, file, said):
     return row
 
 
-def try_all_by_rt(names, jobs):
+def try_all_by_rt(names, every, jobs):
     """Tries the rows of these crates, or of all, one by one: a crate a processor, or as many crates at once as are asked for."""
     crates = sorted(it.parent.name for it in ROOT.glob("crates/*/planted"))
     require_rows(names, crates)
     lanes = {"RT_JOBS": "1"} if jobs else {}
     with ThreadPoolExecutor(jobs or os.cpu_count() or 1) as pool:
-        tried = list(pool.map(lambda name: tried_by_rt(name, lanes), [it for it in crates if not names or it in names]))
+        tried = list(pool.map(lambda name: tried_by_rt(name, every, lanes), [it for it in crates if not names or it in names]))
     rows = [row for rows in tried for row in rows]
     print("\n".join(f"planted {row.label}: {row.said()}" for row in rows), flush=True)
     return rows
@@ -568,15 +578,15 @@ def is_known_kit():
     return version.startswith(tuple(f"{it} " for it in KITS))
 
 
-def try_with_this_kit(names, is_unchanged, jobs):
+def try_with_this_kit(names, every, is_unchanged, jobs):
     """Tries the rows of these crates, or of all: of as many crates at once, if a number is given."""
     if is_known_kit():
         if jobs:
             os.environ["RT_JOBS"] = str(jobs)  # that is where rt looks
-        return try_all(names, is_unchanged)
+        return try_all(names, every, is_unchanged)
     if is_unchanged:
         raise Stop(f"--unchanged is for {' and '.join(KITS)}, and rt is of another kit")
-    return try_all_by_rt(names, jobs)
+    return try_all_by_rt(names, every, jobs)
 
 
 def count(text):
@@ -590,6 +600,7 @@ def main():
     parser = argparse.ArgumentParser(description=__doc__, formatter_class=argparse.RawDescriptionHelpFormatter)
     parser.add_argument("crates", metavar="CRATE", nargs="*", help="a crate with rows")
     parser.add_argument("--all", action="store_true", help="all crates with rows")
+    parser.add_argument("--every", action="store_true", help="try the rows in planted/beside/, too")
     parser.add_argument("--unchanged", action="store_true", help="try the rows that have a function of their own without their changes")
     parser.add_argument("--jobs", type=count, metavar="N", help="how many crates are checked at once (default: as many as there are "
                         "processors and memory for, or RT_JOBS)")
@@ -598,7 +609,7 @@ def main():
         parser.error("either --all or crates")
     try:
         progress.show("trying the wrong bodies", lambda: None)
-        rows = try_with_this_kit(options.crates, options.unchanged, options.jobs)
+        rows = try_with_this_kit(options.crates, options.every, options.unchanged, options.jobs)
     except (Stop, OSError, AttributeError) as error:
         print(f"planted.py: {error}", file=sys.stderr)
         return 2

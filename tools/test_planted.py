@@ -210,7 +210,7 @@ class Planted(unittest.TestCase):
     def setUp(self):
         self.room = tempfile.TemporaryDirectory()
         self.folder = pathlib.Path(self.room.name)
-        for name in ("src", "planted"):
+        for name in ("src", "planted/beside"):
             self.folder.joinpath("crates/toy", name).mkdir(parents=True)
         self.folder.joinpath("crates/toy/src/lib.rt").write_text(TOY)
         self.row("control", "first", "    1", "    1 + 0", expect="expect: proves\n")
@@ -339,6 +339,21 @@ class Planted(unittest.TestCase):
             status, out, errors = self.run_planted("--all", is_known=is_known)
             self.assertEqual((status, out, errors), (2, "", "planted.py: no rows: crates/*/planted\n"))
 
+    def test_a_row_beside_the_gate_is_tried_if_every_one_is(self):
+        self.row("turned", "second", "    2", "    2 + wrong")
+        self.row("beside/proved", "second", "    2", "    1 + 1")
+        rows, last, status = self.tried()
+        self.assertEqual((rows.keys(), last, status), ({"control", "turned"}, "1 refused, 0 failed", 0))
+        rows, last, status = self.tried("--every")
+        self.assertEqual((rows.keys(), last, status), ({"control", "proved", "turned"}, "1 refused, 1 failed", 1))
+        self.assertIn("NOT REFUSED", rows["proved"])
+
+    def test_two_rows_of_one_name_are_refused(self):
+        self.row("turned", "second", "    2", "    2 + wrong")
+        self.row("beside/turned", "third", "    second() + 1", "    wrong")
+        self.assertEqual(self.tried()[1:], ("1 refused, 0 failed", 0))
+        self.assertEqual(self.run_planted("--every", "toy"), (2, "", "planted.py: toy: two rows have the name turned.edit\n"))
+
     def test_another_kit_tries_no_row_without_its_change(self):
         status, out, errors = self.run_planted("--unchanged", "toy", is_known=False)
         self.assertEqual((status, out), (2, ""))
@@ -397,8 +412,8 @@ class Crates(unittest.TestCase):
         rt.crates_below = lambda _root: [self.crate(name) for name in ("one", "three", "two")]
         row = planted.Row("it", "f", verdict=planted.REFUSED)
         known = mock.patch.multiple(planted, ROOT=self.folder, load_rt=lambda: rt, is_known_kit=lambda: is_known,
-                                    try_crate=lambda _rt, crate, _is: self.tried(crate.name, [row]),
-                                    tried_by_rt=lambda name, lanes: self.tried(name, [row]) if lanes in ({}, {"RT_JOBS": "1"}) else [])
+                                    try_crate=lambda _rt, crate, _every, _is: self.tried(crate.name, [row]),
+                                    tried_by_rt=lambda name, _every, lanes: self.tried(name, [row]) if lanes in ({}, {"RT_JOBS": "1"}) else [])
         here, said, errors = os.getcwd(), io.StringIO(), io.StringIO()
         with known, mock.patch.dict(os.environ), mock.patch.object(sys, "argv", ["planted.py", *words]):
             os.environ.pop("RT_JOBS", None)
