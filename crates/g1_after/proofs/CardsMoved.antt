@@ -3,7 +3,7 @@ use Rattle.std.proofs.Common.{◌≡◌, ◌≢◌, ℕ, suc, ◌+◌, ◌-◌, 
 use Rattle.std.proofs.Common.{Contains, refl, sym, ◌∙◌, ap, subst, arith, eqb, eqb-true, eq-eqb, lit<}
 use Rattle.std.specs.List.{range_with_len}
 use Rattle.std.specs.List.Sorted.{IsStrictlyIncreasing}
-use Rattle.std.proofs.lemmas.Bool.{cases_Bool, cases_lt, false≢true}
+use Rattle.std.proofs.lemmas.Bool.{cases_Bool, cases_lt, false≢true, not-true, and_parts, or_cases}
 use Rattle.std.proofs.lemmas.List.{get_or_past, get_or_default}
 use Rattle.std.proofs.lemmas.List.FromFn.{get_or-map-range_with_len, length-map-range_with_len, length-range_with_len}
 use Rattle.std.proofs.Math.Nat.{div-le_self, div-mul-le_self, mul-le-mul_right}
@@ -17,7 +17,7 @@ use Rattle.g1_image.specs.Image.{Image, IsImage, IsLog, IsRememberedSet, IsUsedC
 use Rattle.g1_after.specs.Moved.{IsMoved, remembered_moved}
 use Rattle.g1_words.proofs.Bounds.{card_in_region, cards_in_region}
 use Rattle.g1_words.proofs.Indices.{range_bounds}
-use Rattle.g1_words.proofs.Members.{Contains-from_in, In, In-from_contains, and_true, any_member, filter_member, flat_map_cases, in_from_has, map_cases, or_true}
+use Rattle.g1_words.proofs.Members.{Contains-from_in, In, In-from_contains, any_member, filter_member, flat_map_cases, in_from_has, map_cases}
 use Rattle.g1_words.proofs.Ordered.{pairs_from_ordered}
 use Rattle.g1_words.proofs.Shapes.{IsBuilt, built, valid_of}
 use Rattle.g1_words.proofs.Sound.{IsSound}
@@ -35,10 +35,6 @@ use Rattle.g1_words.specs.declared.region.Region.{Region}
 -- a card of the heap, in a used region
 abbrev pub IsCard : Heap → ℕ → Type 0
 IsCard h c = (c < h.geometry.n * h.geometry.w / h.geometry.k) × (kind h (c * h.geometry.k / h.geometry.w) ≢ Free)
-
-not_is : (b : Bool) → not b ≡ true → b ≡ false
-not_is true e = cc
-not_is false e = refl
 
 pub length-filter-le : {A : Type 0} (p : A → Bool) (xs : List A) → length (filter p xs) ≤ length xs
 length-filter-le p [] = omega arith
@@ -78,10 +74,10 @@ pub exact_card : (h : Heap) → IsBuilt h → (r c : ℕ) → is_exact h r c ≡
 exact_card h valid r c t =
     let m = any_member (λ e. leads_into h r e && eqb (card_of h e.slot) c) (refs h) t in
     let e : Ref = m.0 in
-    let a = and_true (leads_into h r e) (eqb (card_of h e.slot) c) m.2 in
-    let b = and_true (eqb (region_of h e.target) r) (not (eqb (region_of h e.slot) r)) a.0 in
+    let a = and_parts (leads_into h r e) (eqb (card_of h e.slot) c) m.2 in
+    let b = and_parts (eqb (region_of h e.target) r) (not (eqb (region_of h e.slot) r)) a.0 in
     let to : region_of h e.target ≡ r = eqb-true (region_of h e.target) r b.0 in
-    let away : eqb (region_of h e.slot) r ≡ false = not_is (eqb (region_of h e.slot) r) b.1 in
+    let away : eqb (region_of h e.slot) r ≡ false = not-true (eqb (region_of h e.slot) r) b.1 in
     let card : card_of h e.slot ≡ c = eqb-true (card_of h e.slot) c a.1 in
     let d = cards_in_region h.geometry.w h.geometry.k h.geometry.n valid.limits in
     let at : c * h.geometry.k / h.geometry.w ≡ region_of h e.slot = ap (λ y. y * h.geometry.k / h.geometry.w) (sym card)
@@ -157,7 +153,7 @@ module _ (i : Image) (set l : List ℕ) (j : Image) (valid : IsBuilt i.heap) (or
 
   by_refined : (r c : ℕ) → r < i.heap.geometry.n → has set r ≡ false → has (to_space i.heap l) r ≡ false →
       c < j.heap.geometry.n * j.heap.geometry.w / j.heap.geometry.k → is_refined i r c ≡ true → card_in i.heap set c ≡ false → Right r c
-  by_refined r c lt a b below t out = elim (or_true (has (remembered_of i r) c) (has i.log c && is_exact i.heap r c) t) [
+  by_refined r c lt a b below t out = elim (or_cases (has (remembered_of i r) c) (has i.log c && is_exact i.heap r c) t) [
     | inl x ↦
         let m : In (remembered_of i r) c = in_from_has (remembered_of i r) c x in
         let u = card_of_set i image r c lt (Contains-from_in (remembered_of i r) c m) in
@@ -168,7 +164,7 @@ module _ (i : Image) (set l : List ℕ) (j : Image) (valid : IsBuilt i.heap) (or
               [ inl y ↦ inl (shape.0 ∙ y) | inr y ↦ inr (shape.0 ∙ y) ]),
         )
     | inr x ↦
-        let e = exact_card i.heap valid r c (and_true (has i.log c) (is_exact i.heap r c) x).1 in
+        let e = exact_card i.heap valid r c (and_parts (has i.log c) (is_exact i.heap r c) x).1 in
         let shape = other_shape i set l j valid ordinary survivors room moved r lt a b in (
           (below, stays_used c (in_heap (c * i.heap.geometry.k / i.heap.geometry.w) e.0) e.0 out),
           (λ z. e.1 (sym (same_kc c) ∙ z)),
@@ -190,9 +186,9 @@ module _ (i : Image) (set l : List ℕ) (j : Image) (valid : IsBuilt i.heap) (or
           let g = range_bounds 0 (i.heap.geometry.n * i.heap.geometry.w / i.heap.geometry.k) c f.0 in
           let n = cards_same in
           let below : c < j.heap.geometry.n * j.heap.geometry.w / j.heap.geometry.k = omega arith in
-          elim (or_true (is_refined i r c && not (card_in i.heap set c)) (card_in i.heap (to_space i.heap l) c && is_exact j.heap r c) f.1) [
-            | inl x ↦ let y = and_true (is_refined i r c) (not (card_in i.heap set c)) x in by_refined r c lt a b below y.0 (not_is (card_in i.heap set c) y.1)
-            | inr x ↦ by_exact r c below (and_true (card_in i.heap (to_space i.heap l) c) (is_exact j.heap r c) x).1
+          elim (or_cases (is_refined i r c && not (card_in i.heap set c)) (card_in i.heap (to_space i.heap l) c && is_exact j.heap r c) f.1) [
+            | inl x ↦ let y = and_parts (is_refined i r c) (not (card_in i.heap set c)) x in by_refined r c lt a b below y.0 (not-true (card_in i.heap set c) y.1)
+            | inr x ↦ by_exact r c below (and_parts (card_in i.heap (to_space i.heap l) c) (is_exact j.heap r c) x).1
           ]
     ]
   ]

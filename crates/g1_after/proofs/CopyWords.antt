@@ -2,14 +2,14 @@
 use Rattle.std.proofs.Common.{◌≡◌, ℕ, zero, suc, ◌+◌, ◌-◌, ◌<◌, ◌≤◌, ◌⊎◌, inl, inr, Bool, true, false, ◌&&◌, List, ◌++◌, length, get_or, map, refl, sym, ◌∙◌, ap, subst, arith, leb, ltb}
 use Rattle.std.proofs.Common.{leb-true, ltb-true}
 use Rattle.std.proofs.Common.{length-append}
-use Rattle.std.proofs.lemmas.Bool.{cases_lt}
+use Rattle.std.proofs.lemmas.Bool.{cases_lt, and_parts}
 use Rattle.std.proofs.lemmas.List.{length-map, get_or-map, get_or_append_left, get_or-append_right}
 use Rattle.std.proofs.lemmas.List.FromFn.{get_or-map-range_with_len, length-map-range_with_len}
 use Rattle.g1_after.proofs.Determined.{word_from_copy}
 use Rattle.g1_words.specs.Copy.{is_taken, renamed, renamed_words, words_at}
 use Rattle.g1_image.specs.Image.{Image}
 use Rattle.g1_after.specs.Moved.{IsMoved}
-use Rattle.g1_words.proofs.Members.{Contains-from_in, In, and_true, any_member}
+use Rattle.g1_words.proofs.Members.{Contains-from_in, In, any_member}
 use Rattle.g1_words.specs.Heap.{Heap, word}
 use Rattle.g1_words.specs.Layout.{forward, kept}
 use Rattle.g1_words.specs.declared.object.Object.{Object}
@@ -65,7 +65,7 @@ module _ (i : Image) (set l : List ℕ) (j : Image) (moved : IsMoved i set l j) 
       go true e =
           let f : ℕ → ℕ = forward i.heap l in
           let m = any_member (λ (o : Object). leb (f o.at) q && ltb q (f o.at + o.size)) (kept i.heap set l) e in
-          let both = and_true (leb (f m.0.at) q) (ltb q (f m.0.at + m.0.size)) m.2 in
+          let both = and_parts (leb (f m.0.at) q) (ltb q (f m.0.at + m.0.size)) m.2 in
           let low : f m.0.at ≤ q = leb-true (f m.0.at) q both.0 in
           let high : q < f m.0.at + m.0.size = ltb-true q (f m.0.at + m.0.size) both.1 in
           inr (m.0, m.1, q - f m.0.at, omega arith, omega arith)

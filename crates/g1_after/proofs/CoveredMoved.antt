@@ -2,8 +2,9 @@
 use Rattle.std.proofs.Common.{◌≡◌, ℕ, suc, ◌+◌, ◌*◌, ◌/◌, ◌<◌, ◌≤◌, ◌⊎◌, inl, inr, Bool, true, false, cond, not, ◌&&◌, ◌||◌, List, [], ◌∷◌, length, get_or, map, filter, flat_map, refl, sym}
 use Rattle.std.proofs.Common.{◌∙◌, ap, subst, arith, eqb, eq-eqb}
 use Rattle.std.specs.List.{range_with_len, list_any}
-use Rattle.std.proofs.lemmas.Bool.{cases_Bool, false≢true}
+use Rattle.std.proofs.lemmas.Bool.{cases_Bool, false≢true, or_cases}
 use Rattle.std.proofs.lemmas.List.FromFn.{get_or-map-range_with_len}
+pub use Rattle.std.proofs.lemmas.Bool.{and_from as and_both, or_right, or_left}
 use Rattle.g1_after.proofs.RulesMoved.{RefMoved, before_kept, ref_moved}
 use Rattle.g1_after.proofs.ToSpace.{goal_in_to_space, goal_is_free, goal_not_in_set}
 use Rattle.g1_after.proofs.ValidMoved.{kept_refs, moved_below, outside_word, sound_before, survivor_word}
@@ -12,7 +13,7 @@ use Rattle.g1_image.specs.Image.{Image, remembered_of, card_in}
 use Rattle.g1_after.specs.Moved.{IsMoved, remembered_moved}
 use Rattle.g1_words.proofs.Bounds.{card_below, card_in_region, cards_in_region}
 use Rattle.g1_words.proofs.Computed.{In-range}
-use Rattle.g1_words.proofs.Members.{In, In-filter, In-flat_map, In-map, has_from_in, or_true}
+use Rattle.g1_words.proofs.Members.{In, In-filter, In-flat_map, In-map, has_from_in}
 use Rattle.g1_words.proofs.OneToOne.{kept_cases, outside_stays}
 use Rattle.g1_words.proofs.Shapes.{IsBuilt}
 use Rattle.g1_words.proofs.Standing.{card_positive}
@@ -34,16 +35,6 @@ any_from_in p (y ∷ ys) x (inr h) t = elim (p y) as (λ b. (b || list_any p ys)
 pub none_left : {A : Type 0} (p : A → Bool) (xs : List A) → ((x : A) → In xs x → p x ≡ true) → filter (λ x. not (p x)) xs ≡ []
 none_left p [] f = refl
 none_left p (x ∷ xs) f = (λ t. cond (not (f x (inl refl) t)) (x ∷ filter (λ x. not (p x)) xs) (filter (λ x. not (p x)) xs)) ∙ none_left p xs (λ y k. f y (inr k))
-
-pub or_left : (a b : Bool) → a ≡ true → (a || b) ≡ true
-or_left a b e = ap (λ x. x || b) e
-
-pub or_right : (a b : Bool) → b ≡ true → (a || b) ≡ true
-or_right true b e = refl
-or_right false b e = e
-
-pub and_both : (a b : Bool) → a ≡ true → b ≡ true → (a && b) ≡ true
-and_both a b e f = (λ t. e t && f t)
 
 -- every reference of a covered image is covered
 pub covered_each : (i : Image) → Covered i → (e : Ref) → In (refs i.heap) e → is_covered i e ≡ true
@@ -162,8 +153,8 @@ module _ (i : Image) (set l : List ℕ) (j : Image) (valid : IsBuilt i.heap) (or
             let there : In (refs i.heap) e = In-flat_map (λ o. flat_map (refs_at i.heap) (slots o)) (objects i.heap) r.owner e o.1
             (In-flat_map (refs_at i.heap) (slots r.owner) e.slot e (In-range (r.owner.at + 1) r.owner.refs e.slot (omega arith) (omega arith)) k) in
             let c : is_covered i e ≡ true = covered_each i covered e there in
-            elim (or_true (eqb from to || has (remembered_of i to) card) (has i.log card) c) [
-              | inl x ↦ elim (or_true (eqb from to) (has (remembered_of i to) card) x) [
+            elim (or_cases (eqb from to || has (remembered_of i to) card) (has i.log card) c) [
+              | inl x ↦ elim (or_cases (eqb from to) (has (remembered_of i to) card) x) [
                 | inl y ↦ absurd (false≢true (sym differ ∙ y))
                 | inr y ↦ or_left (has (remembered_of i to) card) (has i.log card && is_exact i.heap to card) y
               ]

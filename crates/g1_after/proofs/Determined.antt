@@ -2,13 +2,14 @@
 use Rattle.std.proofs.Common.{◌≡◌, ℕ, ◌+◌, ◌-◌, ◌<◌, ◌≤◌, Bool, true, false, ◌&&◌, List, get_or, map, Contains, refl, sym, ◌∙◌, ap, subst, arith, leb, ltb, leb-true, ltb-true}
 use Rattle.std.proofs.lemmas.List.{ext_get_or}
 use Rattle.std.proofs.lemmas.List.FromFn.{get_or-map-range_with_len}
+use Rattle.std.proofs.lemmas.Bool.{and_parts}
 use Rattle.g1_words.specs.Heap.{Heap, word, regions}
 use Rattle.g1_words.specs.Survivors.{seeds, children}
 use Rattle.g1_words.specs.Layout.{forward, kept}
 use Rattle.g1_image.specs.Image.{Image}
 use Rattle.g1_words.specs.Copy.{is_taken, renamed_words, IsCopy}
 use Rattle.g1_after.specs.Moved.{remembered_moved, IsMoved, Moved}
-use Rattle.g1_words.proofs.Members.{Contains-from_in, any_member, and_true}
+use Rattle.g1_words.proofs.Members.{Contains-from_in, any_member}
 use Rattle.g1_words.proofs.Unique.{breadth_first_unique}
 use Rattle.g1_words.specs.declared.object.Object.{Object}
 
@@ -24,7 +25,7 @@ module _ (i : Image) (set l : List ℕ) (j k : Image) (a : IsMoved i set l j) (b
       let f : ℕ → ℕ = forward i.heap l in
       let m = any_member (λ o. leb (f o.at) q && ltb q (f o.at + o.size)) (kept i.heap set l) e in
       let o : Object = m.0 in
-      let both = and_true (leb (f o.at) q) (ltb q (f o.at + o.size)) m.2 in
+      let both = and_parts (leb (f o.at) q) (ltb q (f o.at + o.size)) m.2 in
       let low : f o.at ≤ q = leb-true (f o.at) q both.0 in
       let high : q < f o.at + o.size = ltb-true q (f o.at + o.size) both.1 in
       let c : Contains (kept i.heap set l) o = Contains-from_in (kept i.heap set l) o m.1 in

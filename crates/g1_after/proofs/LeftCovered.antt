@@ -1,6 +1,6 @@
 -- Where unnamed humongous objects were freed, a tracked image whose log is processed stays tracked.
 use Rattle.std.proofs.Common.{◌≡◌, ◌≢◌, ℕ, ◌<◌, inl, inr, true, false, cond, not, List, [], length, get_or, filter, Contains, sym, ◌∙◌, ap, subst, arith, lit<}
-use Rattle.std.proofs.lemmas.Bool.{cases_Bool, cases_lt}
+use Rattle.std.proofs.lemmas.Bool.{cases_Bool, cases_lt, not-true}
 use Rattle.std.proofs.lemmas.List.{get_or_default, get_or_past}
 use Rattle.std.proofs.lemmas.List.FromFn.{get_or-map-range_with_len, length-map-range_with_len}
 use Rattle.std.proofs.lemmas.List.Kept.{IsStrictlyIncreasing-filter}
@@ -8,7 +8,6 @@ use Rattle.g1_after.proofs.CardsMoved.{length-filter-le}
 use Rattle.g1_after.proofs.LeftRefs.{ref_away, ref_cases}
 use Rattle.g1_after.proofs.LeftRules.{built_left, same_shape}
 use Rattle.g1_after.proofs.ObjectsLeft.{IsLeft, heap_is_left, with_parts}
-use Rattle.g1_after.proofs.UnnamedRegions.{not_is}
 use Rattle.g1_after.specs.Freed.{TrackedLeft, heap_left}
 use Rattle.g1_after.specs.Unnamed.{image_without, unnamed_regions}
 use Rattle.g1_image.proofs.Covers.{Covers, card_region, covered_tells}
@@ -70,7 +69,7 @@ module _ (i : Image) (valid : IsBuilt i.heap) (image : IsImage i) (words : List 
       let k = Contains-from_in (remembered_of i r) c f.0 in
       let u = subst (λ x. IsUsedCard i.heap x × (region_of_card i.heap x ≢ r)) k.2 ((image.remembered r lt).elsewhere k.0 c k.1) in
       let q : ℕ = region_of_card i.heap c in
-      let shape = same_shape i.heap valid words table left q (in_heap q u.0.used) (not_is (card_in i.heap (unnamed_regions i.heap) c) f.1) in
+      let shape = same_shape i.heap valid words table left q (in_heap q u.0.used) (not-true (card_in i.heap (unnamed_regions i.heap) c) f.1) in
       (record { in_heap = u.0.in_heap; used = λ z. u.0.used (sym shape.0 ∙ z) }, u.1)
 
   -- the cards that stay are a remembered set

@@ -2,14 +2,14 @@
 use Rattle.std.proofs.Common.{◌≡◌, ℕ, ◌+◌, ◌-◌, ◌<◌, ◌↔◌, inl, inr, true, false, not, ◌&&◌, List, flat_map, map, Contains, refl, sym, ◌∙◌, ap, subst, arith, leb, ltb, leb-true, ltb-true, eqb, eq-eqb}
 use Rattle.std.specs.Prelude.{IsFalse}
 use Rattle.std.specs.List.{list_any}
-use Rattle.std.proofs.lemmas.Bool.{cases_Bool, false≢true}
-use Rattle.g1_after.proofs.CoveredMoved.{and_both, any_from_in, or_left, or_right}
+use Rattle.std.proofs.lemmas.Bool.{cases_Bool, false≢true, and_from, or_right, or_left, and_parts}
+use Rattle.g1_after.proofs.CoveredMoved.{any_from_in}
 use Rattle.g1_after.proofs.ObjectsLeft.{IsLeft, heap_is_left, left_cases, object_left, with_parts}
 use Rattle.g1_after.proofs.UnnamedRegions.{unnamed_humongous, unnamed_region, unnamed_there, word_with_header}
 use Rattle.g1_after.specs.Freed.{NothingIntoUnnamed, RefsLeft, heap_left}
 use Rattle.g1_after.specs.Unnamed.{has_word, unnamed, unnamed_regions}
 use Rattle.g1_words.proofs.Indices.{range_bounds}
-use Rattle.g1_words.proofs.Members.{Contains-from_in, In, In-flat_map, In-from_contains, and_true, flat_map_cases, has_from_in, map_cases}
+use Rattle.g1_words.proofs.Members.{Contains-from_in, In, In-flat_map, In-from_contains, flat_map_cases, has_from_in, map_cases}
 use Rattle.g1_words.proofs.Shapes.{IsBuilt, built}
 use Rattle.g1_words.proofs.Standing.{home, stands_refs}
 use Rattle.g1_words.specs.Heap.{Heap, object_at, objects, slots, word}
@@ -58,14 +58,14 @@ module _ (h : Heap) (valid : IsBuilt h) where
         let u = named_unnamed e.target (valid.slot_named e (Contains-from_in (refs h) e m)) t in
         elim (cases_Bool (has_word o e.slot)) [
           | inl w ↦
-              let both = and_true (leb o.at e.slot) (ltb e.slot (o.at + o.size)) w in
+              let both = and_parts (leb o.at e.slot) (ltb e.slot (o.at + o.size)) w in
               let low = leb-true o.at e.slot both.0 in
               let high = ltb-true e.slot (o.at + o.size) both.1 in
               let z : o.at + (e.slot - o.at) ≡ e.slot = omega arith in
               absurd (false≢true (sym out ∙ ap (in_set h (unnamed_regions h)) (sym z) ∙ unnamed_region h valid o (e.slot - o.at) u (omega arith)))
           | inr w ↦
               let here : list_any (λ x. eqb x.target o.at && not (has_word o x.slot)) (refs h) ≡ true =
-              any_from_in (λ (x : Ref). eqb x.target o.at && not (has_word o x.slot)) (refs h) e m (and_both (eqb e.target o.at) (not (has_word o e.slot)) (eq-eqb e.target o.at refl) (ap not w)) in
+              any_from_in (λ (x : Ref). eqb x.target o.at && not (has_word o x.slot)) (refs h) e m (and_from (eqb e.target o.at) (not (has_word o e.slot)) (eq-eqb e.target o.at refl) (ap not w)) in
               absurd (false≢true (sym (unnamed_humongous h valid o u).1 ∙ or_right (has (root_targets h) o.at) (list_any (λ x. eqb x.target o.at && not (has_word o x.slot)) (refs h)) here))
         ]
   ]

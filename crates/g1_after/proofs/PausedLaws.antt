@@ -4,6 +4,7 @@ use Rattle.std.specs.List.{range_with_len}
 use Rattle.std.proofs.lemmas.List.{ext_get_or}
 use Rattle.std.proofs.lemmas.List.Folds.{list_any-append}
 use Rattle.std.proofs.lemmas.List.FromFn.{get_or-map-range_with_len, length-map-range_with_len}
+use Rattle.std.proofs.lemmas.Bool.{false_from_ne_true, not-true}
 use Rattle.g1_image.specs.Cards.{IsTracked}
 use Rattle.g1_image.specs.Image.{Image}
 use Rattle.g1_words.proofs.Computed.{In-range}
@@ -35,7 +36,7 @@ use Rattle.g1_after.proofs.RefsMoved.{refs_moved, slot_word}
 use Rattle.g1_after.proofs.RulesMoved.{valid_moved}
 use Rattle.g1_after.proofs.SameGraphs.{no_root_into_set, no_slot_into_set, same_graph}
 use Rattle.g1_after.proofs.ToSpace.{goal_kind}
-use Rattle.g1_after.proofs.UnnamedRegions.{not_is, region_unnamed, unnamed_not_free, unnamed_not_ordinary, word_with_header}
+use Rattle.g1_after.proofs.UnnamedRegions.{region_unnamed, unnamed_not_free, unnamed_not_ordinary, word_with_header}
 use Rattle.g1_after.proofs.ValidMoved.{set_shape}
 use Rattle.g1_after.specs.Freed.{heap_left}
 use Rattle.g1_after.specs.Laws.{CopiesPaused, GraphStays, NothingIntoFreed, ObjectsPaused, OneImageAfter, PauseExists, TrackedPaused}
@@ -54,11 +55,6 @@ one_image_after i set j k a b =
 pub pause_exists : PauseExists
 pause_exists i set l valid a =
     record { between = image_moved i set l; moved = made_is_moved i set l (built i.heap valid) a.ordinary a.survivors a.room; freed = refl }
-
--- a test that can't pass fails
-never_true : (b : Bool) → (b ≡ true → ⊥) → b ≡ false
-never_true true f = absurd (f refl)
-never_true false f = refl
 
 -- ---- the freed regions of the image between
 
@@ -81,14 +77,14 @@ module _ (i : Image) (set l : List ℕ) (b : Image) (valid : IsValid i.heap) (a 
 
   -- a region of the set is none of those freed after it
   set_not_freed : (r : ℕ) → has set r ≡ true → has freed r ≡ false
-  set_not_freed r inset = never_true (has freed r) (λ t.
+  set_not_freed r inset = false_from_ne_true (has freed r) (λ t.
       let lt = (region_unnamed b.heap built_between r t).0 in
       let n = ap (λ (g : Geometry). g.n) m.geometry in
       unnamed_not_free b.heap built_between r t (set_shape i set l b (built i.heap valid) a.ordinary a.survivors a.room m r (omega arith) inset).0)
 
   -- nor is a region that a survivor went to
   survivor_not_freed : (x : ℕ) → In l x → in_set b.heap freed (forward i.heap l x) ≡ false
-  survivor_not_freed x c = never_true (in_set b.heap freed (forward i.heap l x)) (λ t.
+  survivor_not_freed x c = false_from_ne_true (in_set b.heap freed (forward i.heap l x)) (λ t.
       let s : IsSound i.heap = sound i.heap valid in
       let pos = (survivor_fits i.heap set l s a.ordinary a.survivors a.room x c).0 in
       let g = survivor_region i.heap set l s a.ordinary a.survivors a.room x 0 c pos in
@@ -113,7 +109,7 @@ module _ (i : Image) (set l : List ℕ) (b : Image) (valid : IsValid i.heap) (a 
   pub remaining_kept : (k : Object) → Contains (remaining i.heap set l freed) k → In (kept i.heap set l) k × (in_set b.heap freed (forward i.heap l k.at) ≡ false)
   remaining_kept k c =
       let f = filter_member (λ (o : Object). not (in_set i.heap freed o.at)) (kept i.heap set l) k (In-from_contains (remaining i.heap set l freed) k c) in
-      (f.0, freed_stays k f.0 ∙ not_is (in_set i.heap freed k.at) f.1)
+      (f.0, freed_stays k f.0 ∙ not-true (in_set i.heap freed k.at) f.1)
 
   -- and such a one remains
   pub kept_remains : (k : Object) → In (kept i.heap set l) k → in_set b.heap freed (forward i.heap l k.at) ≡ false → Contains (remaining i.heap set l freed) k

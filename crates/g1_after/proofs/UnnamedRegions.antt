@@ -2,14 +2,14 @@
 use Rattle.std.proofs.Common.{◌≡◌, ◌≢◌, ℕ, ◌+◌, ◌-◌, ◌*◌, ◌/◌, ◌%◌, ◌<◌, ◌⊎◌, inl, inr, Bool, true, false, not, Contains, refl, sym, ◌∙◌, ap, subst, arith, leb, ltb, leb-true, ltb-true}
 use Rattle.std.proofs.Common.{le-leb, lt-ltb, div-add-mod', mod-lt}
 use Rattle.std.specs.List.{list_any}
-use Rattle.std.proofs.lemmas.Bool.{cases_lt}
+use Rattle.std.proofs.lemmas.Bool.{cases_lt, and_from, not-true, and_parts}
 use Rattle.std.proofs.lemmas.Nat.{div-mul-add}
 use Rattle.std.proofs.Math.Nat.{add-mul}
-use Rattle.g1_after.proofs.CoveredMoved.{and_both, any_from_in}
+use Rattle.g1_after.proofs.CoveredMoved.{any_from_in}
 use Rattle.g1_after.specs.Unnamed.{has_word, humongous, is_named, lies_in, unnamed, unnamed_regions}
 use Rattle.g1_words.proofs.Computed.{In-range}
 use Rattle.g1_words.proofs.Indices.{range_bounds}
-use Rattle.g1_words.proofs.Members.{Contains-from_in, In, In-filter, and_true, any_member, filter_member, has_from_in, in_from_has}
+use Rattle.g1_words.proofs.Members.{Contains-from_in, In, In-filter, any_member, filter_member, has_from_in, in_from_has}
 use Rattle.g1_words.proofs.Shapes.{IsBuilt}
 use Rattle.g1_words.proofs.Standing.{InHumongous, Stands, home, home_region, ordinary_word, run_word, w_pos, word_in_ordinary, word_used, words_apart}
 use Rattle.g1_words.specs.Heap.{Heap, is_first, kind, object_at, objects, objects_in, region_of, regions}
@@ -24,11 +24,6 @@ same_test true true f g = refl
 same_test false false f g = refl
 same_test true false f g = sym (f refl)
 same_test false true f g = g refl
-
--- what is not so is false
-pub not_is : (b : Bool) → not b ≡ true → b ≡ false
-not_is true e = cc
-not_is false e = refl
 
 module _ (h : Heap) (valid : IsBuilt h) where
   -- a humongous object stands at the start of its run
@@ -46,7 +41,7 @@ module _ (h : Heap) (valid : IsBuilt h) where
   -- an object that lies in a region has a word there
   pub lies_word : (r : ℕ) (o : Object) → 0 < o.size → lies_in h r o ≡ true → (m : ℕ) × (m < o.size) × (region_of h (o.at + m) ≡ r)
   lies_word r o pos t =
-      let both = and_true (ltb o.at (r * h.geometry.w + h.geometry.w)) (ltb (r * h.geometry.w) (o.at + o.size)) t in
+      let both = and_parts (ltb o.at (r * h.geometry.w + h.geometry.w)) (ltb (r * h.geometry.w) (o.at + o.size)) t in
       let low : o.at < r * h.geometry.w + h.geometry.w = ltb-true o.at (r * h.geometry.w + h.geometry.w) both.0 in
       let high : r * h.geometry.w < o.at + o.size = ltb-true (r * h.geometry.w) (o.at + o.size) both.1 in
       let some = w_pos h valid in
@@ -65,7 +60,7 @@ module _ (h : Heap) (valid : IsBuilt h) where
       let d : (o.at + m) / h.geometry.w * h.geometry.w + (o.at + m) % h.geometry.w ≡ o.at + m = div-add-mod' (o.at + m) h.geometry.w in
       let q : (o.at + m) % h.geometry.w < h.geometry.w = mod-lt (o.at + m) (w_pos h valid) in
       let s : (o.at + m) / h.geometry.w * h.geometry.w ≡ r * h.geometry.w = ap (λ y. y * h.geometry.w) e in
-      and_both (ltb o.at (r * h.geometry.w + h.geometry.w)) (ltb (r * h.geometry.w) (o.at + o.size))
+      and_from (ltb o.at (r * h.geometry.w + h.geometry.w)) (ltb (r * h.geometry.w) (o.at + o.size))
       (lt-ltb o.at (r * h.geometry.w + h.geometry.w) (omega arith)) (lt-ltb (r * h.geometry.w) (o.at + o.size) (omega arith))
 
   -- a region in which a humongous object has a word has no word of another
@@ -102,9 +97,9 @@ module _ (h : Heap) (valid : IsBuilt h) where
       let same : q ≡ o = one_run q o m x.0 cq ho lm x.1 (sym x.2) in
       let at = ap (λ (z : Object). z.at) same in
       let size = ap (λ (z : Object). z.size) same in
-      and_both (leb o.at (q.at + m)) (ltb (q.at + m) (o.at + o.size)) (le-leb o.at (q.at + m) (omega arith)) (lt-ltb (q.at + m) (o.at + o.size) (omega arith)))
+      and_from (leb o.at (q.at + m)) (ltb (q.at + m) (o.at + o.size)) (le-leb o.at (q.at + m) (omega arith)) (lt-ltb (q.at + m) (o.at + o.size) (omega arith)))
       (λ l.
-      let both = and_true (leb o.at (q.at + m)) (ltb (q.at + m) (o.at + o.size)) l in
+      let both = and_parts (leb o.at (q.at + m)) (ltb (q.at + m) (o.at + o.size)) l in
       let low = leb-true o.at (q.at + m) both.0 in
       let high = ltb-true (q.at + m) (o.at + o.size) both.1 in
       let z : o.at + (q.at + m - o.at) ≡ q.at + m = omega arith in
@@ -112,7 +107,7 @@ module _ (h : Heap) (valid : IsBuilt h) where
 
   -- one that nothing names is humongous and not named
   pub unnamed_humongous : (o : Object) → In (unnamed h) o → In (humongous h) o × (is_named h o ≡ false)
-  unnamed_humongous o c = let f = filter_member (λ o. not (is_named h o)) (humongous h) o c in (f.0, not_is (is_named h o) f.1)
+  unnamed_humongous o c = let f = filter_member (λ o. not (is_named h o)) (humongous h) o c in (f.0, not-true (is_named h o) f.1)
 
   -- a humongous object is an object
   pub humongous_object : (o : Object) → In (humongous h) o → Contains (objects h) o

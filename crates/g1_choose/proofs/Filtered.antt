@@ -3,8 +3,8 @@ use Rattle.std.proofs.Common.{◌≡◌, ℕ, zero, suc, ◌+◌, Bool, true, fa
 use Rattle.std.specs.List.{range_with_len}
 use Rattle.std.proofs.lemmas.List.{map-append, append-nil}
 use Rattle.std.proofs.lemmas.List.Elements.{filter-append}
+use Rattle.std.proofs.lemmas.Bool.{false_from_ne_true}
 use Rattle.g1_choose.specs.declared.candidate.Candidate.{Candidate}
-use Rattle.g1_choose.proofs.Ratios.{false_from}
 
 range_more : (a n : ℕ) → range_with_len a (suc n) ≡ range_with_len a n ++ (a + n) ∷ []
 range_more a zero = ap (λ x. x ∷ []) (omega arith)
@@ -33,4 +33,4 @@ pub one_more_left : (p : ℕ → Bool) (n : ℕ) → (IsTrue (p n) → ⊥) → 
     → ys ≡ xs → map (λ x. x.region) ys ≡ filter p (range_with_len 0 (n + 1))
 one_more_left p n f xs ys e y =
     ap (map (λ x. x.region)) y ∙ e
-    ∙ sym (filter_range-more p n false (false_from (p n) f) ∙ append-nil (filter p (range_with_len 0 n)))
+    ∙ sym (filter_range-more p n false (false_from_ne_true (p n) f) ∙ append-nil (filter p (range_with_len 0 n)))

@@ -1,13 +1,13 @@
 -- A heap's candidates have one order, and a budget buys one set.
 use Rattle.std.proofs.Common.{◌≡◌, ◌≢◌, ℕ, zero, suc, ◌<◌, ◌≤◌, ◌⊎◌, inl, inr, List, [], ◌∷◌, map, filter, take, length, sum, Contains, IsTrue, refl, sym, ◌∙◌, ap, subst, arith, le_antisymm}
 use Rattle.std.proofs.Common.{ltb, lt-ltb, ltb-true}
-use Rattle.std.proofs.lemmas.Bool.{cases_lt, cases_order}
+use Rattle.std.proofs.lemmas.Bool.{cases_lt, cases_order, and_parts}
 use Rattle.std.proofs.lemmas.List.Sums.{sum-map}
 use Rattle.std.proofs.lemmas.List.Sorted.{Contains-permutation, IsPermutation-sym, sum_by-IsPermutation}
 use Rattle.std.specs.Prelude.{not, ◌&&◌}
 use Rattle.g1_words.specs.Heap.{Heap, kind, pinned, regions, is_ordinary}
 use Rattle.g1_words.specs.Lists.{has}
-use Rattle.g1_words.proofs.Members.{In, In-from_contains, Contains-from_in, In-filter, filter_member, has_from_in, in_from_has, and_true}
+use Rattle.g1_words.proofs.Members.{In, In-from_contains, Contains-from_in, In-filter, filter_member, has_from_in, in_from_has}
 use Rattle.g1_words.proofs.Ordered.{Ordered, Ordered-from_pairs, pairs_from_ordered, same_order}
 use Rattle.g1_choose.specs.declared.parameters.Cost.{Cost}
 use Rattle.g1_choose.specs.Choice.{cost_of, garbage, is_candidate, candidates, comes_before, pause_cost, IsOrder, IsLongest, IsChosen}
@@ -46,8 +46,8 @@ module _ (c : Cost) (h : Heap) (remembered : List (List ℕ)) (lives : List ℕ)
   some_waste : (r : ℕ) → Candidates r → 0 < waste r
   some_waste r k =
       let passes = (filter_member (is_candidate c h remembered lives) (regions h) r (In-from_contains (candidates c h remembered lives) r k)).1 in
-      let others = (and_true (is_ordinary (kind h r)) (not (pinned h r) && ltb 0 (waste r)) passes).1 in
-      ltb-true 0 (waste r) (and_true (not (pinned h r)) (ltb 0 (waste r)) others).1
+      let others = (and_parts (is_ordinary (kind h r)) (not (pinned h r) && ltb 0 (waste r)) passes).1 in
+      ltb-true 0 (waste r) (and_parts (not (pinned h r)) (ltb 0 (waste r)) others).1
 
   pub comes_before-chain : (r q s : ℕ) → Candidates r → Candidates q → Candidates s → First r q → First q s → First r s
   comes_before-chain r q s x y z a b =

@@ -1,8 +1,7 @@
 -- The order by efficiency, on numbers: a region has a cost, garbage and a number.
 use Rattle.std.proofs.Common.{◌≡◌, ◌≢◌, ℕ, ◌*◌, ◌<◌, ◌≤◌, ◌⊎◌, inl, inr, Bool, true, false, ◌&&◌, ◌||◌, refl, sym, arith, ltb, eqb, ltb-true, lt-ltb, eqb-true, eq-eqb, le_antisymm}
-use Rattle.std.proofs.lemmas.Bool.{cases_order}
+use Rattle.std.proofs.lemmas.Bool.{cases_order, false_from_ne_true, and_parts, or_cases}
 use Rattle.std.proofs.Math.Nat.{mul-le-mul_right, mul-lt-mul_of_pos_right, le_of_mul-le-mul_right, lt_of_mul-lt-mul_right}
-use Rattle.g1_words.proofs.Members.{or_true, and_true}
 
 -- the first gives more garbage for its cost; of equals it has the lower number
 abbrev pub is_before : ℕ → ℕ → ℕ → ℕ → ℕ → ℕ → Bool
@@ -18,9 +17,9 @@ NotBefore a g r b k q = (b * g < a * k) ⊎ ((a * k ≡ b * g) × (q ≤ r))
 
 pub before : (a g r b k q : ℕ) → is_before a g r b k q ≡ true → Before a g r b k q
 before a g r b k q t =
-    elim (or_true (ltb (a * k) (b * g)) (eqb (a * k) (b * g) && ltb r q) t) [
+    elim (or_cases (ltb (a * k) (b * g)) (eqb (a * k) (b * g) && ltb r q) t) [
       | inl p ↦ inl (ltb-true (a * k) (b * g) p)
-      | inr p ↦ let both = and_true (eqb (a * k) (b * g)) (ltb r q) p in inr (eqb-true (a * k) (b * g) both.0, ltb-true r q both.1)
+      | inr p ↦ let both = and_parts (eqb (a * k) (b * g)) (ltb r q) p in inr (eqb-true (a * k) (b * g) both.0, ltb-true r q both.1)
     ]
 
 pub is_before-true : (a g r b k q : ℕ) → Before a g r b k q → is_before a g r b k q ≡ true
@@ -31,10 +30,6 @@ is_before-true a g r b k q (inr both) =
 
 not_both : (t : Bool) → t ≡ true → t ≡ false → ⊥
 not_both t e f = cc
-
-pub false_from : (t : Bool) → (t ≡ true → ⊥) → t ≡ false
-false_from true n = absurd (n refl)
-false_from false n = refl
 
 pub not_before : (a g r b k q : ℕ) → is_before a g r b k q ≡ false → NotBefore a g r b k q
 not_before a g r b k q f =
@@ -107,7 +102,7 @@ not_before_chain a g r b k q c m s x y z (inr p) (inl t) = inl (no_better_then_w
 not_before_chain a g r b k q c m s x y z (inr p) (inr t) = inr (as_good a g b k c m y p.0 t.0, omega arith)
 
 pub is_before-false : (a g r b k q : ℕ) → NotBefore a g r b k q → is_before a g r b k q ≡ false
-is_before-false a g r b k q n = false_from (is_before a g r b k q) (λ t. elim (before a g r b k q t) [
+is_before-false a g r b k q n = false_from_ne_true (is_before a g r b k q) (λ t. elim (before a g r b k q t) [
   | inl x ↦ elim n [ inl y ↦ omega arith | inr y ↦ omega arith ]
   | inr x ↦ elim n [ inl y ↦ omega arith | inr y ↦ omega arith ]
 ])

@@ -9,6 +9,7 @@ use Rattle.std.proofs.lemmas.List.Elements.{All-tail}
 use Rattle.std.proofs.lemmas.List.Sorted.{sorted_far, IsPermutation-map, IsPermutation-sym, All-permutation, Contains-permutation}
 use Rattle.std.proofs.lemmas.Map.Keys.{IsDistinct-IsPermutation}
 use Rattle.std.proofs.lemmas.Map.Made.{AllPairs-from_IsDistinct, IsDistinct-from_AllPairs}
+use Rattle.std.proofs.lemmas.Bool.{false_from_ne_true}
 use Rattle.g1_words.specs.Heap.{Heap}
 use Rattle.g1_words.proofs.Members.{In, Contains-from_in}
 use Rattle.g1_words.proofs.Ordered.{Ordered, Ordered-from_pairs, pairs_from_ordered}
@@ -17,13 +18,13 @@ use Rattle.g1_choose.specs.declared.candidate.Candidate.{Candidate}
 use Rattle.g1_choose.specs.declared.parameters.Cost.{Cost}
 use Rattle.g1_choose.specs.Choice.{is_candidate, candidates, comes_before}
 use Rattle.g1_choose.specs.Candidate.{goes_first, TellsRegion, IsCandidateOrder}
-use Rattle.g1_choose.proofs.Ratios.{is_before, before, is_before-true, not_before, not_before_chain, is_before-false, false_from, one_way, one_of_two}
+use Rattle.g1_choose.proofs.Ratios.{is_before, before, is_before-true, not_before, not_before_chain, is_before-false, one_way, one_of_two}
 
 -- efficiency is an order in which any two candidates compare
 pub efficiency_order : IsStrictWeakOrder goes_first
 efficiency_order = record {
   one_way = λ x y t.
-      false_from (goes_first y x)
+      false_from_ne_true (goes_first y x)
       (λ s. one_way x.cost x.garbage x.region y.cost y.garbage y.region
       (before x.cost x.garbage x.region y.cost y.garbage y.region t)
       (before y.cost y.garbage y.region x.cost x.garbage x.region s));

@@ -74,13 +74,6 @@ not_both false d h e = absurd (false≢true e)
     false≢true : false ≡ true → ⊥
     false≢true e = cc
 
-pub both : (b d : Bool) → (b && d) ≡ true → (b ≡ true) × (d ≡ true)
-both true d h = (refl, h)
-both false d h = absurd (false≢true h)
-  where
-    false≢true : false ≡ true → ⊥
-    false≢true e = cc
-
 -- what was tied so far, and what the words that are left become
 abbrev pub SoFar : List Text → List Text → Follows → List Text → Type 0
 SoFar words tied follows left = (rest : List Text) → GoOn follows left rest → AreTied words (tied ++ rest)

@@ -1,11 +1,12 @@
 -- A small heap with a humongous object keeps all rules.
 use Rattle.std.proofs.Common.{◌≡◌, ℕ, zero, suc, ◌+◌, ◌-◌, ◌*◌, ◌^◌, ◌<◌, ◌≤◌, inl, inr, true, ◌||◌, [], ◌∷◌, refl, sym, ap, subst, arith, lit<, lit≤, ltb, eqb, eqb-true, ltb-true, le-ltb, false}
 use Rattle.std.specs.List.{list_all, range_with_len}
+use Rattle.std.proofs.lemmas.Bool.{or_cases}
 use Rattle.g1_words.specs.declared.object.Object.{Object}
 use Rattle.g1_words.specs.declared.region.Kind.TheVariants.{Ordinary, HumongousFirst, Continuation}
 use Rattle.g1_words.specs.Heap.{top, start, word, objects, object_at}
 use Rattle.g1_words.specs.Valid.{MayBePinned, IsObject, IsFirst, HasObject, IsSlotOf, IsReference, IsWholeRun, IsShaped, IsShapedBy, IsValid}
-use Rattle.g1_words.proofs.Members.{In, In-from_contains, or_true}
+use Rattle.g1_words.proofs.Members.{In, In-from_contains}
 use Rattle.g1_words.proofs.Computed.{has_contains}
 use Rattle.g1_examples.specs.Examples.{humongous_owner}
 use Rattle.g1_examples.proofs.Sorted.{all_members}
@@ -80,7 +81,7 @@ has48 = record { place = 3; others = object_at humongous_owner 48 ∷ []; in_hea
 
 -- the slots of the humongous object: one of them isn't null, in the second region of the run
 slot0 : (p : ℕ) → 0 < p → p ≤ 20 → IsReference humongous_owner (word humongous_owner p)
-slot0 p low high = elim (or_true (eqb (word humongous_owner p) 0) (eqb p 17) there) [
+slot0 p low high = elim (or_cases (eqb (word humongous_owner p) 0) (eqb p 17) there) [
   | inl null ↦ inl (eqb-true (word humongous_owner p) 0 null)
   | inr one ↦ subst (λ p. IsReference humongous_owner (word humongous_owner p)) (sym (eqb-true p 17 one)) (inr (object_at humongous_owner 48, has48, refl))
 ]

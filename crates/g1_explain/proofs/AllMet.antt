@@ -2,12 +2,12 @@
 use Rattle.std.proofs.Common.{◌≡◌, ℕ, zero, suc, ◌+◌, ◌-◌, ◌<◌, ◌≤◌, Bool, true, List, [], ◌∷◌, ◌++◌, length, filter, flat_map, slice_index, refl, sym, ◌∙◌, ap, subst, arith, append_assoc}
 use Rattle.std.specs.List.{range_with_len}
 use Rattle.std.proofs.lemmas.Grind.{flat_map-append}
+use Rattle.std.proofs.lemmas.List.Elements.{filter-append}
 use Rattle.g1_words.specs.Heap.{Heap}
 use Rattle.g1_words.specs.Survivors.{in_set, Survivors}
 use Rattle.g1_words.specs.Valid.{IsValid}
 use Rattle.g1_words.proofs.Members.{In, map_cases, filter_member}
 use Rattle.g1_frontier.specs.Window.{AreCards, AreOutside, LeadIn}
-use Rattle.g1_frontier.proofs.Seeds.{filter_append}
 use Rattle.g1_explain.specs.declared.finder.Finder.{Finder}
 use Rattle.g1_explain.specs.declared.paths.Leg.{Leg}
 use Rattle.g1_explain.specs.Finders.{Lead, root_leads, slot_leads, object_leads, found_leads, leads, first_leads}
@@ -35,10 +35,10 @@ module _ (h : Heap) (set cards found : List ℕ) (valid : IsValid h) (rising : A
   same_inner : (os : List Lead) → filter (λ l. in_set h set l.target) (root_leads h ++ (card_leads h cards ++ os)) ≡ filter (λ l. in_set h set l.target) (root_leads h ++ (slot_leads h set ++ os))
   same_inner os =
       let p : Lead → Bool = λ l. in_set h set l.target in
-      filter_append p (root_leads h) (card_leads h cards ++ os)
-      ∙ ap (λ l. filter p (root_leads h) ++ l) (filter_append p (card_leads h cards) os ∙ ap (λ l. l ++ filter p os) (by_cards h set cards (in_set h set) valid rising outside lead_in)
-      ∙ sym (filter_append p (slot_leads h set) os))
-      ∙ sym (filter_append p (root_leads h) (slot_leads h set ++ os))
+      filter-append p (root_leads h) (card_leads h cards ++ os)
+      ∙ ap (λ l. filter p (root_leads h) ++ l) (filter-append p (card_leads h cards) os ∙ ap (λ l. l ++ filter p os) (by_cards h set cards (in_set h set) valid rising outside lead_in)
+      ∙ sym (filter-append p (slot_leads h set) os))
+      ∙ sym (filter-append p (root_leads h) (slot_leads h set ++ os))
 
   pub all_met : met found [] (root_leads h ++ (card_leads h cards ++ found_leads h found (length found))) ≡ all_finders h set found
   all_met =

@@ -2,7 +2,7 @@
 use Rattle.std.proofs.Common.{◌≡◌, ◌≢◌, ℕ, zero, suc, ◌+◌, ◌-◌, ◌<◌, ◌≤◌, inl, inr, true, false, cond, List, [], ◌∷◌, ◌++◌, length, map, filter, take, drop, get_or, All, refl, sym, ◌∙◌, ap, subst, arith, append_assoc, eqb, eqb-true, eq-eqb, ne_eqb, ltb, lt-ltb}
 use Rattle.std.specs.Prelude.{codes, decimal}
 use Rattle.std.specs.List.Sorted.{IsNonDecreasingBy, IsPartitionedBy, IsPartitionPoint, IsStrictlyIncreasing}
-use Rattle.std.proofs.lemmas.Bool.{cases_lt, false≢true}
+use Rattle.std.proofs.lemmas.Bool.{cases_lt, false≢true, ltb-false as above, ltb-true as below}
 use Rattle.std.proofs.lemmas.List.{get_or-drop, length-drop, get_or_default}
 use Rattle.g1_words.specs.Heap.{regions}
 use Rattle.g1_image.specs.Image.{Image, IsImage}
@@ -38,12 +38,6 @@ behind (y ∷ ys) card zero same other le = none_left (y ∷ ys) card (λ k d lt
 behind (y ∷ ys) card (suc b) same other le =
     ap (λ l. y ∷ l) (behind ys card b (λ k d lt. same (suc k) d (omega (arith, lt))) (λ k d low lt. other (suc k) d (omega (arith, low)) (omega (arith, lt))) (omega (arith, le)))
     ∙ sym (ap (λ b. cond b (y ∷ filter (λ x. eqb x.0 card) ys) (filter (λ x. eqb x.0 card) ys)) (same 0 y (omega arith)))
-
-below : (x card : ℕ) → ltb x card ≡ true → x < card
-below x card t = elim (cases_lt x card) [ inl lt ↦ lt | inr ge ↦ absurd (false≢true (sym (Rattle.std.proofs.Common.le-ltb x card ge) ∙ t)) ]
-
-above : (x card : ℕ) → ltb x card ≡ false → card ≤ x
-above x card f = elim (cases_lt x card) [ inl lt ↦ absurd (false≢true (sym f ∙ lt-ltb x card lt)) | inr ge ↦ ge ]
 
 -- from the first that is not lower, the pairs of the card come first
 pub same_first : (xs ys : List (ℕ × ℕ)) (card a : ℕ) → IsNonDecreasingBy (λ (x : ℕ × ℕ). x.0) xs → IsPartitionPoint (λ (y : ℕ × ℕ). ltb y.0 card ≡ true) (λ y. ltb y.0 card ≡ false) xs a → ys ≡ drop a xs

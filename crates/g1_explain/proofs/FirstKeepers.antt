@@ -3,12 +3,13 @@ use Rattle.std.proofs.Common.{◌≡◌, ℕ, zero, suc, ◌+◌, ◌*◌, ◌<�
 use Rattle.std.specs.Prelude.{if◌then◌else◌}
 use Rattle.std.specs.Int.{div_ceil}
 use Rattle.std.specs.List.{range_with_len}
-use Rattle.std.proofs.lemmas.Bool.{cases_lt, false≢true, le-leb}
+use Rattle.std.proofs.lemmas.Bool.{cases_lt, false≢true, le-leb, not-true, false_from_ne_true}
 use Rattle.std.proofs.lemmas.Grind.{div_ceil_times}
 use Rattle.std.proofs.lemmas.List.{ext_get_or, length-map, take_all, drop_all}
 use Rattle.std.proofs.lemmas.List.Folds.{list_any-append}
 use Rattle.std.proofs.lemmas.List.FromFn.{get_or-map-range_with_len, length-range_with_len}
 use Rattle.std.proofs.lemmas.Nat.{div-mul-add}
+use Rattle.std.proofs.lemmas.List.Elements.{filter-append}
 use Rattle.g1_words.specs.declared.object.Object.{Object}
 use Rattle.g1_words.specs.declared.region.Region.{Region}
 use Rattle.g1_words.specs.declared.region.Kind.TheVariants.{HumongousFirst}
@@ -31,7 +32,6 @@ use Rattle.g1_rem.proofs.Rising.{Rises-filter, Rises-range, Rises-increasing}
 use Rattle.g1_frontier.specs.Window.{AreCards, AreOutside, LeadIn}
 use Rattle.g1_frontier.proofs.Leading.{refined_leads_in}
 use Rattle.g1_frontier.proofs.Scopes.{all_in, all_from_in}
-use Rattle.g1_frontier.proofs.Seeds.{filter_append}
 use Rattle.g1_copy.proofs.UnnamedFirsts.{first_by_test}
 use Rattle.g1_explain.specs.declared.humongous.Keeper.{Keeper}
 use Rattle.g1_explain.specs.declared.humongous.Keeper.TheVariants.{NoObject, Nothing}
@@ -40,7 +40,7 @@ use Rattle.g1_explain.specs.Humongous.{run, run_end}
 use Rattle.g1_explain.specs.Keepers.{AreKept, leads_in, leads_at, leads_on, leads_by_cards, all_leads, leads_to, first_keeper, keeper_at, keeper_of, keepers_of, or_first, is_apart}
 use Rattle.g1_explain.specs.Searched.{AreObjects}
 use Rattle.g1_explain.proofs.CardLeads.{by_cards}
-use Rattle.g1_explain.proofs.Keepers.{kept_then, false_by, own_is, same_test}
+use Rattle.g1_explain.proofs.Keepers.{kept_then, own_is, same_test}
 use Rattle.g1_explain.proofs.LeadOrder.{root_tells, found_tells}
 
 turned : (a b : Bool) → (not a && not b) ≡ not (b || a)
@@ -52,10 +52,6 @@ turned false false = refl
 pub or_true : (b : Bool) → (b || true) ≡ true
 or_true true = refl
 or_true false = refl
-
-not_true : (b : Bool) → not b ≡ true → b ≡ false
-not_true false e = refl
-not_true true e = absurd (false≢true e)
 
 -- ---- the object that begins in a region
 
@@ -147,7 +143,7 @@ module _ (h : Heap) (valid : IsValid h) (set : List ℕ) (marks : List Bool) (ar
   }
 
   outside : AreOutside h window looked
-  outside c k = not_true (card_in h window c) (sym (apart_is c) ∙ (filter_member (is_apart h marks r) (cards_where h test) c (In-from_contains looked c k)).1)
+  outside c k = not-true (card_in h window c) (sym (apart_is c) ∙ (filter_member (is_apart h marks r) (cards_where h test) c (In-from_contains looked c k)).1)
 
   single : (q : ℕ) → In (r ∷ []) q → q ≡ r
   single q (inl e) = sym e
@@ -159,7 +155,7 @@ module _ (h : Heap) (valid : IsValid h) (set : List ℕ) (marks : List Bool) (ar
       let card : ℕ = card_of h e.slot in
       let to : region_of h e.target ≡ r = ap (region_of h) (eqb-true e.target (start h r) t) ∙ start_there h valid r first in
       let into : in_set h (r ∷ []) e.target ≡ true = has_from_in (r ∷ []) (region_of h e.target) (inl (sym to)) in
-      let off : in_set h (r ∷ []) e.slot ≡ false = false_by (has (r ∷ []) q) (λ y.
+      let off : in_set h (r ∷ []) e.slot ≡ false = false_from_ne_true (has (r ∷ []) q) (λ y.
       let home : q ≡ r = single q (in_from_has (r ∷ []) q y) in
       let own : (has set q || has (run h r) q) ≡ true = (λ j. has set q || (ap (has (run h r)) home ∙ own_first h valid r first lt) j) ∙ or_true (has set q) in
       false≢true (sym out ∙ outside_both q ∙ own)) in
@@ -199,8 +195,8 @@ module _ (i : Image) (tracked : IsTracked i) (set survivors : List ℕ) (marks :
       in_or_at h valid r first (found_leads h survivors (length survivors)) (found_there h valid survivors objects_there) in
       let p : Lead → Bool = λ l. eqb l.target (start h r) in
       (λ j. roots j ++ (slots j ++ founds j))
-      ∙ sym (filter_append p (root_leads h) (slot_leads h (set ++ run h r) ++ found_leads h survivors (length survivors))
-      ∙ ap (λ l. filter p (root_leads h) ++ l) (filter_append p (slot_leads h (set ++ run h r)) (found_leads h survivors (length survivors))))
+      ∙ sym (filter-append p (root_leads h) (slot_leads h (set ++ run h r) ++ found_leads h survivors (length survivors))
+      ∙ ap (λ l. filter p (root_leads h) ++ l) (filter-append p (slot_leads h (set ++ run h r)) (found_leads h survivors (length survivors))))
 
   one_keeper : (r : ℕ) (b : Bool) → r < h.geometry.n → is_first (kind h r) ≡ b → or_first (if b then Nothing else NoObject) (counted r) ≡ (if b then first_keeper (leads_to h set survivors r) else NoObject)
   one_keeper r true lt e = ap first_keeper (all_are r lt e)

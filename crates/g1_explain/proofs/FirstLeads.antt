@@ -2,14 +2,15 @@
 use Rattle.std.proofs.Common.{◌≡◌, ℕ, ◌<◌, inl, inr, Bool, true, false, cond, not, ◌&&◌, ◌||◌, List, [], ◌∷◌, ◌++◌, length, map, filter, slice_index}
 use Rattle.std.proofs.Common.{refl, sym, ◌∙◌, ap, subst, arith, append_assoc, append-nil, eqb, eqb-true, eq-eqb, lt-ltb, ltb-true, nat_lt}
 use Rattle.std.specs.Prelude.{if◌then◌else◌}
-use Rattle.std.proofs.lemmas.Bool.{false≢true}
+use Rattle.std.proofs.lemmas.Bool.{false≢true, and_parts}
 use Rattle.std.proofs.lemmas.List.{length-map, length-append}
+use Rattle.std.proofs.lemmas.List.Elements.{filter-append}
 use Rattle.g1_words.specs.Lists.{has}
 use Rattle.g1_words.specs.Survivors.{firsts}
-use Rattle.g1_words.proofs.Members.{In, In-filter, filter_member, in_from_has, and_true}
+use Rattle.g1_words.proofs.Members.{In, In-filter, filter_member, in_from_has}
 use Rattle.g1_words.proofs.Firsts.{Distinct, Distinct-firsts, Distinct-apart, In-firsts}
 use Rattle.g1_words.proofs.Indices.{get_or-In}
-use Rattle.g1_frontier.proofs.Seeds.{filter_append, map_append}
+use Rattle.g1_frontier.proofs.Seeds.{map_append}
 use Rattle.g1_explain.specs.declared.finder.Finder.{Finder}
 use Rattle.g1_explain.specs.Finders.{Lead, first_leads}
 use Rattle.g1_explain.specs.Searched.{is_next, met}
@@ -64,7 +65,7 @@ pub first_snoc : (ls : List Lead) (l : Lead) → first_leads (ls ++ l ∷ []) �
 first_snoc [] l = refl
 first_snoc (x ∷ xs) l =
     ap (λ ys. x ∷ filter (λ y. not (eqb x.target y.target)) ys) (first_snoc xs l)
-    ∙ ap (λ ys. x ∷ ys) (filter_append (λ (y : Lead). not (eqb x.target y.target)) (first_leads xs) (cond (has (targets_of xs) l.target) [] (l ∷ [])))
+    ∙ ap (λ ys. x ∷ ys) (filter-append (λ (y : Lead). not (eqb x.target y.target)) (first_leads xs) (cond (has (targets_of xs) l.target) [] (l ∷ [])))
     ∙ ap (λ ys. x ∷ (filter (λ y. not (eqb x.target y.target)) (first_leads xs) ++ ys))
     (last (eqb x.target l.target) (has (targets_of xs) l.target) refl ∙ ap (λ b. cond (b || has (targets_of xs) l.target) [] (l ∷ [])) (eqb_sym x.target l.target))
   where
@@ -88,7 +89,7 @@ pub next_true : (found : List ℕ) (n a : ℕ) → n < length found → slice_in
 next_true found n a lt e = ap (λ b. b && eqb (slice_index found n) a) (lt-ltb n (length found) lt) ∙ eq-eqb (slice_index found n) a e
 
 pub next_only : (found : List ℕ) (n a : ℕ) → is_next found n a ≡ true → (n < length found) × (slice_index found n ≡ a)
-next_only found n a e = let p = and_true (nat_lt n (length found)) (eqb (slice_index found n) a) e in (ltb-true n (length found) p.0, eqb-true (slice_index found n) a p.1)
+next_only found n a e = let p = and_parts (nat_lt n (length found)) (eqb (slice_index found n) a) e in (ltb-true n (length found) p.0, eqb-true (slice_index found n) a p.1)
 
 pub next_false : (found : List ℕ) (n a : ℕ) → (n < length found → slice_index found n ≡ a → ⊥) → is_next found n a ≡ false
 next_false found n a none = by (is_next found n a) refl

@@ -3,16 +3,17 @@ use Rattle.std.proofs.Common.{◌≡◌, ◌≢◌, ℕ, zero, suc, ◌+◌, ◌
 use Rattle.std.specs.Prelude.{Option, None, Some}
 use Rattle.std.specs.Option.{SomeIff, option_eq}
 use Rattle.std.specs.List.{range_with_len, list_any}
-use Rattle.std.proofs.lemmas.Bool.{cases_eq, cases_lt, false≢true, le-ltb}
+use Rattle.std.proofs.lemmas.Bool.{cases_eq, cases_lt, false≢true, le-ltb, false_from_ne_true, and_parts}
 use Rattle.std.proofs.lemmas.List.{get_or-set_same, get_or-set_other, take-append-drop, take_more, drop_more}
 use Rattle.std.proofs.lemmas.Grind.{flat_map-append}
+use Rattle.std.proofs.lemmas.List.Elements.{filter-append}
 use Rattle.g1_words.specs.Heap.{Heap, region_of, start, word}
 use Rattle.g1_words.specs.Lists.{has}
 use Rattle.g1_words.proofs.Computed.{In-range}
 use Rattle.g1_words.proofs.Indices.{range_bounds}
-use Rattle.g1_words.proofs.Members.{has_from_in, in_from_has, and_true}
+use Rattle.g1_words.proofs.Members.{has_from_in, in_from_has}
 use Rattle.g1_rem.specs.Slots.{slots_on}
-use Rattle.g1_frontier.proofs.Seeds.{filter_append, filter_flat}
+use Rattle.g1_frontier.proofs.Seeds.{filter_flat}
 use Rattle.g1_explain.specs.declared.finder.Finder.{Finder}
 use Rattle.g1_explain.specs.declared.finder.Finder.TheVariants.{Card}
 use Rattle.g1_explain.specs.declared.humongous.Keeper.{Keeper}
@@ -82,10 +83,6 @@ past (k ∷ ks) (suc r) le = past ks r (omega (arith, le))
 pub beyond : (ks : List Keeper) (r : ℕ) → length ks ≤ r → keeper_at ks r ≡ Nothing → ⊥
 beyond ks r le e = false≢true (ap is_nothing (sym (past ks r le) ∙ e))
 
-pub false_by : (b : Bool) → (b ≡ true → ⊥) → b ≡ false
-false_by true f = absurd (f refl)
-false_by false f = refl
-
 -- one reference is in its region alone
 module _ (h : Heap) (ks : List Keeper) (f : Finder) (x t r : ℕ) (e : x ≡ suc t) (home : r ≡ region_of h t) where
   here : (q : ℕ) → q ≡ r → leads_in h (lead f x) q ≡ record { finder = f; target = t } ∷ []
@@ -94,7 +91,7 @@ module _ (h : Heap) (ks : List Keeper) (f : Finder) (x t r : ℕ) (e : x ≡ suc
   elsewhere : (q : ℕ) → q ≢ r → leads_in h (lead f x) q ≡ []
   elsewhere q other =
       ap (λ z. leads_in h (lead f z) q) e
-      ∙ ap (λ b. cond b (record { finder = f; target = t } ∷ []) []) (false_by (eqb (region_of h t) q) (λ y. other (sym (eqb-true (region_of h t) q y) ∙ sym home)))
+      ∙ ap (λ b. cond b (record { finder = f; target = t } ∷ []) []) (false_from_ne_true (eqb (region_of h t) q) (λ y. other (sym (eqb-true (region_of h t) q y) ∙ sym home)))
 
   stays : (q : ℕ) → q ≢ r → keeper_at ks q ≡ or_first (keeper_at ks q) (leads_in h (lead f x) q)
   stays q other = sym (or_none (keeper_at ks q)) ∙ ap (or_first (keeper_at ks q)) (sym (elsewhere q other))
@@ -124,7 +121,7 @@ module _ (h : Heap) (ks : List Keeper) (f : Finder) (x t r : ℕ) (e : x ≡ suc
 -- ---- many references
 
 pub leads_append : (h : Heap) (xs ys : List Lead) (r : ℕ) → leads_in h (xs ++ ys) r ≡ leads_in h xs r ++ leads_in h ys r
-leads_append h xs ys r = filter_append (λ l. eqb (region_of h l.target) r) xs ys
+leads_append h xs ys r = filter-append (λ l. eqb (region_of h l.target) r) xs ys
 
 -- those of one number more
 pub kept_number_more : (h : Heap) (f : ℕ → List Lead) (old now after : List Keeper) (n : ℕ) → AreKept (leads_in h (flat_map f (range_with_len 0 n))) old now
@@ -169,7 +166,7 @@ none_more f xs i d lt none e =
 
 pub own_is : (a e x : ℕ) → (leb a x && ltb x e) ≡ has (range_with_len a (e - a)) x
 own_is a e x = same_test (leb a x && ltb x e) (has (range_with_len a (e - a)) x)
-    (λ t. let b = and_true (leb a x) (ltb x e) t in
+    (λ t. let b = and_parts (leb a x) (ltb x e) t in
     let low = leb-true a x b.0 in
     let high = ltb-true x e b.1 in
     has_from_in (range_with_len a (e - a)) x (In-range a (e - a) x (omega (arith, low)) (omega (arith, low, high))))
@@ -193,7 +190,7 @@ lead_there h r x a f at e = ap (λ z. leads_at h (lead f z) r) e ∙ ap (λ b. c
 pub lead_elsewhere : (h : Heap) (r x a : ℕ) (f : Finder) → a ≡ start h r → x ≢ suc a → leads_at h (lead f x) r ≡ []
 lead_elsewhere h r zero a f at d = refl
 lead_elsewhere h r (suc b) a f at d =
-    ap (λ c. cond c (record { finder = f; target = b } ∷ []) []) (false_by (eqb b (start h r)) (λ t. d (ap suc (eqb-true b (start h r) t ∙ sym at))))
+    ap (λ c. cond c (record { finder = f; target = b } ∷ []) []) (false_from_ne_true (eqb b (start h r)) (λ t. d (ap suc (eqb-true b (start h r) t ∙ sym at))))
 
 -- the references to the object, slot by slot
 pub at_slots : (h : Heap) (r c : ℕ) (slots : List ℕ) → leads_at h (flat_map (λ p. lead (Card c p) (word h p)) slots) r ≡ flat_map (λ p. leads_at h (lead (Card c p) (word h p)) r) slots
@@ -232,7 +229,7 @@ kept_at ks r ls f lt none first = record {
         ∙ sym (ap (λ k. or_first k (cond (eqb q r) ls [])) (ap (keeper_at ks) same ∙ none) ∙ ap (λ b. first_keeper (cond b ls [])) (eq-eqb q r same) ∙ first)
     | inr other ↦
         get_or-set_other ks r q (By f) NoObject other ∙ sym (or_none (keeper_at ks q))
-        ∙ ap (λ b. or_first (keeper_at ks q) (cond b ls [])) (sym (false_by (eqb q r) (λ t. other (eqb-true q r t))))
+        ∙ ap (λ b. or_first (keeper_at ks q) (cond b ls [])) (sym (false_from_ne_true (eqb q r) (λ t. other (eqb-true q r t))))
   ];
 }
 
@@ -243,7 +240,7 @@ kept_at_none ks r ls none = record {
   each = λ q. elim (cases_eq q r) [
     | inl same ↦ ap (keeper_at ks) same ∙ by (keeper_at ks r) refl
         ∙ sym ((λ i. or_first (keeper_at ks (same i)) (cond (eq-eqb q r same i) ls [])))
-    | inr other ↦ sym (or_none (keeper_at ks q)) ∙ ap (λ b. or_first (keeper_at ks q) (cond b ls [])) (sym (false_by (eqb q r) (λ t. other (eqb-true q r t))))
+    | inr other ↦ sym (or_none (keeper_at ks q)) ∙ ap (λ b. or_first (keeper_at ks q) (cond b ls [])) (sym (false_from_ne_true (eqb q r) (λ t. other (eqb-true q r t))))
   ];
 }
   where
@@ -265,14 +262,14 @@ kept_below_more f a b c n p q =
     one : (r : ℕ) → cond (ltb r n) (f r) [] ++ cond (eqb r n) (f n) [] ≡ cond (ltb r (n + 1)) (f r) []
     one r = elim (cases_lt r n) [
       | inl lt ↦
-          (λ i. cond (lt-ltb r n lt i) (f r) [] ++ cond (false_by (eqb r n) (λ t. let e : r ≡ n = eqb-true r n t in omega (arith, lt, e)) i) (f n) [])
+          (λ i. cond (lt-ltb r n lt i) (f r) [] ++ cond (false_from_ne_true (eqb r n) (λ t. let e : r ≡ n = eqb-true r n t in omega (arith, lt, e)) i) (f n) [])
           ∙ append-nil (f r) ∙ ap (λ b. cond b (f r) []) (sym (lt-ltb r (n + 1) (omega (arith, lt))))
       | inr ge ↦ elim (cases_eq r n) [
         | inl same ↦
             (λ i. cond (le-ltb r n ge i) (f r) [] ++ cond (eq-eqb r n same i) (f n) [])
             ∙ ap f (sym same) ∙ ap (λ b. cond b (f r) []) (sym (lt-ltb r (n + 1) (omega (arith, same))))
         | inr other ↦
-            (λ i. cond (le-ltb r n ge i) (f r) [] ++ cond (false_by (eqb r n) (λ t. other (eqb-true r n t)) i) (f n) [])
+            (λ i. cond (le-ltb r n ge i) (f r) [] ++ cond (false_from_ne_true (eqb r n) (λ t. other (eqb-true r n t)) i) (f n) [])
             ∙ ap (λ b. cond b (f r) []) (sym (le-ltb r (n + 1) (above r n ge other)))
       ]
     ]

@@ -1,6 +1,6 @@
 -- The card of the slot that keeps an object is remembered, or dirty.
 use Rattle.std.proofs.Common.{◌≡◌, ◌≢◌, ◌<◌, ℕ, suc, inl, inr, Bool, true, false, not, ◌&&◌, ◌||◌, List, [], ◌∷◌, Contains, refl, sym, ◌∙◌, ap, subst, arith, eqb, eqb-true, eq-eqb}
-use Rattle.std.proofs.lemmas.Bool.{false≢true}
+use Rattle.std.proofs.lemmas.Bool.{false≢true, false_from_ne_true}
 use Rattle.g1_words.specs.Heap.{Heap, word, kind, region_of, card_of, is_first}
 use Rattle.g1_words.specs.Lists.{has}
 use Rattle.g1_words.specs.References.{Ref, refs}
@@ -16,7 +16,6 @@ use Rattle.g1_explain.specs.declared.paths.Entry.{Entry}
 use Rattle.g1_explain.specs.Humongous.{run}
 use Rattle.g1_explain.specs.Keeping.{IsEntry, IsUnrooted, LeadsWithin, LeadsInto, is_known, path_of}
 use Rattle.g1_explain.proofs.FirstKeepers.{own_first, or_true}
-use Rattle.g1_explain.proofs.Keepers.{false_by}
 use Rattle.g1_explain.proofs.Kept.{ref_there, some_within}
 use Rattle.g1_explain.proofs.Outside.{IsOutsideSlot}
 
@@ -37,7 +36,7 @@ module _ (i : Image) (valid : IsValid i.heap) (a r : ℕ) (home : r ≡ region_o
       e = record { slot = p; target = b }
 
       apart : eqb (region_of h p) (region_of h a) ≡ false
-      apart = false_by (eqb (region_of h p) (region_of h a)) (λ t. out (eqb-true (region_of h p) (region_of h a) t))
+      apart = false_from_ne_true (eqb (region_of h p) (region_of h a)) (λ t. out (eqb-true (region_of h p) (region_of h a) t))
 
       listed : is_covered i (record { slot = p; target = b }) ≡ false → In (uncovered_into i (region_of h a)) p
       listed c =

@@ -2,7 +2,7 @@
 use Rattle.std.proofs.Common.{◌≡◌, ℕ, zero, suc, ◌<◌, ◌≤◌, inl, inr, Bool, false, ◌||◌, List, [], ◌∷◌, ◌++◌, length, get_or, map, All, refl, sym, ◌∙◌, ap, arith, append_assoc}
 use Rattle.std.specs.Prelude.{replicate, codes, decimal}
 use Rattle.std.proofs.lemmas.Bool.{cases_lt}
-use Rattle.std.proofs.lemmas.List.{length-replicate}
+use Rattle.std.proofs.lemmas.List.{length-replicate, get_or_past}
 use Rattle.g1_words.specs.Heap.{Heap}
 use Rattle.g1_words.specs.Lists.{has}
 use Rattle.g1_words.specs.Marks.{AreMarked}
@@ -17,11 +17,6 @@ none_set zero r = refl
 none_set (suc n) zero = refl
 none_set (suc n) (suc r) = none_set n r
 
-pub past : {A : Type 0} (xs : List A) (r : ℕ) (d : A) → length xs ≤ r → get_or xs r d ≡ d
-past [] r d le = refl
-past (x ∷ xs) zero d le = absurd (omega (arith, le))
-past (x ∷ xs) (suc r) d le = past xs r d (omega (arith, le))
-
 -- the marks are those of the regions of the set
 pub marks_are : (n : ℕ) (set : List ℕ) (none marks : List Bool) → none ≡ replicate n false → AreMarked (has set) none marks → All (λ r. r < n) set → (r : ℕ) → get_or marks r false ≡ has set r
 marks_are n set none marks e are below r =
@@ -29,7 +24,7 @@ marks_are n set none marks e are below r =
     elim (cases_lt r n) [
       | inl lt ↦ are.each r (omega (arith, lt, many)) ∙ ap (λ (xs : List Bool). get_or xs r false || has set r) e ∙ ap (λ b. b || has set r) (none_set n r)
       | inr ge ↦
-          past marks r false (omega (arith, ge, many, are.one_each))
+          get_or_past marks r false (omega (arith, ge, many, are.one_each))
           ∙ sym (not_has set r (λ i. let lt : r < n = in_all (λ x. x < n) set r below i in absurd (omega (arith, ge, lt))))
     ]
 

@@ -1,7 +1,8 @@
 -- What keeps a humongous object that no root leads to, and what leads nowhere.
 use Rattle.std.proofs.Common.{◌≡◌, ◌≢◌, ℕ, ◌<◌, ◌≤◌, inl, Bool, true, false, not, ◌&&◌, List, [], ◌∷◌, ◌++◌, map, filter, get_or, Contains, refl, sym, ◌∙◌, ap, subst, arith, eqb, eqb-true}
 use Rattle.std.specs.Prelude.{Option}
-use Rattle.std.proofs.lemmas.Bool.{false≢true}
+use Rattle.std.proofs.lemmas.Bool.{false≢true, and_parts}
+use Rattle.std.proofs.lemmas.List.{get_or_past}
 use Rattle.g1_words.specs.declared.region.Region.{Region}
 use Rattle.g1_words.specs.declared.region.Kind.TheVariants.{Free}
 use Rattle.g1_words.specs.Heap.{Heap, kind, start, region_of, card_of, free_region, objects, object_at, is_first}
@@ -11,7 +12,7 @@ use Rattle.g1_words.specs.Live.{Live}
 use Rattle.g1_words.specs.Survivors.{in_set}
 use Rattle.g1_words.specs.Valid.{IsValid}
 use Rattle.g1_words.proofs.Computed.{contains_has}
-use Rattle.g1_words.proofs.Members.{In, Contains-from_in, filter_member, and_true}
+use Rattle.g1_words.proofs.Members.{In, Contains-from_in, filter_member}
 use Rattle.g1_words.proofs.Objects.{object_stands}
 use Rattle.g1_words.proofs.OneToOne.{reached_object}
 use Rattle.g1_words.proofs.Sound.{sound}
@@ -30,7 +31,6 @@ use Rattle.g1_explain.proofs.FirstKeepers.{at_start, on_these_cards}
 use Rattle.g1_explain.proofs.Kept.{live_root, live_slot}
 use Rattle.g1_explain.proofs.Keepers.{not_by}
 use Rattle.g1_explain.proofs.LeadOrder.{slot_tells}
-use Rattle.g1_explain.proofs.Marks.{past}
 use Rattle.g1_explain.proofs.Searched.{exact_leads_in}
 
 -- ---- legs to an object that no root leads to
@@ -95,7 +95,7 @@ module _ (h : Heap) (valid : IsValid h) (a r : ℕ) (home : r ≡ region_of h a)
       ∙ ap first_keeper (on_these_cards h valid [] marks none r lt (subst (λ q. is_first (kind h q) ≡ true) (sym home) large) (is_exact h r) (exact_leads_in h valid r))
       ∙ ap first_keeper ((λ t. filter (λ (l : Lead). eqb l.target (sym at t)) (slot_leads h (run h (home t)))))
 
--- ---- an address past the heap
+-- ---- an address get_or_past the heap
 
 module _ (i : Image) (valid : IsValid i.heap) (a : ℕ) (beyond : i.heap.geometry.n ≤ region_of i.heap a) (dead : Live i.heap a → ⊥) where
   abbrev h : Heap
@@ -109,7 +109,7 @@ module _ (i : Image) (valid : IsValid i.heap) (a : ℕ) (beyond : i.heap.geometr
       absurd (omega (arith, lt, e, beyond))
 
   free : kind h (region_of h a) ≡ Free
-  free = ap (λ (q : Region). q.kind) (past h.regions (region_of h a) free_region (omega (arith, valid.region_count, beyond)))
+  free = ap (λ (q : Region). q.kind) (get_or_past h.regions (region_of h a) free_region (omega (arith, valid.region_count, beyond)))
 
   -- so nothing keeps it
   pub beyond_reason : IsReason i a reason.Garbage
@@ -118,8 +118,8 @@ module _ (i : Image) (valid : IsValid i.heap) (a : ℕ) (beyond : i.heap.geometr
       dead = dead;
       covered = ap (map (λ (e : Ref). e.slot)) (no_members (filter (λ (e : Ref). leads_into h (region_of h a) e && not (is_covered i e)) (refs h)) (λ e k.
           let m = filter_member (λ (e : Ref). leads_into h (region_of h a) e && not (is_covered i e)) (refs h) e k in
-          let t = and_true (leads_into h (region_of h a) e) (not (is_covered i e)) m.1 in
-          let u = and_true (eqb (region_of h e.target) (region_of h a)) (not (eqb (region_of h e.slot) (region_of h a))) t.0 in
+          let t = and_parts (leads_into h (region_of h a) e) (not (is_covered i e)) m.1 in
+          let u = and_parts (eqb (region_of h e.target) (region_of h a)) (not (eqb (region_of h e.slot) (region_of h a))) t.0 in
           below e.target ((sound h valid).slot_named e (Contains-from_in (refs h) e m.0)) (eqb-true (region_of h e.target) (region_of h a) u.0)));
     },
     (λ plain alone. below a (reached_object h (region_of h a ∷ []) (sound h valid) a alone) refl),

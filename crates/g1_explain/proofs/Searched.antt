@@ -1,7 +1,7 @@
 -- The cards of a search of one region.
 use Rattle.std.proofs.Common.{◌≡◌, ◌≢◌, ◌<◌, ℕ, inl, inr, ◌*◌, ◌/◌, List, [], ◌∷◌, Contains, sym, ap, subst, ◌∙◌, arith, refl}
 use Rattle.std.specs.List.{range_with_len}
-use Rattle.std.proofs.lemmas.Bool.{false≢true}
+use Rattle.std.proofs.lemmas.Bool.{false≢true, false_from_ne_true}
 use Rattle.g1_words.specs.Heap.{Heap, region_of, card_of}
 use Rattle.g1_words.specs.Lists.{has}
 use Rattle.g1_words.specs.Valid.{IsValid}
@@ -13,7 +13,6 @@ use Rattle.g1_image.proofs.Covers.{card_region, exact_tells}
 use Rattle.g1_rem.specs.Starts.{card_count}
 use Rattle.g1_rem.proofs.Rising.{Rises-filter, Rises-range, Rises-increasing}
 use Rattle.g1_frontier.specs.Window.{AreCards, AreOutside, LeadIn}
-use Rattle.g1_frontier.proofs.Places.{same_bool}
 use Rattle.g1_frontier.proofs.Scopes.{all_from_in}
 
 module _ (h : Heap) (valid : IsValid h) (r : ℕ) where
@@ -36,7 +35,7 @@ module _ (h : Heap) (valid : IsValid h) (r : ℕ) where
       rise = Rises-increasing 0 (exact h r) (Rises-filter (is_exact h r) 0 (range_with_len 0 (card_count h)) (Rises-range 0 (card_count h)));
       below = all_from_in (λ c. c < card_count h) (exact h r) (λ c k. exact_below c (Contains-from_in (exact h r) c k));
     },
-    (λ c k. same_bool (has (r ∷ []) (c * h.geometry.k / h.geometry.w))
+    (λ c k. false_from_ne_true (has (r ∷ []) (c * h.geometry.k / h.geometry.w))
         (λ t. elsewhere c k (single (c * h.geometry.k / h.geometry.w) (in_from_has (r ∷ []) (c * h.geometry.k / h.geometry.w) t)))),
     (λ e c t f.
         let into : region_of h e.target ≡ r = single (region_of h e.target) (in_from_has (r ∷ []) (region_of h e.target) t) in

@@ -2,7 +2,7 @@
 use Rattle.std.proofs.Common.{◌≡◌, ℕ, suc, ◌+◌, ◌-◌, ◌*◌, ◌<◌, ◌≤◌, inl, inr, Bool, true, false, not, cond, ◌&&◌, ◌||◌, List, [], ◌∷◌, ◌++◌, length, get_or, map, filter, flat_map, slice_index, Contains, refl, sym, ◌∙◌, ap, subst, arith, eqb, eqb-true, eq-eqb, leb, ltb, leb-true, ltb-true, lt-ltb}
 use Rattle.std.specs.Int.{div_ceil}
 use Rattle.std.specs.List.{list_any}
-use Rattle.std.proofs.lemmas.Bool.{cases_lt, false≢true}
+use Rattle.std.proofs.lemmas.Bool.{cases_lt, false≢true, or_parts, or_from as either, and_from, false_from_ne_true, and_parts, or_cases}
 use Rattle.std.proofs.lemmas.Grind.{div_ceil_times}
 use Rattle.std.proofs.lemmas.List.{map-append}
 use Rattle.std.proofs.lemmas.List.Elements.{filter-append}
@@ -17,7 +17,7 @@ use Rattle.g1_words.specs.References.{Ref, refs, root_targets, targets}
 use Rattle.g1_words.specs.Survivors.{in_set}
 use Rattle.g1_words.proofs.Computed.{In-range}
 use Rattle.g1_words.proofs.Indices.{get_or-In, range_bounds, is_free_region}
-use Rattle.g1_words.proofs.Members.{In, In-from_contains, Contains-from_in, In-append_left, In-append_right, In-append_cases, In-flat_map, In-filter, In-map, filter_member, map_cases, has_from_in, in_from_has, and_true, or_true, any_member}
+use Rattle.g1_words.proofs.Members.{In, In-from_contains, Contains-from_in, In-append_left, In-append_right, In-append_cases, In-flat_map, In-filter, In-map, filter_member, map_cases, has_from_in, in_from_has, any_member}
 use Rattle.g1_words.proofs.OneToOne.{kept_cases, outside_stays, survivor_to_free}
 use Rattle.g1_words.proofs.Shapes.{IsBuilt, built}
 use Rattle.g1_words.proofs.Sound.{IsSound}
@@ -28,7 +28,7 @@ use Rattle.g1_after.specs.Made.{heap_moved, image_moved}
 use Rattle.g1_after.specs.Moved.{IsMoved}
 use Rattle.g1_after.specs.Survived.{IsMovedRef}
 use Rattle.g1_after.specs.Unnamed.{has_word, humongous, is_named, lies_in, unnamed}
-use Rattle.g1_after.proofs.CoveredMoved.{and_both, any_from_in}
+use Rattle.g1_after.proofs.CoveredMoved.{any_from_in}
 use Rattle.g1_after.proofs.Existence.{made_is_moved}
 use Rattle.g1_after.proofs.ObjectsOf.{kept_outside, survivor_region}
 use Rattle.g1_after.proofs.RefsMoved.{refs_moved}
@@ -49,7 +49,7 @@ use Rattle.g1_explain.specs.Humongous.{run, run_end}
 use Rattle.g1_explain.specs.Keepers.{is_nothing, first_keeper, leads_to, keeper_of}
 use Rattle.g1_explain.specs.Unkept.{unkept, FreesUnkept}
 use Rattle.g1_explain.proofs.FirstKeepers.{stands, start_there}
-use Rattle.g1_explain.proofs.Keepers.{false_by, same_test}
+use Rattle.g1_explain.proofs.Keepers.{same_test}
 use Rattle.g1_explain.proofs.LeadOrder.{slot_tells, found_tells}
 use Rattle.g1_explain.proofs.FirstLeads.{targets_of}
 use Rattle.g1_explain.proofs.Targets.{root_part, found_targets}
@@ -86,16 +86,6 @@ lead_first (x ∷ ls) l k = refl
 lead_with : (ls : List Lead) (a : ℕ) → In (targets_of ls) a → (l : Lead) × In ls l × (l.target ≡ a)
 lead_with ls a k = map_cases (λ (l : Lead). l.target) ls a k
 
-either : (a b : Bool) → a ≡ false → b ≡ false → (a || b) ≡ false
-either false false e f = refl
-either true b e f = absurd (false≢true (sym e))
-either false true e f = absurd (false≢true (sym f))
-
-neither : (a b : Bool) → (a || b) ≡ false → (a ≡ false) × (b ≡ false)
-neither false false e = (refl, refl)
-neither true b e = absurd (false≢true (sym e))
-neither false true e = absurd (false≢true (sym e))
-
 module _ (i : Image) (set l : List ℕ) (tracked : IsTracked i) (a : HasRoom i.heap set l) where
   abbrev h : Heap
   h = i.heap
@@ -128,7 +118,7 @@ module _ (i : Image) (set l : List ℕ) (tracked : IsTracked i) (a : HasRoom i.h
 
   -- and one outside is one of an object outside
   slot_outside : (o : Object) (m : ℕ) → Contains (objects h) o → m < o.size → in_set h set o.at ≡ false → in_set h set (o.at + m) ≡ false
-  slot_outside o m c lt out = false_by (in_set h set (o.at + m)) (λ e.
+  slot_outside o m c lt out = false_from_ne_true (in_set h set (o.at + m)) (λ e.
       let t = home h valid o c in
       let one : kind h (region_of h (o.at + m)) ≡ Ordinary = a.ordinary (region_of h (o.at + m)) (Contains-from_in set (region_of h (o.at + m)) (in_from_has set (region_of h (o.at + m)) e)) in
       let w = word_in_ordinary h valid t.0 o m t.2 lt one in
@@ -160,7 +150,7 @@ module _ (i : Image) (set l : List ℕ) (tracked : IsTracked i) (a : HasRoom i.h
         subst (λ q. Stands h q o × InHumongous h q o) same (t.2, t.3)
 
     outside : in_set h set at ≡ false
-    outside = ap (has set) there ∙ false_by (has set r) (λ t. let clash : Ordinary ≡ HumongousFirst = sym (a.ordinary r (Contains-from_in set r (in_from_has set r t))) ∙ two in cc)
+    outside = ap (has set) there ∙ false_from_ne_true (has set r) (λ t. let clash : Ordinary ≡ HumongousFirst = sym (a.ordinary r (Contains-from_in set r (in_from_has set r t))) ∙ two in cc)
 
     stays : f at ≡ at
     stays = outside_stays h set l s a.ordinary a.survivors a.room at outside
@@ -198,14 +188,14 @@ module _ (i : Image) (set l : List ℕ) (tracked : IsTracked i) (a : HasRoom i.h
           let product : (r + (region_of h (q.at + m) - r)) * h.geometry.w ≡ region_of h (q.at + m) * h.geometry.w = ap (λ z. z * h.geometry.w) whole in
           let wide = w_pos h valid in
           let lies : lies_in h (region_of h (q.at + m)) o ≡ true =
-          and_both (ltb (r * h.geometry.w) (region_of h (q.at + m) * h.geometry.w + h.geometry.w)) (ltb (region_of h (q.at + m) * h.geometry.w) (r * h.geometry.w + o.size))
+          and_from (ltb (r * h.geometry.w) (region_of h (q.at + m) * h.geometry.w + h.geometry.w)) (ltb (region_of h (q.at + m) * h.geometry.w) (r * h.geometry.w + o.size))
           (lt-ltb (r * h.geometry.w) (region_of h (q.at + m) * h.geometry.w + h.geometry.w) (omega (arith, from, wide)))
           (lt-ltb (region_of h (q.at + m) * h.geometry.w) (r * h.geometry.w + o.size) (omega (arith, sum, product, next, one, fills.1))) in
           sym (word_in_run h valid o q m o_humongous c less) ∙ lies
 
       from : has_word o (q.at + m) ≡ true → has (run h r) (region_of h (q.at + m)) ≡ true
       from t =
-          let b = and_true (leb at (q.at + m)) (ltb (q.at + m) (at + o.size)) t in
+          let b = and_parts (leb at (q.at + m)) (ltb (q.at + m) (at + o.size)) t in
           let low = leb-true at (q.at + m) b.0 in
           let high = ltb-true (q.at + m) (at + o.size) b.1 in
           let same : at + (q.at + m - at) ≡ q.at + m = omega (arith, low) in
@@ -253,7 +243,7 @@ module _ (i : Image) (set l : List ℕ) (tracked : IsTracked i) (a : HasRoom i.h
 
     -- something that names the object after the moves is a reference that counts
     named_leads : is_named j.heap o ≡ true → (x : Lead) × In (leads_to h set l r) x
-    named_leads t = elim (or_true (has (root_targets j.heap) at) (list_any (λ e. eqb e.target at && not (has_word o e.slot)) (refs j.heap)) t) [
+    named_leads t = elim (or_cases (has (root_targets j.heap) at) (list_any (λ e. eqb e.target at && not (has_word o e.slot)) (refs j.heap)) t) [
       | inl k ↦
           let n : In (map (forward h l) (root_targets h)) at = subst (λ xs. In xs at) (roots_renamed (forward h l) h.roots) (in_from_has (root_targets j.heap) at k) in
           let m = map_cases (forward h l) (root_targets h) at n in
@@ -261,7 +251,7 @@ module _ (i : Image) (set l : List ℕ) (tracked : IsTracked i) (a : HasRoom i.h
           of_roots (subst (In (root_targets h)) same m.1)
       | inr k ↦
           let m = any_member (λ e. eqb e.target at && not (has_word o e.slot)) (refs j.heap) k in
-          let b = and_true (eqb m.0.target at) (not (has_word o m.0.slot)) m.2 in
+          let b = and_parts (eqb m.0.target at) (not (has_word o m.0.slot)) m.2 in
           by_ref m.0 (ref_moved i set l j valid a.ordinary a.survivors a.room moved m.0 m.1) (eqb-true m.0.target at b.0) b.1
     ]
       where
@@ -277,7 +267,7 @@ module _ (i : Image) (set l : List ℕ) (tracked : IsTracked i) (a : HasRoom i.h
                   let place : e.slot ≡ m.owner.at + m.m = m.slot ∙ ap (λ z. z + m.m) (outside_stays h set l s a.ordinary a.survivors a.room m.owner.at y.0) in
                   let ref : In (refs h) (record { slot = m.owner.at + m.m; target = at }) =
                   ref_of h (record { slot = m.owner.at + m.m; target = at }) (record { owner = m.owner; is_one = y.1; m = m.m; above = m.above; within = m.within; at = refl; names = reads }) in
-                  let no_word : has_word o (m.owner.at + m.m) ≡ false = false_by (has_word o (m.owner.at + m.m)) (λ z. false≢true (sym (ap not (ap (has_word o) place ∙ z)) ∙ off)) in
+                  let no_word : has_word o (m.owner.at + m.m) ≡ false = false_from_ne_true (has_word o (m.owner.at + m.m)) (λ z. false≢true (sym (ap not (ap (has_word o) place ∙ z)) ∙ off)) in
                   of_slot (m.owner.at + m.m) ref (window_is (region_of h (m.owner.at + m.m))
                   ∙ either (in_set h set (m.owner.at + m.m)) (has (run h r) (region_of h (m.owner.at + m.m))) (slot_outside m.owner m.m c less y.0) (own_word m.owner m.m c less ∙ no_word))
               | inr y ↦
@@ -293,7 +283,7 @@ module _ (i : Image) (set l : List ℕ) (tracked : IsTracked i) (a : HasRoom i.h
         let moved_ref : IsMovedRef h set l e = record { owner = k; is_kept = Contains-from_in (kept h set l) k c; m = m; above = above; within = within; target = at; names = reads; slot_at = refl; target_at = sym stays } in
         let ref : In (refs j.heap) e = In-from_contains (refs j.heap) e ((refs_moved i set l j valid a.ordinary a.survivors a.room moved e).1 moved_ref) in
         let any : list_any (λ e. eqb e.target at && not (has_word o e.slot)) (refs j.heap) ≡ true =
-        any_from_in (λ (e : Ref). eqb e.target at && not (has_word o e.slot)) (refs j.heap) e ref (and_both (eqb at at) (not (has_word o (f k.at + m))) (eq-eqb at at refl) (ap not off)) in
+        any_from_in (λ (e : Ref). eqb e.target at && not (has_word o e.slot)) (refs j.heap) e ref (and_from (eqb at at) (not (has_word o (f k.at + m))) (eq-eqb at at refl) (ap not off)) in
         ap (λ b. has (root_targets j.heap) at || b) any ∙ last (has (root_targets j.heap) at)
       where
         last : (b : Bool) → (b || true) ≡ true
@@ -326,9 +316,9 @@ module _ (i : Image) (set l : List ℕ) (tracked : IsTracked i) (a : HasRoom i.h
             let w = slot_of h t.ref t.there in
             let c : Contains (objects h) w.owner = Contains-from_in (objects h) w.owner w.is_one in
             let less : w.m < w.owner.size = omega (arith, s.slots_fit w.owner c, w.within) in
-            let both = neither (has set (region_of h (w.owner.at + w.m))) (has (run h r) (region_of h (w.owner.at + w.m)))
+            let both = or_parts (has set (region_of h (w.owner.at + w.m))) (has (run h r) (region_of h (w.owner.at + w.m)))
             (sym (window_is (region_of h (w.owner.at + w.m))) ∙ ap (λ z. has (set ++ run h r) (region_of h z)) (sym w.at) ∙ t.outside) in
-            let out : in_set h set w.owner.at ≡ false = false_by (in_set h set w.owner.at) (λ z. false≢true (sym both.0 ∙ slot_home w.owner w.m c less z)) in
+            let out : in_set h set w.owner.at ≡ false = false_from_ne_true (in_set h set w.owner.at) (λ z. false≢true (sym both.0 ∙ slot_home w.owner w.m c less z)) in
             let place : f w.owner.at ≡ w.owner.at = outside_stays h set l s a.ordinary a.survivors a.room w.owner.at out in
             let reads : word h (w.owner.at + w.m) ≡ suc at = ap (word h) (sym w.at) ∙ w.names ∙ ap suc (sym t.target ∙ target) in
             named_by w.owner w.m (kept_outside i set l j s a.ordinary a.survivors a.room moved w.owner w.is_one out) w.above w.within reads
@@ -348,8 +338,8 @@ module _ (i : Image) (set l : List ℕ) (tracked : IsTracked i) (a : HasRoom i.h
             let free : kind h (region_of h (f (slice_index l t.place) + (1 + t.number))) ≡ Free =
             ap (kind h) goal.2 ∙ (is_free_region h (get_or (free_regions h) goal.0 0) (get_or-In (free_regions h) goal.0 0 (let fewer = a.room in omega (arith, goal.1, fewer)))).0 in
             named_by (object_at h (slice_index l t.place)) (1 + t.number) c (omega arith) (omega (arith, t.fits)) reads
-            (false_by (has_word o (f (slice_index l t.place) + (1 + t.number))) (λ e.
-            let both = and_true (leb at (f (slice_index l t.place) + (1 + t.number))) (ltb (f (slice_index l t.place) + (1 + t.number)) (at + o.size)) e in
+            (false_from_ne_true (has_word o (f (slice_index l t.place) + (1 + t.number))) (λ e.
+            let both = and_parts (leb at (f (slice_index l t.place) + (1 + t.number))) (ltb (f (slice_index l t.place) + (1 + t.number)) (at + o.size)) e in
             let low = leb-true at (f (slice_index l t.place) + (1 + t.number)) both.0 in
             let high = ltb-true (f (slice_index l t.place) + (1 + t.number)) (at + o.size) both.1 in
             let same : at + (f (slice_index l t.place) + (1 + t.number) - at) ≡ f (slice_index l t.place) + (1 + t.number) = omega (arith, low) in

@@ -5,7 +5,7 @@ use Rattle.std.specs.List.{flat_map, enumerate_from}
 use Rattle.std.proofs.lemmas.List.{map-append}
 use Rattle.std.proofs.lemmas.List.Concat.{flat_map-append}
 use Rattle.std.proofs.lemmas.List.Sums.{sum_by-cons}
-use Rattle.std.proofs.lemmas.List.Elements.{All-append, All-cons, All-nil}
+use Rattle.std.proofs.lemmas.List.Elements.{All-append, All-cons, All-nil, filter-append}
 use Rattle.std.proofs.lemmas.List.Sorted.{IsPermutation-trans, IsPermutation-append_comm}
 use Rattle.itertools.proofs.KMergeLemmas.{flat-permutation}
 use Rattle.g1_work.specs.Each.{Ran, EachRan, IsEachRun, joined, RisesBelow, chunks_of}
@@ -19,7 +19,7 @@ use Rattle.g1_frontier.specs.Round.{IsFreshHolder, IsGivenOut, HasTaken, HasOffe
 use Rattle.g1_frontier.proofs.Offerings.{tried_none, tried_append}
 use Rattle.g1_frontier.proofs.Pieces.{all_pieces, some_pieces}
 use Rattle.g1_frontier.proofs.Scopes.{all_in, all_map}
-use Rattle.g1_frontier.proofs.Seeds.{filter_append, flat_of_map}
+use Rattle.g1_frontier.proofs.Seeds.{flat_of_map}
 
 abbrev pub RankLess : ℕ × ℕ → ℕ × ℕ → Type 0
 RankLess q r = q.0 < r.0
@@ -74,7 +74,7 @@ module _ (place : ℕ → ℕ) (P : ℕ → List (ℕ × ℕ)) {O : Type 0} (run
           each = map-append pair_of one.made rest.made ∙ (λ i. one.each i ++ rest.each i) ∙ sym (flat_map-append (λ (x : ℕ × O). P x.0) p (joined ps));
           offers = (λ i. (one.offers ∙ ap (λ os. os ++ map (offer_of place) one.made) fresh.no_offers) i ++ rest.offers i) ∙ sym (map-append (offer_of place) one.made rest.made);
           kept = (λ i. (one.kept ∙ ap (λ os. os ++ map pair_of (filter answered_true one.made)) fresh.none_kept) i ++ rest.kept i)
-              ∙ sym (ap (map pair_of) (filter_append answered_true one.made rest.made) ∙ map-append pair_of (filter answered_true one.made) (filter answered_true rest.made));
+              ∙ sym (ap (map pair_of) (filter-append answered_true one.made rest.made) ∙ map-append pair_of (filter answered_true one.made) (filter answered_true rest.made));
           shares = let a = one.shares ∙ fresh.share in let b = rest.shares in let c = sum_by-cons (λ (h : Holder). h.seat.hand.shares) u us in omega (arith, a, b, c);
         }
 
@@ -193,7 +193,7 @@ module _ {A : Type 0} (t : TableView) (place : ℕ → ℕ) (f : A → List (ℕ
             ap (flat_map (λ (l : List (ℕ × ℕ)). l)) k.kept
             ∙ (λ i. (one.kept ∙ ap (λ ks. ks ++ map pair_of (filter answered_true one.made)) g.none_kept) i
             ++ (flat_of_map (λ (l : List (ℕ × ℕ)). l) (λ (h : Holder). h.kept.items) k.others ∙ rest.kept) i)
-            ∙ sym (ap (map pair_of) (filter_append answered_true one.made rest.made) ∙ map-append pair_of (filter answered_true one.made) (filter answered_true rest.made));
+            ∙ sym (ap (map pair_of) (filter-append answered_true one.made rest.made) ∙ map-append pair_of (filter answered_true one.made) (filter answered_true rest.made));
         rise = subst (All Rises) (sym k.kept) (All-cons Rises k.last.kept.items (map (λ (h : Holder). h.kept.items) k.others)
             (pairs_from_ordered RankLess k.last.kept.items (one_rises place P runs says n t ordered g.last l.last k.last l.ran_last l.rises g.none_kept))
             (all_map Rises (λ (h : Holder). h.kept.items) k.others (λ h i. pairs_from_ordered RankLess h.kept.items

@@ -4,6 +4,7 @@ use Rattle.std.proofs.Common.{arith, All, true≢false}
 use Rattle.std.proofs.lemmas.List.{map-append}
 use Rattle.std.proofs.lemmas.List.Sorted.{IsPermutation-sym}
 use Rattle.std.proofs.lemmas.List.Elements.{All-append}
+use Rattle.std.proofs.lemmas.Bool.{false_from_ne_true}
 use Rattle.g1_claim.specs.declared.rule.Offer.{Offer}
 use Rattle.g1_claim.specs.Claims.{least_rank, empty}
 use Rattle.g1_words.specs.Lists.{has}
@@ -15,7 +16,6 @@ use Rattle.g1_frontier.specs.Round.{bid_of, bid, AddsOffers, is_least, winners}
 use Rattle.g1_frontier.specs.Search.{places_of}
 use Rattle.g1_frontier.proofs.Assembly.{RankLess}
 use Rattle.g1_frontier.proofs.Links.{place_of, Each, Climbs, won_are_firsts}
-use Rattle.g1_frontier.proofs.Places.{same_bool}
 use Rattle.g1_frontier.proofs.Scopes.{all_in, all_from_in}
 use Rattle.g1_frontier.proofs.Winning.{in_permuted}
 
@@ -43,7 +43,7 @@ module _ (place : ℕ → ℕ) (Inside : ℕ → Type 0) (apart : (a b : ℕ) �
     where
       at : (c : Bool) → eqb a b ≡ c → eqb (place a) (place b) ≡ c
       at true e = eq-eqb (place a) (place b) (ap place (eqb-true a b e))
-      at false e = same_bool (eqb (place a) (place b)) (λ u. true≢false (sym (eq-eqb a b (sym (apart a b s t (sym (eqb-true (place a) (place b) u))))) ∙ e))
+      at false e = false_from_ne_true (eqb (place a) (place b)) (λ u. true≢false (sym (eq-eqb a b (sym (apart a b s t (sym (eqb-true (place a) (place b) u))))) ∙ e))
 
   -- first occurrences of places are those of addresses
   firsts_places : (xs : List ℕ) → ((a : ℕ) → In xs a → Inside a) → firsts (map place xs) ≡ map place (firsts xs)

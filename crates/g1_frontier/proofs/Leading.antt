@@ -2,7 +2,7 @@
 use Rattle.std.proofs.lemmas.List.{length-map}
 use Rattle.std.proofs.lemmas.List.FromFn.{length-range_with_len, get_or-range_with_len}
 use Rattle.std.proofs.Common.{zero, suc, ◌+◌, length, map, get_or, ◌≡◌, ◌≢◌, ◌<◌, ℕ, ◌*◌, ◌/◌, inl, inr, false, List, [], ◌∷◌, Contains, arith, refl, sym, ap, subst, ◌∙◌}
-use Rattle.std.proofs.lemmas.Bool.{false≢true}
+use Rattle.std.proofs.lemmas.Bool.{false≢true, false_from_ne_true}
 use Rattle.std.specs.List.{All}
 use Rattle.g1_words.specs.Heap.{Heap, card_of, region_of, regions}
 use Rattle.g1_words.specs.Lists.{has}
@@ -17,7 +17,6 @@ use Rattle.g1_image.proofs.Covers.{cards_rise, exact_tells, refined_tells, cover
 use Rattle.g1_rem.specs.Starts.{card_count}
 use Rattle.g1_frontier.specs.Laws.{AreRefinedOf, RefinedLeadIn, RefinedLeadsIn}
 use Rattle.g1_frontier.specs.Window.{AreCards, AreOutside, LeadIn}
-use Rattle.g1_frontier.proofs.Places.{same_bool}
 use Rattle.g1_frontier.proofs.Scopes.{all_in, all_from_in}
 
 module _ (i : Image) (good : IsImage i) where
@@ -71,7 +70,7 @@ refined_leads_in i r good covered lt =
     let are : AreRefinedOf i (r ∷ []) (refined i r) = λ c. (
       (λ k. (
         (r, Contains-from_in (r ∷ []) r (inl refl), k),
-        same_bool (has (r ∷ []) (c * i.heap.geometry.k / i.heap.geometry.w))
+        false_from_ne_true (has (r ∷ []) (c * i.heap.geometry.k / i.heap.geometry.w))
             (λ t. only c k (in_from_has (r ∷ []) (c * i.heap.geometry.k / i.heap.geometry.w) t)),
       )),
       (λ k. subst (λ q. Contains (refined i q) c) (single k.0.0 (In-from_contains (r ∷ []) k.0.0 k.0.1)) k.0.2),

@@ -3,7 +3,7 @@ use Rattle.std.proofs.Common.{◌≡◌, ℕ, ◌+◌, ◌*◌, ◌<◌, ◌≤�
 use Rattle.std.proofs.Common.{append_assoc, append-nil}
 use Rattle.std.specs.List.{flat_map, enumerate_from}
 use Rattle.std.proofs.lemmas.List.{map-append, take_more}
-use Rattle.std.proofs.lemmas.List.Elements.{All-push, All-nil}
+use Rattle.std.proofs.lemmas.List.Elements.{All-push, All-nil, filter-append}
 use Rattle.g1_claim.specs.declared.rule.Offer.{Offer}
 use Rattle.g1_claim.specs.declared.rule.Sight.{Sight}
 use Rattle.g1_claim.specs.Claims.{SeatView, AreWon, empty, least_rank, times_won, sight}
@@ -18,7 +18,6 @@ use Rattle.g1_frontier.specs.Looking.{Look, looked_at, is_there, sight_of, HasLo
 use Rattle.g1_frontier.specs.Round.{winners}
 use Rattle.g1_frontier.proofs.Pieces.{all_pieces}
 use Rattle.g1_frontier.proofs.Scopes.{all_in}
-use Rattle.g1_frontier.proofs.Seeds.{filter_append}
 
 -- the value is empty, or an offer of it has won
 abbrev pub IsWon : List Offer → Sight → Type 0
@@ -52,7 +51,7 @@ module _ (place : ℕ → ℕ) where
         looks = h.looks ++ (q, w) ∷ [];
         each = map-append looked_at h.looks ((q, w) ∷ []) ∙ ap (λ l. l ++ q ∷ []) h.each;
         listed = m ∙ ap (λ l. l ++ cond (eqb w q.0) (q ∷ []) []) h.listed ∙ ap (λ l. map looked_at (filter is_there h.looks) ++ l) (at (eqb w q.0))
-            ∙ sym (ap (map looked_at) (filter_append is_there h.looks ((q, w) ∷ [])) ∙ map-append looked_at (filter is_there h.looks) (filter is_there ((q, w) ∷ [])));
+            ∙ sym (ap (map looked_at) (filter-append is_there h.looks ((q, w) ∷ [])) ∙ map-append looked_at (filter is_there h.looks) (filter is_there ((q, w) ∷ [])));
         low = All-push (λ l. l.1 ≤ least_in (place l.0.1) a.seen) h.looks (q, w) h.low (let less = later_is_less (place q.1) a.seen c.seen whole in omega (arith, less, is));
         sights = ss ∙ ap (λ l. l ++ sight (place q.1) w ∷ []) h.sights ∙ append_assoc a.hand.sights (map (sight_of place) h.looks) (sight (place q.1) w ∷ [])
             ∙ ap (λ l. a.hand.sights ++ l) (sym (map-append (sight_of place) h.looks ((q, w) ∷ [])));

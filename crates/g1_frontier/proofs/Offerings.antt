@@ -4,6 +4,7 @@ use Rattle.std.proofs.Common.{append_assoc, append-nil}
 use Rattle.std.proofs.lemmas.List.{map-append, take_more, flat_map_more}
 use Rattle.std.proofs.lemmas.List.Concat.{flat_map-append}
 use Rattle.std.proofs.Math.Seq.{take-add}
+use Rattle.std.proofs.lemmas.List.Elements.{filter-append}
 use Rattle.g1_claim.specs.declared.rule.Offer.{Offer}
 use Rattle.g1_claim.specs.Claims.{offer, least_rank}
 use Rattle.g1_words.specs.Heap.{Heap}
@@ -11,7 +12,6 @@ use Rattle.g1_words.specs.Survivors.{in_set}
 use Rattle.g1_frontier.specs.declared.offering.Holder.{Holder}
 use Rattle.g1_frontier.specs.Items.{aims, AreRanks}
 use Rattle.g1_frontier.specs.Offering.{Try, pair_of, answered_true, offer_of, Lowers, HasTried}
-use Rattle.g1_frontier.proofs.Seeds.{filter_append}
 
 module _ (place : ℕ → ℕ) where
   pub tried_none : (h : Holder) → HasTried place [] h h
@@ -40,7 +40,7 @@ module _ (place : ℕ → ℕ) where
         ∙ ap (λ os. a.seat.hand.offers ++ os) (sym (map-append (offer_of place) x.made y.made));
     kept =
         y.kept ∙ ap (λ is. is ++ map pair_of (filter answered_true y.made)) x.kept ∙ append_assoc a.kept.items (map pair_of (filter answered_true x.made)) (map pair_of (filter answered_true y.made))
-        ∙ ap (λ is. a.kept.items ++ is) (sym (ap (map pair_of) (filter_append answered_true x.made y.made) ∙ map-append pair_of (filter answered_true x.made) (filter answered_true y.made)));
+        ∙ ap (λ is. a.kept.items ++ is) (sym (ap (map pair_of) (filter-append answered_true x.made y.made) ∙ map-append pair_of (filter answered_true x.made) (filter answered_true y.made)));
     number = y.number ∙ x.number;
     table = y.table ∙ x.table;
     shares = y.shares ∙ x.shares;

@@ -7,7 +7,7 @@ use Rattle.std.specs.Ordering.{nat_cmp}
 use Rattle.std.proofs.lemmas.List.Kept.{AllPairs-from_increasing}
 use Rattle.std.proofs.lemmas.List.Sorted.{searched}
 use Rattle.std.proofs.Math.Nat.{mod-lt, mul-le-mul_right}
-use Rattle.std.proofs.lemmas.Bool.{cases_lt}
+use Rattle.std.proofs.lemmas.Bool.{cases_lt, false_from_ne_true}
 use native.Mathlib.Decide.{ℕ_discrete}
 use Rattle.g1_words.specs.Lists.{has}
 use Rattle.g1_words.proofs.Members.{In, In-from_contains, Contains-from_in, has_from_in, in_from_has}
@@ -25,13 +25,9 @@ get_any (x ∷ xs) (suc n) d e lt = get_any xs n d e (omega (arith, lt))
 in_get : (xs : List ℕ) (n : ℕ) → n < length xs → In xs (get_or xs n 0)
 in_get xs n lt = In-from_contains xs (get_or xs n 0) (n, lt, get_any xs n (get_or xs n 0) 0 lt)
 
-pub same_bool : (b : Bool) → (b ≡ true → ⊥) → b ≡ false
-same_bool true f = absurd (f refl)
-same_bool false f = refl
-
 -- a region past the heap's isn't in the window
 pub past_regions : (n : ℕ) (window : List ℕ) (r : ℕ) → All (λ x. x < n) window → n ≤ r → has window r ≡ false
-past_regions n window r below ge = same_bool (has window r) (λ t.
+past_regions n window r below ge = false_from_ne_true (has window r) (λ t.
     let c = Contains-from_in window r (in_from_has window r t) in
     let k = below c.0 r c.1 in omega (arith, ge, k, c.2))
 
@@ -84,7 +80,7 @@ read_at window r i rise lt e = (has_from_in window r (subst (In window) e (in_ge
 pub not_found : (window : List ℕ) (r : ℕ) (answer : Result ℕ ℕ) (i : ℕ) → IsStrictlyIncreasing window → IsBinarySearchResult (λ y. nat_cmp y r) window answer → answer ≡ Err i → has window r ≡ false
 not_found window r answer i rise found is =
     let s = searched window r (Err i) (subst (IsBinarySearchResult (λ y. nat_cmp y r) window) is found) (not_falling window rise) in
-    same_bool (has window r) (λ t.
+    false_from_ne_true (has window r) (λ t.
     let at = stands window r (in_from_has window r t) in
     elim (cases_lt (position window r) i) [
       | inl lt ↦ let k = s.1 (position window r) lt in omega (arith, k, at.1)

@@ -9,6 +9,7 @@ use Rattle.std.proofs.lemmas.List.Sums.{sum_by-cons, sum_by-append}
 use Rattle.std.proofs.lemmas.Map.Made.{IsDistinct-from_AllPairs}
 use Rattle.std.proofs.lemmas.Map.Steps.{length-le_from_distinct_below}
 use Rattle.std.proofs.lemmas.List.Elements.{All-append, All-nil}
+use Rattle.std.proofs.lemmas.List.FromFn.{length-range_with_len}
 use Rattle.g1_words.specs.Geometry.{most_words}
 use Rattle.g1_claim.specs.declared.rule.Offer.{Offer}
 use Rattle.g1_claim.specs.Claims.{TableView, IsSeatOf}
@@ -85,10 +86,6 @@ either R (z ∷ zs) x y o (inl e) (inr j) = inr (inl (subst (λ w. R w y) e (o.0
 either R (z ∷ zs) x y o (inr i) (inl f) = inr (inr (subst (λ w. R w x) f (o.0 x i)))
 either R (z ∷ zs) x y o (inr i) (inr j) = either R zs x y o.1 i j
 
-range_length : (a n : ℕ) → length (range_with_len a n) ≡ n
-range_length a zero = refl
-range_length a (suc n) = ap suc (range_length (a + 1) n)
-
 range_differs : (xs : List ℕ) → Ordered (λ x y. x < y) xs → Ordered (λ x y. x ≢ y) xs
 range_differs [] o = tt
 range_differs (x ∷ xs) o = ((λ y i e. let lt = o.0 y i in omega (arith, lt, e)), range_differs xs o.1)
@@ -101,7 +98,7 @@ module _ (h : Heap) (valid : IsValid h) where
   total_is [] = refl
   total_is (a ∷ all_of) =
       let l = length-append (slots (object_at h a)) (flat_map (λ a. slots (object_at h a)) all_of) in
-      let r = range_length (a + 1) (slot_count h a) in
+      let r = length-range_with_len (a + 1) (slot_count h a) in
       let s = sum_by-cons (slot_count h) a all_of in
       let t = total_is all_of in omega (arith, l, r, s, t)
 
@@ -164,7 +161,7 @@ module _ (h : Heap) (valid : IsValid h) where
     pub first_few : length (first_items (length h.roots) cards) < 2 ^ 32
     first_few =
         let len = length-append (root_items (length h.roots)) (map (λ c. Card c (length h.roots)) cards) in
-        let a : length (root_items (length h.roots)) ≡ length h.roots = length-map (range_with_len 0 (length h.roots)) Root ∙ range_length 0 (length h.roots) in
+        let a : length (root_items (length h.roots)) ≡ length h.roots = length-map (range_with_len 0 (length h.roots)) Root ∙ length-range_with_len 0 (length h.roots) in
         let b : length (map (λ c. Card c (length h.roots)) cards) ≡ length cards = length-map cards (λ c. Card c (length h.roots)) in
         let few = rising_few (card_count h) cards rising in
         let most = div-le_self (h.geometry.n * h.geometry.w) h.geometry.k in

@@ -2,6 +2,7 @@
 use Rattle.std.proofs.Common.{◌≡◌, ◌≢◌, ℕ, Bool, true, false, ◌&&◌, eqb, List, [], ◌∷◌, ◌++◌, map, filter, sym, refl, ap, ◌∙◌, subst, ⊎_elim, inl, inr, ◌⊎◌, arith, eq-eqb, ne_eqb, eqb-true}
 use Rattle.std.proofs.Common.{append_assoc, IsPermutation}
 use Rattle.std.proofs.lemmas.List.Sorted.{All-permutation, IsPermutation-sym}
+use Rattle.std.proofs.lemmas.Bool.{cases_Bool}
 use Rattle.g1_claim.specs.declared.rule.Offer.{Offer}
 use Rattle.g1_claim.specs.Claims.{least_rank, times_offered, times_won, one_if, IsSettled}
 use Rattle.g1_claim.proofs.Totals.{times_offered-append, times_won-append}
@@ -24,10 +25,6 @@ none_won p r (o ∷ os) h =
     let b : one_if (eqb o.place p && (eqb o.rank r && o.won)) ≡ 0 = subst (λ (t : Bool). one_if (eqb o.place p && (t && o.won)) ≡ 0)
     (sym (ne_eqb o.rank r (h o (inl refl)))) (elim (eqb o.place p) as (λ (t : Bool). one_if (t && false) ≡ 0) [ true ↦ refl | false ↦ refl ]) in omega (arith, a, b)
 
-bool_cases : (b : Bool) → (b ≡ true) ⊎ (b ≡ false)
-bool_cases true = inl refl
-bool_cases false = inr refl
-
 -- an offer with the least rank at its place answered true, where no other offer has its rank
 least_won : (os pre post : List Offer) (o : Offer) → os ≡ pre ++ o ∷ post → ((a : Offer) → In pre a → a.rank ≢ o.rank) → ((a : Offer) → In post a → a.rank ≢ o.rank) → IsSettled os
     → eqb (least_rank o.place os) o.rank ≡ true → o.won ≡ true
@@ -48,7 +45,7 @@ least_won os pre post o is low high settled least =
     let some_offer : times_offered p os ≡ times_offered p (pre ++ o ∷ post) = ap (times_offered p) is in
     ⊎_elim (λ (z : times_offered p os ≡ 0). absurd (omega arith)) (λ (z : times_won p (least_rank p os) os ≡ 1). let one : times_won p r os ≡ 1 =
     subst (λ (k : ℕ). times_won p k os ≡ 1) w z in absurd (omega arith)) (settled p))
-    (bool_cases o.won)
+    (cases_Bool o.won)
 
 abbrev pub Differ : Offer → Offer → Type 0
 Differ a b = a.rank ≢ b.rank

@@ -26,7 +26,3 @@ filter_more_yes p n e = ap (filter p) (range_more n) ∙ filter-append p (range_
 pub filter_more_no : (p : ℕ → Bool) (n : ℕ) → p n ≡ false → filter p (range_with_len 0 (n + 1)) ≡ filter p (range_with_len 0 n)
 filter_more_no p n e = ap (filter p) (range_more n) ∙ filter-append p (range_with_len 0 n) (n ∷ [])
     ∙ ap (λ b. filter p (range_with_len 0 n) ++ cond b (n ∷ []) []) e ∙ append-nil (filter p (range_with_len 0 n))
-
-pub length-snoc : {A : Type 0} (xs : List A) (y : A) → length (xs ++ y ∷ []) ≡ length xs + 1
-length-snoc [] y = refl
-length-snoc (x ∷ xs) y = let k = length-snoc xs y in omega arith

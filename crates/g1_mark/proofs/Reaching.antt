@@ -1,12 +1,12 @@
 -- What is reached in the used regions is what the roots reach.
 use Rattle.std.proofs.Common.{◌≡◌, ℕ, inl, inr, Bool, true, false, not, ◌&&◌, map, filter, Contains, subst}
-use Rattle.std.proofs.lemmas.Bool.{false≢true}
+use Rattle.std.proofs.lemmas.Bool.{false≢true, and_parts}
 use Rattle.g1_words.specs.Heap.{Heap, object_at, objects}
 use Rattle.g1_words.specs.Live.{Reached, seed, child, Live}
 use Rattle.g1_words.specs.References.{Ref, refs, root_targets, targets}
 use Rattle.g1_words.specs.Survivors.{in_set, seeds, children}
 use Rattle.g1_words.specs.Valid.{IsValid}
-use Rattle.g1_words.proofs.Members.{In, In-from_contains, Contains-from_in, In-append_left, In-append_cases, In-filter, filter_member, map_cases, and_true}
+use Rattle.g1_words.proofs.Members.{In, In-from_contains, Contains-from_in, In-append_left, In-append_cases, In-filter, filter_member, map_cases}
 use Rattle.g1_words.proofs.OneToOne.{reached_object, target_in_refs}
 use Rattle.g1_words.proofs.Sound.{sound}
 use Rattle.g1_mark.specs.Marked.{used}
@@ -27,7 +27,7 @@ module _ (h : Heap) (valid : IsValid h) where
         | inr k ↦
             let m = map_cases (λ (e : Ref). e.target) (filter crosses (refs h)) a k in
             let t = filter_member crosses (refs h) m.0 m.1 in
-            let out = and_true (in_set h (used h) m.0.target) (not (in_set h (used h) m.0.slot)) t.1 in
+            let out = and_parts (in_set h (used h) m.0.target) (not (in_set h (used h) m.0.slot)) t.1 in
             absurd (not_true (in_set h (used h) m.0.slot) out.1 (slot_used h valid m.0 t.0))
       ]
   live_from_reached b (child {a = a} r c) =

@@ -10,7 +10,7 @@ use Rattle.std.specs.List.{list_any, range_with_len, AllZip}
 use Rattle.std.specs.List.Sorted.{IsStrictlyIncreasing}
 use Rattle.std.proofs.Math.ListN.{set, length-set}
 use Rattle.std.proofs.Math.ListN.{drop_of_length-le}
-use Rattle.std.proofs.lemmas.Bool.{cases_lt}
+use Rattle.std.proofs.lemmas.Bool.{cases_lt, ne_eqb, and_parts, or_cases}
 use Rattle.std.proofs.lemmas.List.{get_or_push, take_all, length-append, length-replicate, get_or-replicate}
 use Rattle.std.proofs.lemmas.List.Elements.{filter-append}
 use Rattle.std.proofs.lemmas.List.Folds.{list_any-append}
@@ -20,7 +20,7 @@ use Rattle.g1_words.specs.Heap.{Heap, word, objects, regions, slots, region_of, 
 use Rattle.g1_words.specs.Lists.{has}
 use Rattle.g1_words.specs.Valid.{IsReference, IsValid}
 use Rattle.g1_words.specs.References.{named, refs_at}
-use Rattle.g1_words.proofs.Members.{In, In-from_contains, Contains-from_in, In-filter, filter_member, flat_map_cases, has_from_in, in_from_has, or_true, and_true}
+use Rattle.g1_words.proofs.Members.{In, In-from_contains, Contains-from_in, In-filter, filter_member, flat_map_cases, has_from_in, in_from_has}
 use Rattle.g1_words.proofs.Indices.{get_or-In}
 use Rattle.g1_words.proofs.Sound.{sound}
 use Rattle.g1_words.proofs.Computed.{In-range, contains_has, range_above, range_below}
@@ -31,7 +31,7 @@ use Rattle.g1_rem.specs.Slots.{slots_on, all_slots}
 use Rattle.g1_rem.specs.Leads.{IsLedInto}
 use Rattle.g1_rem.specs.Entering.{enters, with_card, IsGrown, AreEntering, IsRefining, AreRefining}
 use Rattle.g1_rem.specs.Merging.{IsMerged}
-use Rattle.g1_rem.proofs.Lists.{same_test, eqb_false}
+use Rattle.g1_rem.proofs.Lists.{same_test}
 use Rattle.g1_rem.proofs.Rising.{Rises-range, Rises-filter, Rises-one, increasing-Rises}
 use Rattle.g1_rem.proofs.Order.{object_fits}
 use Rattle.g1_rem.proofs.Marks.{cards_fill}
@@ -61,7 +61,7 @@ leads_some h p t r (a, named_is, into, out, there) =
     one : (b : Bool) → eqb t r ≡ b → ((b && not (eqb (region_of h p) r)) || false) ≡ b
     one false e = refl
     one true e =
-        let apart : eqb (region_of h p) r ≡ false = eqb_false (region_of h p) r (λ f. out (f ∙ sym (eqb-true t r e))) in
+        let apart : eqb (region_of h p) r ≡ false = ne_eqb (region_of h p) r (λ f. out (f ∙ sym (eqb-true t r e))) in
         ap (λ z. (true && not z) || false) apart
 
 -- one slot more
@@ -208,7 +208,7 @@ slot_good h card p valid c =
 has_filter : (p : ℕ → Bool) (xs : List ℕ) (x : ℕ) → has (filter p xs) x ≡ (has xs x && p x)
 has_filter p xs x = same_test (has (filter p xs) x) (has xs x && p x)
     (λ e. let m = filter_member p xs x (in_from_has (filter p xs) x e) in both (has xs x) (p x) (has_from_in xs x m.0) m.1)
-    (λ e. let b = and_true (has xs x) (p x) e in has_from_in (filter p xs) x (In-filter p xs x (in_from_has xs x b.0) b.1))
+    (λ e. let b = and_parts (has xs x) (p x) e in has_from_in (filter p xs) x (In-filter p xs x (in_from_has xs x b.0) b.1))
   where
     both : (a b : Bool) → a ≡ true → b ≡ true → (a && b) ≡ true
     both true b e f = f
@@ -223,9 +223,9 @@ card_inside h c valid used = elim (cases_lt c (card_count h)) [
 
 -- a refined card is one of the heap's
 refined_inside : (i : Image) (r c : ℕ) → IsImage i → r < i.heap.geometry.n → is_refined i r c ≡ true → c < card_count i.heap
-refined_inside i r c valid lt e = elim (or_true (has (remembered_of i r) c) (has i.log c && is_exact i.heap r c) e) [
+refined_inside i r c valid lt e = elim (or_cases (has (remembered_of i r) c) (has i.log c && is_exact i.heap r c) e) [
   | inl f ↦ card_inside i.heap c valid.heap (in_set (Contains-from_in (remembered_of i r) c (in_from_has (remembered_of i r) c f)))
-  | inr f ↦ card_inside i.heap c valid.heap (in_all (IsUsedCard i.heap) i.log c valid.log.used (in_from_has i.log c (and_true (has i.log c) (is_exact i.heap r c) f).0))
+  | inr f ↦ card_inside i.heap c valid.heap (in_all (IsUsedCard i.heap) i.log c valid.log.used (in_from_has i.log c (and_parts (has i.log c) (is_exact i.heap r c) f).0))
 ] where
   in_set : Contains (remembered_of i r) c → IsUsedCard i.heap c
   in_set k = in_all (IsUsedCard i.heap) (remembered_of i r) c (λ j d lt'. ((valid.remembered r lt).elsewhere j d lt').0) (In-from_contains (remembered_of i r) c k)

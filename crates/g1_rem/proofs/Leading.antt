@@ -3,7 +3,7 @@ use Rattle.std.proofs.Common.{◌≡◌, ◌≢◌, ◌≤◌, ◌<◌, ◌⊎�
 use Rattle.std.proofs.Common.{map, filter, flat_map, length, slice_index, slice_index_or, replicate, drop, Contains, refl, sym, ap, subst, ◌∙◌, arith, eqb, eqb-true, eq-eqb}
 use Rattle.std.specs.List.{range_with_len, list_any}
 use Rattle.std.specs.List.Sorted.{IsStrictlyIncreasing}
-use Rattle.std.proofs.lemmas.Bool.{cases_lt, false≢true}
+use Rattle.std.proofs.lemmas.Bool.{cases_lt, false≢true, or_parts, not-true, ne_eqb}
 use Rattle.std.proofs.lemmas.List.{get_or_default}
 use Rattle.std.proofs.lemmas.List.Kept.{AllPairs-from_increasing}
 use Rattle.std.proofs.lemmas.Nat.{le-div}
@@ -30,7 +30,6 @@ use Rattle.g1_rem.proofs.Between.{between_all, between_none}
 use Rattle.g1_rem.proofs.Card.{all_rise}
 use Rattle.g1_words.proofs.Marked.{marked_then, marked_from_none}
 use Rattle.g1_rem.proofs.Filled.{Tiles-none, row_front, row_rest, row_step}
-use Rattle.g1_rem.proofs.Lists.{eqb_false}
 use Rattle.g1_rem.proofs.Marks.{left_start}
 use Rattle.g1_rem.proofs.Next.{NextOf}
 use Rattle.g1_rem.proofs.Rising.{Rises, Rises-above, Rises-filter, Rises-range, Rises-one, Rises-increasing, increasing-Rises}
@@ -55,10 +54,6 @@ begins (x ∷ xs) p o (inr i) least = let a = o.0 p i in let b = least x (inl re
 no_members : (xs : List ℕ) → ((x : ℕ) → In xs x → ⊥) → xs ≡ []
 no_members [] never = refl
 no_members (x ∷ xs) never = absurd (never x (inl refl))
-
-not_false : (b : Bool) → not b ≡ true → b ≡ false
-not_false true e = absurd (false≢true e)
-not_false false e = refl
 
 -- the first of a rising list, and the others
 rises_at : (p : ℕ) (rest : List ℕ) → IsStrictlyIncreasing (p ∷ rest) → Rises 0 (p ∷ rest)
@@ -115,11 +110,6 @@ module _ (h : Heap) (valid : IsValid h) (r : ℕ) where
       let plus : e.target + 1 ≡ suc e.target = omega arith in
       ap (λ x. list_any (leads_into h r) (map (λ a. record { slot = e.slot; target = a }) (named x))) (w ∙ plus) ∙ ap (λ b. b || false) t
 
--- neither of two, if none of them
-or_none : (a b : Bool) → (a || b) ≡ false → (a ≡ false) × (b ≡ false)
-or_none true b e = absurd (false≢true (sym e))
-or_none false b e = (refl, e)
-
 exact_below : (h : Heap) (r c : ℕ) → Contains (exact h r) c → c < card_count h
 exact_below h r c k =
     let b = range_below 0 (card_count h) c (filter_member (is_exact h r) (range_with_len 0 (card_count h)) c (In-from_contains (exact h r) c k)).0 in
@@ -159,7 +149,7 @@ module _ (i : Image) (good : IsImage i) (r : ℕ) where
       let both = and_true (eqb (region_of i.heap e.target) r) (not (eqb (region_of i.heap e.slot) r)) t in
       record {
         into = eqb-true (region_of i.heap e.target) r both.0;
-        out = λ z. false≢true (sym (not_false (eqb (region_of i.heap e.slot) r) both.1) ∙ eq-eqb (region_of i.heap e.slot) r z);
+        out = λ z. false≢true (sym (not-true (eqb (region_of i.heap e.slot) r) both.1) ∙ eq-eqb (region_of i.heap e.slot) r z);
       }
 
   puts : (e : Ref) → Contains (refs i.heap) e → leads_into i.heap r e ≡ true → Contains (exact i.heap r) (card_of i.heap e.slot)
@@ -169,7 +159,7 @@ module _ (i : Image) (good : IsImage i) (r : ℕ) where
   bare : (e : Ref) → leads_into i.heap r e ≡ true → has (remembered_of i r) (card_of i.heap e.slot) ≡ false → has i.log (card_of i.heap e.slot) ≡ false → is_covered i e ≡ false
   bare e t f g =
       let q = parts e t in
-      by_hand e false false false (eqb_false (region_of i.heap e.slot) (region_of i.heap e.target) (λ z. q.out (z ∙ q.into)))
+      by_hand e false false false (ne_eqb (region_of i.heap e.slot) (region_of i.heap e.target) (λ z. q.out (z ∙ q.into)))
       (ap (λ x. has (remembered_of i x) (card_of i.heap e.slot)) q.into ∙ f) g
 
   or_last : (a b : Bool) → ((a || b) || true) ≡ true
@@ -214,7 +204,7 @@ module _ (i : Image) (good : IsImage i) (r : ℕ) where
         one_of = Contains-from_in (refs i.heap) m.0 f.0;
         at = m.2;
         leads = both.0;
-        isnt = not_false (is_covered i m.0) both.1;
+        isnt = not-true (is_covered i m.0) both.1;
       }
 
   -- such a slot is still ahead
@@ -236,7 +226,7 @@ module _ (i : Image) (good : IsImage i) (r : ℕ) where
       (λ c k. In-from_contains (exact i.heap r) c (l.within c (Contains-from_in cards c k)))
       (λ c k.
       let p = (exact_tells i.heap good.heap r c).0 (Contains-from_in (exact i.heap r) c k) in
-      let leads : leads_into i.heap r p.0 ≡ true = rw (eq-eqb (region_of i.heap p.0.target) r p.2, eqb_false (region_of i.heap p.0.slot) r p.3) refl in
+      let leads : leads_into i.heap r p.0 ≡ true = rw (eq-eqb (region_of i.heap p.0.target) r p.2, ne_eqb (region_of i.heap p.0.slot) r p.3) refl in
       let there : Contains cards (card_of i.heap p.0.slot) = elim (l.whole p.0 p.1 leads) [ inl m ↦ m | inr m ↦ absurd (In-from_contains [] p.0.slot m) ] in
       In-from_contains cards c (subst (Contains cards) p.4 there))
 
@@ -334,7 +324,7 @@ module _ (i : Image) (good : IsImage i) (r : ℕ) where
     -- a slot that isn't covered is the lowest one
     pub entry_fault : is_entry i.heap r p ≡ true → (c : ℕ) (marks : List Bool) → c ≡ card_of i.heap p → AreKnown i r marks → slice_index_or marks c false ≡ false → IsEntryFault i r (Uncovered p)
     entry_fault t c marks at m unmarked =
-        let neither = or_none (has (remembered_of i r) c) (has i.log c) (sym (m c (exact_below i.heap r c (leading t c at))) ∙ unmarked) in
+        let neither = or_parts (has (remembered_of i r) c) (has i.log c) (sym (m c (exact_below i.heap r c (leading t c at))) ∙ unmarked) in
         let test : Ref → Bool = λ e. leads_into i.heap r e && not (is_covered i e) in
         let e = here t in
         let home : card_of i.heap e.ref.slot ≡ c = ap (card_of i.heap) e.at ∙ sym at in

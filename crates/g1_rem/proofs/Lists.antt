@@ -2,13 +2,6 @@
 use Rattle.std.proofs.Common.{◌≡◌, ℕ, Bool, true, false, List, [], ◌∷◌, filter, inl, refl, sym, eqb, eqb-true}
 use Rattle.g1_words.proofs.Members.{In, filter_member}
 
--- the test for equal numbers, where they differ
-pub eqb_false : (x y : ℕ) → (x ≡ y → ⊥) → eqb x y ≡ false
-eqb_false x y never = go (eqb x y) refl where
-  go : (b : Bool) → eqb x y ≡ b → b ≡ false
-  go true e = absurd (never (eqb-true x y e))
-  go false e = refl
-
 -- two tests that follow from one another are one
 pub same_test : (a b : Bool) → (a ≡ true → b ≡ true) → (b ≡ true → a ≡ true) → a ≡ b
 same_test true b f g = sym (f refl)

@@ -3,7 +3,7 @@ use Rattle.std.proofs.Common.{◌≡◌, ◌≤◌, ◌<◌, ℕ, zero, suc, ◌
 use Rattle.std.proofs.Common.{sym, ap, subst, ◌∙◌, append-nil}
 use Rattle.std.specs.Prelude.{nat_le, nat_lt}
 use Rattle.std.specs.List.{range_with_len}
-use Rattle.std.proofs.lemmas.Bool.{leb-true, le-leb, ltb-true, lt-ltb}
+use Rattle.std.proofs.lemmas.Bool.{leb-true, le-leb, ltb-true, lt-ltb, and_parts}
 use Rattle.std.proofs.lemmas.List.{length-append}
 use Rattle.std.proofs.lemmas.List.Elements.{filter-append}
 use Rattle.std.proofs.lemmas.List.FromFn.{length-range_with_len}
@@ -12,7 +12,7 @@ use Rattle.g1_words.specs.declared.object.Object.{Object}
 use Rattle.g1_words.specs.Heap.{slots}
 use Rattle.g1_words.specs.Valid.{Tiles}
 use Rattle.g1_words.specs.Walk.{Reaches}
-use Rattle.g1_words.proofs.Members.{In, In-filter, filter_member, and_true}
+use Rattle.g1_words.proofs.Members.{In, In-filter, filter_member}
 use Rattle.g1_words.proofs.Tiling.{Tiles-le, Tiles-append, Reaches-front, Front, same_object}
 use Rattle.g1_words.proofs.Computed.{In-range, range_above, range_below, Tiles-length}
 use Rattle.g1_rem.specs.Slots.{is_between}
@@ -27,7 +27,7 @@ between_is lo hi p le lt = rw (le-leb lo p le, lt-ltb p hi lt) refl
 
 -- what passes lies between the two
 pub is_between_there : (lo hi p : ℕ) → is_between lo hi p ≡ true → (lo ≤ p) × (p < hi)
-is_between_there lo hi p e = let b = and_true (nat_le lo p) (nat_lt p hi) e in (leb-true lo p b.0, ltb-true p hi b.1)
+is_between_there lo hi p e = let b = and_parts (nat_le lo p) (nat_lt p hi) e in (leb-true lo p b.0, ltb-true p hi b.1)
 
 -- one object's slots between two addresses
 pub slots_range : (at refs lo hi first last : ℕ) → first ≡ max (at + 1) lo → last ≡ min (at + 1 + refs) hi →

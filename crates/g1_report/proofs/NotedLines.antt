@@ -6,12 +6,11 @@ use Rattle.std.specs.List.{filter_map, cons_option}
 use Rattle.std.specs.Result.{result_ok}
 use Rattle.std.specs.Str.{all_ascii_digits}
 use Rattle.std.specs.Str.Parse.{AllDigits, IsNumeral, ParsesUnsigned, digits_value, without_leading_plus}
-use Rattle.std.proofs.lemmas.Bool.{false≢true, lt-ltb, ltb-true, ne_eqb}
+use Rattle.std.proofs.lemmas.Bool.{false≢true, lt-ltb, ltb-true, ne_eqb, and_parts}
 use Rattle.std.proofs.lemmas.List.{map-append, take_more}
 use Rattle.std.proofs.lemmas.List.Concat.{flat_map-append}
 use Rattle.std.proofs.lemmas.List.Elements.{filter_map-append}
 use Rattle.std.proofs.lemmas.Str.Parse.{IsNumeralModel, numerals_by_value, tells_all_ascii_digits}
-use Rattle.g1_words.proofs.Members.{and_true}
 use Rattle.g1_report.specs.Program.{texts}
 use Rattle.g1_report.specs.Noted.{is_number, number_said}
 
@@ -34,8 +33,8 @@ is_one ds h small =
 
 one_is : (ds : List ℕ) → is_number ds ≡ true → IsNumeral 10 ds × (digits_value 10 ds < 2 ^ 64)
 one_is ds h =
-    let a = and_true (not (length ds == 0)) (all_ascii_digits ds && nat_lt (digits_value 10 ds) (2 ^ 64)) h in
-    let b = and_true (all_ascii_digits ds) (nat_lt (digits_value 10 ds) (2 ^ 64)) a.1 in
+    let a = and_parts (not (length ds == 0)) (all_ascii_digits ds && nat_lt (digits_value 10 ds) (2 ^ 64)) h in
+    let b = and_parts (all_ascii_digits ds) (nat_lt (digits_value 10 ds) (2 ^ 64)) a.1 in
     ((not_empty ds a.0, pass_digits ds b.0), ltb-true (digits_value 10 ds) (2 ^ 64) b.1)
 
 none_is : (ds : List ℕ) (b : Bool) → is_number ds ≡ b → (IsNumeral 10 ds × (digits_value 10 ds < 2 ^ 64) → ⊥) → is_number ds ≡ false

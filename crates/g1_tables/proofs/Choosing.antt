@@ -3,6 +3,7 @@ use Rattle.std.proofs.Common.{◌≡◌, ℕ, zero, suc, ◌≤◌, inl, inr, Li
 use Rattle.std.specs.Prelude.{min, codes, slice_index, Result, Ok, Err, IfOk}
 use Rattle.std.specs.List.{range_with_len}
 use Rattle.std.proofs.lemmas.Bool.{cases_lt}
+use Rattle.std.proofs.lemmas.List.{drop_all}
 use Rattle.g1_words.specs.Heap.{Heap, regions}
 use Rattle.g1_words.specs.Live.{IsLiveBytes}
 use Rattle.g1_image.specs.Image.{Image}
@@ -23,12 +24,6 @@ take_least xs n = elim (cases_lt n (length xs)) [
   | inl lt ↦ let e : min (length xs) n ≡ n = omega (arith, lt) in ap (λ k. take k xs) e
   | inr ge ↦ let e : min (length xs) n ≡ length xs = omega (arith, ge) in ap (λ k. take k xs) e ∙ take_all (length xs) xs (omega arith) ∙ sym (take_all n xs ge)
 ]
-
-drop_all : {X : Type 0} (n : ℕ) (xs : List X) → length xs ≤ n → drop n xs ≡ []
-drop_all zero [] le = refl
-drop_all zero (x ∷ xs) le = absurd (omega (arith, le))
-drop_all (suc n) [] le = refl
-drop_all (suc n) (x ∷ xs) le = drop_all n xs (omega (arith, le))
 
 drop_least : {X : Type 0} (xs : List X) (n : ℕ) → drop (min (length xs) n) xs ≡ drop n xs
 drop_least xs n = elim (cases_lt n (length xs)) [

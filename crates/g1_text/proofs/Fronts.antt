@@ -2,7 +2,7 @@
 use Rattle.std.proofs.Common.{◌≡◌, ◌≢◌, ◌⊎◌, inl, inr, Bool, true, false, ℕ, ◌+◌, ◌-◌, ◌<◌, ◌≤◌, ◌^◌, List, [], ◌∷◌, ◌++◌, min, length, length-append, replicate, take, drop, zero, suc, append-nil, append_assoc, refl, sym, ◌∙◌, ap, subst, arith}
 use Rattle.std.specs.Prelude.{Option, Some, None, MatchOption, MatchBool, codes, All}
 use Rattle.std.proofs.lemmas.List.Elements.{All-nil, All-cons, All-append, All-replicate, All-drop}
-use Rattle.std.proofs.lemmas.List.{length-replicate}
+use Rattle.std.proofs.lemmas.List.{length-replicate, nil_from_length}
 use Rattle.std.proofs.Math.Seq.{take-append_seam, take-append-add}
 use Rattle.std.specs.Prelude.{not}
 use Rattle.std.specs.Str.{bytes_eq}
@@ -132,10 +132,6 @@ rest_is word [] n m fits = All-drop (λ w. w ≡ word) n (replicate m word) (All
 rest_is word (x ∷ xs) zero m fits = absurd (omega (arith, fits))
 rest_is word (x ∷ xs) (suc n) m fits = rest_is word xs n m (omega (arith, fits))
 
-no_more : {A : Type 0} (xs : List A) → length xs ≡ 0 → xs ≡ []
-no_more [] e = refl
-no_more (x ∷ xs) e = absurd (omega (arith, e))
-
 naught_is : IsDataWord (codes "0")
 naught_is = (0, inl ((omega arith, (omega arith, tt)), refl, omega arith))
 
@@ -148,7 +144,7 @@ module _ (Sort : List ℕ → Type 0) (null : Sort (codes "-")) (slots count giv
       let a = ap length (first ∙ ap (λ ws. refs ++ ws) second) in
       let b = length-append refs (values ++ left) in
       let d = length-append values left in
-      first ∙ ap (λ ws. refs ++ ws) (second ∙ ap (λ ws. values ++ ws) (no_more left (omega (arith, a, b, d, some, more, all, fewer))) ∙ append-nil values)
+      first ∙ ap (λ ws. refs ++ ws) (second ∙ ap (λ ws. values ++ ws) (nil_from_length left (omega (arith, a, b, d, some, more, all, fewer))) ∙ append-nil values)
 
   abridged : ((missing ≡ 0) × (words ≡ new)) ⊎ (words ≡ new ++ codes ".." ∷ [])
       → Abridges ((refs ++ replicate (slots - length refs) (codes "-")) ++ (values ++ replicate (count - length values) (codes "0"))) words
@@ -235,7 +231,7 @@ not_word word other e = other_word word other (by (bytes_eq word other) e)
     by false e = refl
 
 pub no_words : {A : Type 0} (xs : List A) → length xs < 1 → xs ≡ []
-no_words xs lt = no_more xs (omega (arith, lt))
+no_words xs lt = nil_from_length xs (omega (arith, lt))
 
 pub if_none : (a : Form) (words : List (List ℕ)) → length words ≡ 0 → Maybe a words
 if_none a [] e = tt

@@ -6,6 +6,7 @@ use Rattle.std.specs.List.{range_with_len}
 use Rattle.std.specs.Int.{IsInRange}
 use Rattle.std.proofs.lemmas.Fmt.{digits_decimal}
 use Rattle.std.proofs.lemmas.Str.Parse.{IsNumeralModel, tells_by_index, numerals_by_fold}
+use Rattle.std.proofs.lemmas.Bool.{and_parts as both}
 use Rattle.g1_words.proofs.Members.{In}
 use Rattle.g1_text.specs.Lines.{line_text, further, text_of, reference_word}
 
@@ -115,10 +116,6 @@ word_append (x ∷ vs) bs p q = (p.0, p.1, word_append vs bs p.2 q)
 abbrev pub is_word : List ℕ → Bool
 is_word [] = true
 is_word (b ∷ bs) = not (eqb b 32) && (not (eqb b 10) && is_word bs)
-
-both : (a b : Bool) → (a && b) ≡ true → (a ≡ true) × (b ≡ true)
-both true b e = (refl, e)
-both false b e = cc
 
 differs : (b n : ℕ) → not (eqb b n) ≡ true → b ≢ n
 differs b n t e = let f : not true ≡ true = sym (ap not (eq-eqb b n e)) ∙ t in cc

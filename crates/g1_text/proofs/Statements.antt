@@ -4,6 +4,7 @@ use Rattle.std.specs.Prelude.{Option, Some, None, IfSome, decimal, codes}
 use Rattle.std.specs.List.{list_all}
 use Rattle.std.proofs.lemmas.Fmt.{digits_decimal, decimal_nonempty}
 use Rattle.std.proofs.lemmas.Bool.Decides.{nat_tests}
+use Rattle.std.proofs.lemmas.Bool.{and_parts as both}
 use Rattle.g1_words.specs.Kind.{kind_word}
 use Rattle.g1_words.specs.declared.region.Kind.{Kind}
 use Rattle.g1_words.specs.declared.region.Kind.TheVariants.{Free, Ordinary, HumongousFirst, Continuation}
@@ -15,10 +16,6 @@ use Rattle.g1_text.proofs.Parts.{AllPrintable, IsPrintable, ArePrintable, IsStat
 -- letters are printable if a test says so
 abbrev is_letter : ℕ → Bool
 is_letter b = ltb 32 b && ltb b 127
-
-both : (a b : Bool) → (a && b) ≡ true → (a ≡ true) × (b ≡ true)
-both true b e = (refl, e)
-both false b e = cc
 
 all_letters : (bs : List ℕ) → list_all is_letter bs ≡ true → AllPrintable bs
 all_letters [] t = tt

@@ -3,7 +3,7 @@ use Rattle.std.proofs.Common.{◌≡◌, ℕ, zero, suc, ◌+◌, ◌-◌, ◌<�
 use Rattle.std.specs.Char.{is_ascii_whitespace}
 use Rattle.std.specs.List.{prefix_len, AllPass}
 use Rattle.std.specs.Str.{IsUtf8, IsCharBoundary}
-use Rattle.std.proofs.lemmas.Bool.{cases_lt, false≢true}
+use Rattle.std.proofs.lemmas.Bool.{cases_lt, false≢true, not-false, not-true}
 use Rattle.std.proofs.lemmas.Bool.Decides.{nat_tests}
 use Rattle.std.proofs.lemmas.List.{get_or_default, get_or-take, get_or-drop, length-take-le, length-drop, take-append-drop, drop_more, drop-drop}
 use Rattle.std.proofs.lemmas.List.Sums.{prefix_len_passes, prefix_len_stops}
@@ -11,14 +11,6 @@ use Rattle.std.proofs.lemmas.Str.{IsCharBoundary-before_ascii, IsCharBoundary-af
 use Rattle.g1_text.specs.Reading.{words_in}
 use Rattle.g1_text.proofs.Lanes.{run_bound}
 use Rattle.g1_text.proofs.White.{NoWhite, white_gap, word_first, word_alone}
-
-not_true : (b : Bool) → not b ≡ true → b ≡ false
-not_true true e = absurd (false≢true e)
-not_true false e = refl
-
-not_false : (b : Bool) → not b ≡ false → b ≡ true
-not_false true e = refl
-not_false false e = absurd (false≢true (sym e))
 
 -- the bytes from a place up to another one are no white space, and that of the second place is
 pub record IsWordEnd (bytes : List ℕ) (from end : ℕ) : Type 0 where
@@ -41,11 +33,11 @@ module _ (line : List ℕ) (from end : ℕ) (le : from ≤ length line) (e : end
     before = λ k low lt.
         let j = k - from in
         let at : from + j ≡ k = omega (arith, low) in
-        let none = not_true (is_ascii_whitespace (get_or rest j 0)) (prefix_len_passes visible rest j 0 (omega (arith, e, low, lt))) in
+        let none = not-true (is_ascii_whitespace (get_or rest j 0)) (prefix_len_passes visible rest j 0 (omega (arith, e, low, lt))) in
         ap (λ i. is_ascii_whitespace (get_or line i 0)) (sym at) ∙ ap is_ascii_whitespace (sym (get_or-drop from line j 0)) ∙ none;
     white = λ lt.
         let n = prefix_len visible rest in
-        let some = not_false (is_ascii_whitespace (get_or rest n 0)) (prefix_len_stops visible rest 0 (omega (arith, e, lt, length-drop from line))) in
+        let some = not-false (is_ascii_whitespace (get_or rest n 0)) (prefix_len_stops visible rest 0 (omega (arith, e, lt, length-drop from line))) in
         ap (λ i. is_ascii_whitespace (get_or line i 0)) e ∙ ap is_ascii_whitespace (sym (get_or-drop from line n 0)) ∙ some;
   }
 

@@ -2,7 +2,7 @@
 use Rattle.std.proofs.Common.{◌≡◌, ◌≢◌, ℕ, zero, suc, ◌+◌, ◌-◌, ◌<◌, ◌≤◌, inl, inr, Bool, true, false, cond, ◌&&◌, Some, None, refl, sym, ◌∙◌, ap, arith, le-leb}
 use Rattle.std.specs.Prelude.{find}
 use Rattle.std.specs.List.{range_with_len, list_all}
-use Rattle.std.proofs.lemmas.Bool.{cases_lt}
+use Rattle.std.proofs.lemmas.Bool.{cases_lt, false_from_ne_true}
 use Rattle.g1_words.specs.declared.region.Kind.{Kind}
 use Rattle.g1_words.specs.declared.region.Kind.TheVariants.{Free, Ordinary, HumongousFirst, Continuation}
 use Rattle.g1_words.specs.Heap.{Heap, kind, is_free}
@@ -28,18 +28,14 @@ all_pass : (p : ℕ → Bool) (a n : ℕ) → ((q : ℕ) → a ≤ q → q < a +
 all_pass p a zero f = refl
 all_pass p a (suc n) f = (λ t. f a (omega arith) (omega arith) t && all_pass p (a + 1) n (λ q l h. f q (omega (arith, l)) (omega (arith, h))) t)
 
-false_by : (b : Bool) → (b ≡ true → ⊥) → b ≡ false
-false_by true f = absurd (f refl)
-false_by false f = refl
-
 module _ (h : Heap) (v : IsBuilt h) (m : ℕ) where
   -- a run with a region that isn't free
   pub run_broken : (q r : ℕ) → q ≤ r → r < q + m → kind h r ≢ Free → is_free_run h m q ≡ false
-  run_broken q r low high n = false_by (is_free_run h m q) (λ t. let e : q + (r - q) ≡ r = omega (arith, low) in n (ap (kind h) (sym e) ∙ (free_run h v m q t).1 (r - q) (omega (arith, low, high))))
+  run_broken q r low high n = false_from_ne_true (is_free_run h m q) (λ t. let e : q + (r - q) ≡ r = omega (arith, low) in n (ap (kind h) (sym e) ∙ (free_run h v m q t).1 (r - q) (omega (arith, low, high))))
 
   -- one that doesn't end within the heap
   pub run_past : (q : ℕ) → h.geometry.n < q + m → is_free_run h m q ≡ false
-  run_past q past = false_by (is_free_run h m q) (λ t. let k = (free_run h v m q t).0 in absurd (omega (arith, k, past)))
+  run_past q past = false_from_ne_true (is_free_run h m q) (λ t. let k = (free_run h v m q t).0 in absurd (omega (arith, k, past)))
 
   -- and one whose regions are free
   pub run_there : (q : ℕ) → q + m ≤ h.geometry.n → ((r : ℕ) → q ≤ r → r < q + m → kind h r ≡ Free) → is_free_run h m q ≡ true

@@ -46,7 +46,3 @@ module _ {S : Type 0} (step : S → Command → Reply → S → Type 0) (start :
 pub IfOk-weaken : {A E : Type 0} (o : Result A E) (P Q : A → Type 0) → ((a : A) → P a → Q a) → IfOk o P → IfOk o Q
 IfOk-weaken (Ok a) P Q f h = f a h
 IfOk-weaken (Err e) P Q f h = h
-
-pub IfErr-weaken : {A E : Type 0} (o : Result A E) (P Q : E → Type 0) → ((e : E) → P e → Q e) → IfErr o P → IfErr o Q
-IfErr-weaken (Ok a) P Q f h = h
-IfErr-weaken (Err e) P Q f h = f e h

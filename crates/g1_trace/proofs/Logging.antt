@@ -8,12 +8,13 @@ use Rattle.std.proofs.lemmas.List.{get_or_default}
 use Rattle.std.proofs.lemmas.Map.Made.{IsDistinct-from_AllPairs}
 use Rattle.std.proofs.lemmas.Map.Steps.{length-le_from_distinct_below}
 use Rattle.std.proofs.Math.Nat.{mul-le-mul_left}
+use Rattle.std.proofs.lemmas.Bool.{or_cases}
 use Rattle.g1_words.specs.Geometry.{Geometry, IsWithinBounds}
 use Rattle.g1_words.specs.declared.region.Kind.{Kind}
 use Rattle.g1_words.specs.declared.region.Kind.TheVariants.{Free, Ordinary, HumongousFirst, Continuation}
 use Rattle.g1_words.specs.Heap.{Heap, kind, region_of, card_of}
 use Rattle.g1_words.specs.Lists.{has}
-use Rattle.g1_words.proofs.Members.{In, In-from_contains, Contains-from_in, In-append_left, In-append_right, In-append_cases, has_from_in, in_from_has, or_true}
+use Rattle.g1_words.proofs.Members.{In, In-from_contains, Contains-from_in, In-append_left, In-append_right, In-append_cases, has_from_in, in_from_has}
 use Rattle.g1_words.proofs.Ordered.{Ordered-from_pairs, pairs_from_ordered}
 use Rattle.g1_words.proofs.Rising.{Ordered-append}
 use Rattle.g1_words.proofs.Shapes.{IsBuilt, valid_of}
@@ -53,7 +54,7 @@ module _ (i : Image) (p : ℕ) where
   new_at : (b : ℕ) (t : Bool) → ((region_of i.heap p == region_of i.heap b) || has i.log (card_of i.heap p)) ≡ t
       → (region_of i.heap p ≡ region_of i.heap b) ⊎ In (cond t i.log (i.log ++ card_of i.heap p ∷ [])) (card_of i.heap p)
   new_at b false e = inr (In-append_right i.log (card_of i.heap p ∷ []) (card_of i.heap p) (inl refl))
-  new_at b true e = elim (or_true (region_of i.heap p == region_of i.heap b) (has i.log (card_of i.heap p)) e) [
+  new_at b true e = elim (or_cases (region_of i.heap p == region_of i.heap b) (has i.log (card_of i.heap p)) e) [
     | inl s ↦ inl (eqb-true (region_of i.heap p) (region_of i.heap b) s)
     | inr l ↦ inr (in_from_has i.log (card_of i.heap p) l)
   ]

@@ -1,7 +1,7 @@
 -- A new humongous object, at the start of a run of free regions, keeps the rules of a heap.
 use Rattle.std.proofs.Common.{◌≡◌, ◌≢◌, ℕ, ◌+◌, ◌-◌, ◌*◌, ◌%◌, ◌<◌, ◌≤◌, ◌⊎◌, inl, inr, Bool, true, false, cond, ◌&&◌, [], ◌∷◌, ◌++◌, Some, min, refl, sym, ◌∙◌, ap, subst, arith, eqb}
 use Rattle.std.proofs.Common.{eq-eqb, ltb, leb, lt-ltb, ltb-true, leb-true, le-leb, div-add-mod'}
-use Rattle.std.proofs.lemmas.Bool.{cases_lt}
+use Rattle.std.proofs.lemmas.Bool.{cases_lt, ne_eqb, and_parts}
 use Rattle.std.proofs.lemmas.Nat.{le-div}
 use Rattle.std.proofs.lemmas.List.FromFn.{get_or-map-range_with_len}
 use Rattle.std.proofs.Math.Nat.{mul-le-mul_right, add-mul}
@@ -10,13 +10,11 @@ use Rattle.g1_words.specs.declared.object.Object.{Object}
 use Rattle.g1_words.specs.declared.region.Region.{Region}
 use Rattle.g1_words.specs.declared.region.Kind.TheVariants.{Free, Ordinary, HumongousFirst, Continuation}
 use Rattle.g1_words.specs.Heap.{Heap, free_region, region, kind, top, objects_by, objects_in, object_at}
-use Rattle.g1_words.proofs.Members.{and_true}
 use Rattle.g1_words.proofs.Shapes.{TakesRun, BeginsRun, IsBuiltBy, IsBuilt}
 use Rattle.g1_words.proofs.Standing.{w_pos}
 use Rattle.g1_trace.specs.Mutator.{is_humongous, run_length, is_in_run, run_region, grown, region_after, heap_with}
 use Rattle.g1_trace.proofs.Laid.{IsUnused}
 use Rattle.g1_trace.proofs.NewObject.{new_object, same_region, new_built, other_shaped, zeros_kept}
-use Rattle.g1_trace.proofs.NewOrdinary.{not_equal}
 
 -- an object takes some region
 pub some_regions : (h : Heap) → IsBuilt h → (size : ℕ) → 0 < size → 0 < run_length h size
@@ -34,7 +32,7 @@ module _ (h : Heap) (v : IsBuilt h) (r size refs0 root : ℕ) (lt : r < h.geomet
   run_or_not q = by (leb r q && ltb q (r + run_length h size)) refl
     where
       by : (b : Bool) → (leb r q && ltb q (r + run_length h size)) ≡ b → ((r ≤ q) × (q < r + run_length h size)) ⊎ ((leb r q && ltb q (r + run_length h size)) ≡ false)
-      by true e = let x = and_true (leb r q) (ltb q (r + run_length h size)) e in inl (leb-true r q x.0, ltb-true q (r + run_length h size) x.1)
+      by true e = let x = and_parts (leb r q) (ltb q (r + run_length h size)) e in inl (leb-true r q x.0, ltb-true q (r + run_length h size) x.1)
       by false e = inr e
 
   run_test : (q : ℕ) → r ≤ q → q < r + run_length h size → is_in_run h r size q ≡ true
@@ -74,7 +72,7 @@ module _ (h : Heap) (v : IsBuilt h) (r size refs0 root : ℕ) (lt : r < h.geomet
 
   kind_later : (q : ℕ) → r < q → q < r + run_length h size → kind j q ≡ Continuation
   kind_later q low high =
-      ap (λ (z : Region). z.kind) (region_run q (omega (arith, low)) high) ∙ ap (λ b. cond b HumongousFirst Continuation) (not_equal q r (λ e. absurd (omega (arith, e, low))))
+      ap (λ (z : Region). z.kind) (region_run q (omega (arith, low)) high) ∙ ap (λ b. cond b HumongousFirst Continuation) (ne_eqb q r (λ e. absurd (omega (arith, e, low))))
 
   top_run : (q : ℕ) → r ≤ q → q < r + run_length h size → top j q ≡ min h.geometry.w (size - (q - r) * h.geometry.w)
   top_run q low high = ap (λ (z : Region). z.top) (region_run q low high)

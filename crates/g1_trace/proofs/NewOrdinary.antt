@@ -1,6 +1,7 @@
 -- A new ordinary object, at the top of a region, keeps the rules of a heap.
 use Rattle.std.proofs.Common.{◌≡◌, ◌≢◌, ℕ, ◌+◌, ◌*◌, ◌<◌, ◌≤◌, ◌⊎◌, inl, inr, Bool, true, false, cond, [], ◌∷◌, ◌++◌, Some, refl, sym, ◌∙◌, ap, subst, arith, eqb, eqb-true, eq-eqb, ltb-false}
 use Rattle.std.proofs.lemmas.List.FromFn.{get_or-map-range_with_len}
+use Rattle.std.proofs.lemmas.Bool.{ne_eqb}
 use Rattle.g1_words.specs.Geometry.{most_words}
 use Rattle.g1_words.specs.declared.object.Object.{Object}
 use Rattle.g1_words.specs.declared.region.Region.{Region}
@@ -15,9 +16,6 @@ use Rattle.g1_trace.proofs.NewObject.{tiled_tiles, tiled_append, new_object, in_
 not_equal_at : (x y : ℕ) (b : Bool) → eqb x y ≡ b → (x ≡ y → ⊥) → eqb x y ≡ false
 not_equal_at x y true e n = absurd (n (eqb-true x y e))
 not_equal_at x y false e n = e
-
-pub not_equal : (x y : ℕ) → (x ≡ y → ⊥) → eqb x y ≡ false
-not_equal x y n = not_equal_at x y (eqb x y) refl n
 
 module _ (h : Heap) (v : IsBuilt h) (r size refs0 root : ℕ) (lt : r < h.geometry.n) (unused : IsUnused h (r * h.geometry.w + top h r) size) (fits : refs0 < size) (small : size ≤ most_words)
     (plain : is_humongous h size ≡ false) (inside : top h r + size ≤ h.geometry.w) (usable : (kind h r ≡ Ordinary) ⊎ ((kind h r ≡ Free) × (top h r ≡ 0))) where
@@ -42,7 +40,7 @@ module _ (h : Heap) (v : IsBuilt h) (r size refs0 root : ℕ) (lt : r < h.geomet
   top_here = ap (λ (q : Region). q.top) region_here
 
   region_else : (q : ℕ) → q < h.geometry.n → (q ≡ r → ⊥) → region j q ≡ region h q
-  region_else q l n = region_at q l ∙ ap (λ b. cond b (grown h r size) (region h q)) (not_equal q r n)
+  region_else q l n = region_at q l ∙ ap (λ b. cond b (grown h r size) (region h q)) (ne_eqb q r n)
 
   old_tiled : IsTiled h (r * h.geometry.w) (objects_in h r) (r * h.geometry.w + top h r)
   old_tiled = elim usable [

@@ -3,7 +3,7 @@ use Rattle.std.proofs.Common.{◌≡◌, ℕ, suc, ◌+◌, ◌*◌, ◌^◌, �
 use Rattle.std.proofs.Common.{eqb, ltb, lt-ltb, le-ltb, ltb-false, leb-true, eq-eqb}
 use Rattle.std.specs.Prelude.{◌↔◌, find}
 use Rattle.std.specs.List.{range_with_len}
-use Rattle.std.proofs.lemmas.Bool.{cases_lt}
+use Rattle.std.proofs.lemmas.Bool.{cases_lt, ne_eqb}
 use Rattle.std.proofs.lemmas.List.{length-set, get_or-set_same, get_or-set_other}
 use Rattle.std.proofs.lemmas.List.FromFn.{get_or-map-range_with_len, length-map-range_with_len}
 use Rattle.g1_words.specs.declared.region.Region.{Region}
@@ -16,7 +16,6 @@ use Rattle.g1_trace.specs.Mutator.{is_humongous, run_length, is_free_region, is_
 use Rattle.g1_trace.specs.Placing.{run_taken, ordinary_heap, humongous_heap}
 use Rattle.g1_trace.proofs.Views.{equal_or_not}
 use Rattle.g1_trace.proofs.Ready.{built_ready, found, free_run, free_top, free_found}
-use Rattle.g1_trace.proofs.NewOrdinary.{not_equal}
 use Rattle.g1_trace.proofs.NewHumongous.{some_regions}
 use Rattle.g1_trace.proofs.Tables.{same_list}
 
@@ -72,7 +71,7 @@ module _ (h : Heap) (count : length h.regions ≡ h.geometry.n) (r size refs roo
       (size_is ∙ sym count ∙ sym (length-set h.regions r (grown h r size)))
       (λ q l. let small : q < h.geometry.n = (let n = size_is in omega (arith, l, n)) in
       at q small ∙ elim (equal_or_not q r) [
-        | inl n ↦ ap (λ b. cond b (grown h r size) (region h q)) (not_equal q r n) ∙ sym (get_or-set_other h.regions r q (grown h r size) free_region n)
+        | inl n ↦ ap (λ b. cond b (grown h r size) (region h q)) (ne_eqb q r n) ∙ sym (get_or-set_other h.regions r q (grown h r size) free_region n)
         | inr e ↦ ap (λ b. cond b (grown h r size) (region h q)) (eq-eqb q r e)
             ∙ sym (ap (λ z. get_or (set h.regions r (grown h r size)) z free_region) e ∙ get_or-set_same h.regions r (grown h r size) free_region (omega (arith, lt, count)))
       ]) in

@@ -4,13 +4,14 @@ use Rattle.std.proofs.Common.{arith, leb, ltb-false, leb-true, mod-lt, div-add-m
 use Rattle.std.specs.List.{range_with_len, list_all, find}
 use Rattle.std.proofs.lemmas.Nat.{div-mul-add, le-div}
 use Rattle.std.proofs.Math.Nat.{mul-le-mul_right, add-mul}
+use Rattle.std.proofs.lemmas.Bool.{and_parts}
 use Rattle.g1_words.specs.declared.object.Object.{Object}
 use Rattle.g1_words.specs.declared.region.Kind.TheVariants.{Free}
 use Rattle.g1_words.specs.Heap.{Heap, kind, top, word, region_of, regions, objects, object_at, is_free}
 use Rattle.g1_words.specs.References.{refs, targets}
 use Rattle.g1_words.specs.Live.{seed, child, Live}
 use Rattle.g1_words.proofs.Indices.{range_bounds}
-use Rattle.g1_words.proofs.Members.{In, In-from_contains, Contains-from_in, and_true}
+use Rattle.g1_words.proofs.Members.{In, In-from_contains, Contains-from_in}
 use Rattle.g1_words.proofs.Computed.{In-range}
 use Rattle.g1_words.proofs.NextFit.{free_by_test}
 use Rattle.g1_words.proofs.OneToOne.{target_in_refs}
@@ -46,8 +47,8 @@ found p (x ∷ xs) r e = found_at p x xs r (p x) refl e (found p xs r)
 
 each_passes : {X : Type 0} (p : X → Bool) (xs : List X) → list_all p xs ≡ true → (x : X) → In xs x → p x ≡ true
 each_passes p [] e x k = absurd k
-each_passes p (y ∷ xs) e x (inl q) = ap p (sym q) ∙ (and_true (p y) (list_all p xs) e).0
-each_passes p (y ∷ xs) e x (inr k) = each_passes p xs (and_true (p y) (list_all p xs) e).1 x k
+each_passes p (y ∷ xs) e x (inl q) = ap p (sym q) ∙ (and_parts (p y) (list_all p xs) e).0
+each_passes p (y ∷ xs) e x (inr k) = each_passes p xs (and_parts (p y) (list_all p xs) e).1 x k
 
 module _ (h : Heap) (valid : IsBuilt h) where
   sound : IsSound h
@@ -121,7 +122,7 @@ module _ (h : Heap) (valid : IsBuilt h) where
 
   pub free_run : (m r : ℕ) → is_free_run h m r ≡ true → (r + m ≤ h.geometry.n) × ((c : ℕ) → c < m → kind h (r + c) ≡ Free)
   free_run m r e =
-      let both = and_true (leb (r + m) h.geometry.n) (list_all (λ q. is_free (kind h q)) (range_with_len r m)) e in (
+      let both = and_parts (leb (r + m) h.geometry.n) (list_all (λ q. is_free (kind h q)) (range_with_len r m)) e in (
         leb-true (r + m) h.geometry.n both.0,
         λ c lt. free_by_test (kind h (r + c))
             (each_passes (λ q. is_free (kind h q)) (range_with_len r m) both.1 (r + c) (In-range r m (r + c) (omega arith) (omega (arith, lt)))),

@@ -2,7 +2,7 @@
 use Rattle.std.proofs.Common.{◌≡◌, ◌≢◌, ℕ, suc, ◌+◌, ◌-◌, ◌*◌, ◌/◌, ◌<◌, ◌≤◌, inl, inr, Bool, true, false, cond, ◌&&◌, List, [], ◌∷◌, length, get_or, set, min, refl, sym, ◌∙◌, ap}
 use Rattle.std.proofs.Common.{arith, eqb, ltb, leb, lt-ltb, le-ltb, le-leb, ltb-true, leb-true, eq-eqb}
 use Rattle.std.specs.Int.{div_ceil}
-use Rattle.std.proofs.lemmas.Bool.{cases_lt}
+use Rattle.std.proofs.lemmas.Bool.{cases_lt, ne_eqb}
 use Rattle.std.proofs.lemmas.Grind.{div_ceil_times}
 use Rattle.std.proofs.lemmas.Nat.{div-mul-add}
 use Rattle.std.proofs.lemmas.List.{length-set, get_or-set_same, get_or-set_other}
@@ -13,7 +13,6 @@ use Rattle.g1_words.specs.Heap.{free_region, region_with}
 use Rattle.g1_trace.specs.Mutator.{run_region}
 use Rattle.g1_trace.specs.Placing.{table_heap, run_taken}
 use Rattle.g1_trace.proofs.Views.{equal_or_not}
-use Rattle.g1_trace.proofs.NewOrdinary.{not_equal}
 
 pub same_list : {A : Type 0} (d : A) (xs ys : List A) → length xs ≡ length ys → ((k : ℕ) → k < length xs → get_or xs k d ≡ get_or ys k d) → xs ≡ ys
 same_list d [] [] n f = refl
@@ -86,7 +85,7 @@ module _ (w : ℕ) (regions : List Region) (r size : ℕ) where
 
       first : eqb (r + i) r ≡ eqb i 0
       first = elim (equal_or_not i 0) [
-        | inl n ↦ not_equal (r + i) r (λ e. n (omega (arith, e))) ∙ sym (not_equal i 0 n)
+        | inl n ↦ ne_eqb (r + i) r (λ e. n (omega (arith, e))) ∙ sym (ne_eqb i 0 n)
         | inr z ↦ (let e : r + i ≡ r = omega (arith, z) in eq-eqb (r + i) r e ∙ sym (eq-eqb i 0 z))
       ]
 

@@ -1,7 +1,7 @@
 -- The new addresses: kept objects don't meet, and no two go to one address.
 use Rattle.std.proofs.Common.{◌≡◌, ℕ, ◌+◌, ◌/◌, ◌%◌, ◌<◌, ◌≤◌, ◌⊎◌, inl, inr, Bool, true, false, cond, not, ◌&&◌, List, [], ◌∷◌, length, map, filter, flat_map, zip, Contains, refl, sym, ◌∙◌}
 use Rattle.std.proofs.Common.{ap, subst, arith, eqb, eqb-true, eq-eqb, add-zero}
-use Rattle.std.proofs.lemmas.Bool.{false≢true}
+use Rattle.std.proofs.lemmas.Bool.{false≢true, and_parts}
 use Rattle.g1_words.specs.declared.region.Kind.TheVariants.{Free}
 use Rattle.g1_words.specs.Heap.{Heap, kind, region_of, objects, object_at, slots, word}
 use Rattle.g1_words.specs.References.{Ref, refs, refs_at, named, root_targets, targets}
@@ -9,7 +9,7 @@ use Rattle.g1_words.specs.Live.{Reached, seed, child}
 use Rattle.g1_words.specs.Survivors.{in_set, seeds, children, Survivors, AllOrdinary}
 use Rattle.g1_words.specs.Layout.{next_fit, laid, laid_end, sizes_of, need, free_regions, row_address, places, moved_to, forward, kept}
 use Rattle.g1_words.proofs.Sound.{IsSound}
-use Rattle.g1_words.proofs.Members.{In, In-from_contains, Contains-from_in, In-append_cases, In-flat_map, flat_map_cases, In-map, map_cases, filter_member, in_from_has, and_true}
+use Rattle.g1_words.proofs.Members.{In, In-from_contains, Contains-from_in, In-append_cases, In-flat_map, flat_map_cases, In-map, map_cases, filter_member, in_from_has}
 use Rattle.g1_words.proofs.Ordered.{Ordered}
 use Rattle.g1_words.proofs.NextFit.{Fitting, spots, spots_apart, spot_fits, spot_below, region_below, row_one_to_one, row_address-add, row_is_free}
 use Rattle.g1_words.specs.declared.object.Object.{Object}
@@ -25,7 +25,7 @@ module _ (h : Heap) (set : List ℕ) where
         | inr k ↦
             let m = map_cases (λ (e : Ref). e.target) (filter (λ e. in_set h set e.target && not (in_set h set e.slot)) (refs h)) a k in
             let t = (filter_member (λ e. in_set h set e.target && not (in_set h set e.slot)) (refs h) m.0 m.1).1 in
-            subst (λ x. in_set h set x ≡ true) m.2 (and_true (in_set h set m.0.target) (not (in_set h set m.0.slot)) t).0
+            subst (λ x. in_set h set x ≡ true) m.2 (and_parts (in_set h set m.0.target) (not (in_set h set m.0.slot)) t).0
       ]
   reached_in_set b (child {a = a} r c) = (filter_member (in_set h set) (targets h a) b (In-from_contains (children h set a) b c)).1
 

@@ -1,6 +1,6 @@
 -- A session that takes line after line goes through a trace.
 use Rattle.std.proofs.Common.{◌≡◌, ◌⊎◌, inl, inr, ℕ, suc, ◌+◌, ◌^◌, ◌<◌, ◌≤◌, Bool, true, false, cond, List, [], ◌∷◌, ◌++◌, Option, Some, None, length, take, flat_map, refl, sym, ◌∙◌, ap, subst, arith, append_assoc, append-nil, length-append, take_all}
-use Rattle.std.proofs.lemmas.List.{take-append-le}
+use Rattle.std.proofs.lemmas.List.{take-append-le, length_push}
 use Rattle.std.specs.Prelude.{decimal, not, ◌==◌}
 use Rattle.std.proofs.lemmas.Grind.{flat_map-append}
 use Rattle.std.proofs.Math.Nat.{min-eq_left}
@@ -77,9 +77,6 @@ module _ (cost : Cost) where
   leads_replies i j [] (q ∷ rs) h = absurd h
   leads_replies i j (d ∷ cs) [] h = absurd h
   leads_replies i j (d ∷ cs) (q ∷ rs) (m, first, rest) = (m, first, leads_replies m j cs rs rest)
-
-pub length_more : {A : Type 0} (xs : List A) (x : A) → length (xs ++ x ∷ []) ≡ length xs + 1
-length_more xs x = length-append xs (x ∷ [])
 
 numbered_more : (n : ℕ) (rs : List ReplyOf) (r : ReplyOf) → numbered_lines n (rs ++ r ∷ []) ≡ numbered_lines n rs ++ (number_text true (n + length rs) ++ reply_line r)
 numbered_more n [] r =
@@ -183,8 +180,8 @@ module _ (trace : Trace) (start j : Image) (cs : List Command) (rs : List ReplyO
       let those : take (suc m) (rs ++ r ∷ []) ≡ take (suc m) rs = take-append-le (suc m) rs (r ∷ []) (omega (arith, earlier, paired)) in
       (k, text, same ∙ is, subst (λ xs. Leads trace.cost start xs (take (suc m) (rs ++ r ∷ [])) k) (sym these) (subst (λ xs. Leads trace.cost start (take (suc m) cs) xs k) (sym those) led), reads)
   kept_at m sent lt (inr later) =
-      let longer = length_more cs c in
-      let wider = length_more rs r in
+      let longer = length_push cs c in
+      let wider = length_push rs r in
       let (text, is, reads) = (now_kept m sent).1 j refl (omega (arith, counted, later, lt, longer)) in
       let these : take (suc m) (cs ++ c ∷ []) ≡ cs ++ c ∷ [] = take_all (suc m) (cs ++ c ∷ []) (omega (arith, later, longer)) in
       let those : take (suc m) (rs ++ r ∷ []) ≡ rs ++ r ∷ [] = take_all (suc m) (rs ++ r ∷ []) (omega (arith, later, wider, paired)) in
@@ -200,7 +197,7 @@ module _ (trace : Trace) (lines : List (List ℕ)) where
       → SoFar trace lines s before text → SoFar trace (lines ++ line ∷ []) s after more
   comment_taken Begun line before after text more is same kept h = (with_comment lines line is ∙ h.0, same ∙ h.1)
   comment_taken (Open i n) line before after text more is same kept h =
-      let longer = length_more lines line in
+      let longer = length_push lines line in
       let few = h.few in
       record {
         sizes = h.sizes;
@@ -222,7 +219,7 @@ module _ (trace : Trace) (lines : List (List ℕ)) where
       → line ≡ heap_line g.w g.k g.n roots → more ≡ text → SoFar trace lines Begun before text
       → IsOpen trace (lines ++ line ∷ []) (empty_image g roots) 0 after more
   sizes_taken line g roots before after text more limits is same h =
-      let longer = length_more lines line in
+      let longer = length_push lines line in
       record {
         sizes = g;
         roots = roots;
@@ -251,9 +248,9 @@ module _ (trace : Trace) (lines : List (List ℕ)) where
   command_taken line c i j n r before after text more fit is st bound front explains adds keeps h =
       let cs = h.commands in
       let rs = h.replies in
-      let longer = length_more lines line in
-      let wider = length_more cs c in
-      let further = length_more rs r in
+      let longer = length_push lines line in
+      let wider = length_push cs c in
+      let further = length_push rs r in
       let few = h.few in
       let counted = h.counted in
       let paired = h.paired in

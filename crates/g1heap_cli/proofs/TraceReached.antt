@@ -8,6 +8,7 @@ use Rattle.std.proofs.lemmas.List.Elements.{All-contains}
 use Rattle.std.proofs.KnownBytes.{Appends-nil, Appends-trans, Consumes-nil, Consumes-trans}
 use Rattle.std.specs.Io.KnownBytes.{Appends, Keeps, Consumes}
 use Rattle.std.specs.List.{AllByRecursion}
+use Rattle.std.proofs.lemmas.List.{length_push}
 use Rattle.g1_image.specs.Image.{Image}
 use Rattle.g1_image.specs.Source.{HoldsOfLeft}
 use Rattle.g1_choose.specs.declared.parameters.Cost.{Cost}
@@ -24,7 +25,7 @@ use Rattle.g1heap_cli.specs.Traced.{RepliesToTrace, is_live, sent_command}
 use Rattle.g1heap_cli.specs.TraceReasons.{AreDone}
 use Rattle.g1heap_cli.specs.Tracing.{IsAtStart, IsMade, TakesLine, kept}
 use Rattle.g1heap_cli.specs.declared.tracing.State.{State}
-use Rattle.g1heap_cli.proofs.LineByLine.{IsOpen, SoFar, line_taken, length_more}
+use Rattle.g1heap_cli.proofs.LineByLine.{IsOpen, SoFar, line_taken}
 use Rattle.g1heap_cli.proofs.TraceSent.{begun, ended_there, made_of, nothing_more, sends_first, sends_on, so_far_text}
 
 live_none : (b : Bool) (n : ℕ) → b && (n == 0) ≡ true → n ≡ 0
@@ -93,11 +94,11 @@ all_more (first ∷ lines) line h free = (h.0, all_more lines line h.1 free)
 
 before_end : (a b : List ℕ) → a ++ 10 ∷ [] ≡ b ++ 10 ∷ [] → a ≡ b
 before_end a b e =
-    let long : length a ≡ length b = (let l = ap length e in let m = length_more a 10 in let n = length_more b 10 in omega (arith, l, m, n)) in
+    let long : length a ≡ length b = (let l = ap length e in let m = length_push a 10 in let n = length_push b 10 in omega (arith, l, m, n)) in
     sym (take-append_seam a (10 ∷ [])) ∙ ap (λ n. take n (a ++ 10 ∷ [])) long ∙ ap (take (length b)) e ∙ take-append_seam b (10 ∷ [])
 
 end_in : (xs : List ℕ) → HasNoEnd (xs ++ 10 ∷ []) → ⊥
-end_in xs free = free (length xs) 0 (let m = length_more xs 10 in omega (arith, m)) (at_end xs)
+end_in xs free = free (length xs) 0 (let m = length_push xs 10 in omega (arith, m)) (at_end xs)
   where
     at_end : (ys : List ℕ) → get_or (ys ++ 10 ∷ []) (length ys) 0 ≡ 10
     at_end [] = refl
@@ -111,7 +112,7 @@ pub reached_more : (trace : Trace) (known now next old mid : Option (List ℕ)) 
     → number < 2 ^ 64 → empty ≡ [] → shown ≡ line → ReadsLine now next empty line there → TakesLine trace shown st t → Reached trace known next old mid t (number + 1)
 reached_more trace known now next old mid st t number empty line shown there h bound none same read takes =
     let count = h.count in
-    let longer = length_more h.lines takes.content in
+    let longer = length_push h.lines takes.content in
     let whole_line : read.line ≡ takes.content ++ 10 ∷ [] = sym (read.added ∙ ap (λ l. l ++ read.line) none) ∙ sym same ∙ takes.is_ended in
     let free = content_free takes.content read.line (IfSome now (λ xs. xs ≡ read.line)) whole_line read.whole in
     let text : ended h.lines ++ read.line ≡ ended (h.lines ++ takes.content ∷ []) =
@@ -142,7 +143,7 @@ all_of_none None line none e = tt
 all_of_none (Some xs) line none e = e ∙ none
 
 left_none : (now : Option (List ℕ)) (line : List ℕ) → length line ≡ 0 → IsEndedLine line ⊎ (HasNoEnd line × IfSome now (λ xs. xs ≡ line)) → IfSome now (λ xs. xs ≡ [])
-left_none now line none (inl (content, free, e)) = absurd (let l = ap length e in let m = length_more content 10 in omega (arith, l, m, none))
+left_none now line none (inl (content, free, e)) = absurd (let l = ap length e in let m = length_push content 10 in omega (arith, l, m, none))
 left_none now line none (inr (free, left)) = all_of_none now line (empty_list line none) left
 
 -- no line is there: nothing is left

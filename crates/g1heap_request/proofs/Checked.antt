@@ -61,15 +61,6 @@ module _ {A P B Q : Type 0} (a b : Bool) (off : a ≡ false → A) (on : a ≡ t
   pub both : (r : Result (Unit {0}) Misuse) → IfErr r (Because ((a && b) ≡ true)) → IfErr r (Because (P × Q))
   both r h = refused_so both_are r h
 
--- the opposite of a test
-pub not_true : (b : Bool) → not b ≡ true → b ≡ false
-not_true false e = refl
-not_true true e = absurd (false≢true e)
-
-pub not_false : (b : Bool) → not b ≡ false → b ≡ true
-not_false true e = refl
-not_false false e = absurd (true≢false e)
-
 -- how many files are standard input: of two, and of four
 abbrev pub so_many : Bool → Bool → ℕ
 so_many a b = 0 + cond a 1 0 + cond b 1 0

@@ -1,11 +1,11 @@
 use Rattle.std.proofs.Common.{◌≡◌, ◌<◌, ◌++◌, ◌∷◌, [], false, length, slice_index, take, sym, ap, subst, ◌∙◌, eq-eqb, arith}
 use Rattle.std.proofs.lemmas.List.{take_more, take_all, get_or_default}
+use Rattle.std.proofs.lemmas.Bool.{ne_eqb}
 use Rattle.g1_words.proofs.Indices.{get_or-In}
 use Rattle.g1_words.specs.Valid.{IsReference}
 use Rattle.g1_rem.specs.Entering.{enters}
 use Rattle.g1_rem.specs.Leads.{IsLedInto}
 use Rattle.g1_rem.proofs.Entering.{enters_found, enters_pass, leads_none, leads_some}
-use Rattle.g1_rem.proofs.Lists.{eqb_false}
 use Rattle.g1_rem.proofs.leads.one_leads.Goals as goal
 use Rattle.g1_rem.proofs.leads.one_leads.Goals.{In-loop-p, in-Some+else-target-region, in_default}
 
@@ -33,7 +33,7 @@ loop-p-preserved c =
     let ps = take c.loop-p.p-index c.args.slots.now in
     ap (enters c.args.heap.now c.args.region) (take_more c.args.slots.now c.loop-p.p-index 0 c.loop-p-test.true)
     ∙ elim c.match-led_into.branch as (λ b. enters c.args.heap.now c.args.region (take c.loop-p.p-index c.args.slots.now ++ slice_index c.args.slots.now c.loop-p.p-index ∷ []) ≡ false) [
-      | in-Some+else-target-region w ↦ enters_pass h r p ps c.loop-p.invariant (leads_some h p w.in-Some.target r w.in-Some.ensures ∙ eqb_false w.in-Some.target r w.if-target-region.false)
+      | in-Some+else-target-region w ↦ enters_pass h r p ps c.loop-p.invariant (leads_some h p w.in-Some.target r w.in-Some.ensures ∙ ne_eqb w.in-Some.target r w.if-target-region.false)
       | in_default w ↦ enters_pass h r p ps c.loop-p.invariant (leads_none h p r (subst (IsLedInto c.args.heap.now (slice_index c.args.slots.now c.loop-p.p-index)) w.in_default.is c.led_into.ensures))
     ]
 

@@ -1,9 +1,10 @@
 use Rattle.std.proofs.Common.{◌≡◌, ◌⊎◌, ◌<◌, ◌≤◌, inl, inr, ◌∙◌, ap, subst, arith}
+use Rattle.std.proofs.lemmas.Result.{IfErr-weaker}
 use Rattle.g1_words.specs.Geometry.{Geometry, IsWithinLimits, most_roots}
 use Rattle.g1_words.specs.declared.fault.Fault.TheVariants.{Memory, Geometry as Outside}
 use Rattle.g1_trace.specs.Run.{empty_image}
 use Rattle.g1_trace.specs.Running.{IsHeapSize}
-use Rattle.g1_trace.proofs.GoesOn.{IfOk-weaken, IfErr-weaken}
+use Rattle.g1_trace.proofs.GoesOn.{IfOk-weaken}
 use Rattle.g1_trace.proofs.running.start.Goals as goal
 
 pub returns-in-Ok-clause-ok : goal.returns-in-Ok-clause-ok
@@ -20,7 +21,7 @@ returns-in-Ok-clause-limits c =
 
 pub returns-in-Ok-clause-refused : goal.returns-in-Ok-clause-refused
 returns-in-Ok-clause-refused c =
-    IfErr-weaken c.new-in-Ok.result (λ e. (e ≡ Memory) ⊎ ((e ≡ Outside) × (most_roots < c.args.roots)))
+    IfErr-weaker c.new-in-Ok.result (λ e. (e ≡ Memory) ⊎ ((e ≡ Outside) × (most_roots < c.args.roots)))
     (λ e. (e ≡ Memory) ⊎ ((e ≡ Outside) × (IsHeapSize (record { w = c.args.w; k = c.args.k; n = c.args.n }) c.args.roots → ⊥)))
     (λ e h. elim h [
       | inl memory ↦ inl memory

@@ -1,7 +1,7 @@
 use Rattle.std.proofs.Common.{◌≡◌, ◌/◌, ◌∙◌, ◌&&◌, suc, not, arith, sym, ap, slice_index, eqb, eq-eqb}
+use Rattle.std.proofs.lemmas.Bool.{ne_eqb}
 use Rattle.g1_words.specs.Heap.{Heap}
 use Rattle.g1_rem.specs.Ahead.{is_entry}
-use Rattle.g1_rem.proofs.Lists.{eqb_false}
 use Rattle.g1_rem.proofs.Leading.{entry_null, entry_named}
 use Rattle.g1_rem.proofs.entries.Entering.is_entry.Goals as goal
 use Rattle.g1_rem.proofs.entries.Entering.is_entry.Goals.{After-region_of}
@@ -30,7 +30,7 @@ returns-then-region_of-region-clause-same c =
 pub returns-else-region_of-region-clause-same : goal.returns-else-region_of-region-clause-same
 returns-else-region_of-region-clause-same c =
     let other = not (eqb (c.args.slot / c.geometry-geometry.result.w) c.from-region.result) in
-    let none = eqb_false c.region_of.result c.from-region.result c.if-region_of-region.false in
+    let none = ne_eqb c.region_of.result c.from-region.result c.if-region_of-region.false in
     none ∙ sym (entry (goal.at.returns-else-region_of-region-clause-same c).After-region_of ∙ ap (λ b. b && other) none)
 
 pub returns-in-None-clause-same : goal.returns-in-None-clause-same

@@ -1,5 +1,6 @@
 use Rattle.std.proofs.Common.{◌≡◌, sym, ◌∙◌, ap, subst}
 use Rattle.std.specs.Prelude.{IfOk}
+use Rattle.std.proofs.lemmas.Result.{IfErr-weaker}
 use Rattle.g1_words.specs.Heap.{Heap}
 use Rattle.g1_image.specs.Image.{Image, IsImage}
 use Rattle.g1_image.specs.Cards.{Covered}
@@ -8,7 +9,6 @@ use Rattle.g1_trace.specs.Commands.{Answer, answer_of}
 use Rattle.g1_trace.specs.Mutator.{heap_view, IsEffect}
 use Rattle.g1_trace.specs.Views.{EffectFits, ForPause}
 use Rattle.g1_trace.proofs.Views.{answer_fits, answer_pauses}
-use Rattle.g1_trace.proofs.GoesOn.{IfErr-weaken}
 use Rattle.g1_trace.proofs.mutator.Mutator.execute.Goals as goal
 
 pub carry_out-tracked-requires-clause-fits : goal.carry_out-tracked-requires-clause-fits
@@ -46,7 +46,7 @@ returns-clause-replied g c =
 
 pub returns-clause-same : goal.returns-clause-same
 returns-clause-same g c =
-    IfErr-weaken c.carry_out-tracked.result.1 (λ e. c.carry_out-tracked.result.0 ≡ c.self.inside.tracked) (λ e. c.carry_out-tracked.result.0
+    IfErr-weaker c.carry_out-tracked.result.1 (λ e. c.carry_out-tracked.result.0 ≡ c.self.inside.tracked) (λ e. c.carry_out-tracked.result.0
     ≡ c.args.self) (λ e same. same ∙ c.self.view_is) c.carry_out-tracked.ensures.same
 
 pub returns-clause-memory : goal.returns-clause-memory
