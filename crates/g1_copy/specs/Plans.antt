@@ -17,3 +17,8 @@ pub record IsPauseOf (h : Heap) (set : List ℕ) (p : Plan) : Type 0 where
   pub made : IsPlanOf h p
   pub same : p.set ≡ set
   pub survivors : Survivors h set p.survivors
+
+-- a heap, and a plan by which its survivors move
+pub record Moving : Type 0 where
+  pub heap : Heap
+  pub plan : Plan

@@ -24,6 +24,7 @@ mod filling;
 mod gathering;
 mod headers;
 pub mod laws;
+mod moving;
 mod patching;
 mod preparing;
 mod remembering;

@@ -15,6 +15,7 @@ ghost use Rattle.g1_copy.specs.declared.fates.Fate.TheVariants.{Filled};
 use crate::fates::{Fate, fates, free};
 use crate::gathering::{gather_by, rename_reference};
 use crate::laws;
+use crate::moving::Moving;
 use crate::patching::{Moves, firsts, patches_by, rename_slots};
 use crate::remembering::{Changes, remembered_by_fate};
 use crate::unnamed::{humongous_regions, leave_all, unnamed};
@@ -379,7 +380,11 @@ pub fn prepare_on(
         ..
     } = *basis;
     let heap = image(tracked).heap();
-    let moves = Moves { heap, starts, plan };
+    let moving = Moving { heap, plan };
+    let moves = Moves {
+        moving: &moving,
+        starts,
+    };
     let patches = patches_by(rt, alloc, &moves, cards, workers)?;
     prepare_patches(rt, alloc, basis, patches, workers)
 }
