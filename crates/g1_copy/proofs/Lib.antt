@@ -1,5 +1,6 @@
 pub mod LeadingCards
 pub mod Moves
+pub mod Viewed
 pub mod OnCards
 pub mod GatheringWords
 pub mod LinkingCards

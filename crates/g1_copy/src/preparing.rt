@@ -465,7 +465,8 @@ fn prepare_patches(
         ..
     } = *basis;
     let heap = image(tracked).heap();
-    let gathered = gather_by(rt, alloc, heap, plan, workers)?;
+    let moving = Moving { heap, plan };
+    let gathered = gather_by(rt, alloc, &moving, workers)?;
     let mut fates = fates(alloc, heap, set, plan)?;
     let changes = Changes {
         plan,
