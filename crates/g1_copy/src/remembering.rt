@@ -13,8 +13,9 @@ ghost use Rattle.g1_copy.specs.Fates.{AreFates, fate_at};
 ghost use Rattle.g1_copy.specs.Remembered.{stays, IsJoined, AreSources, AreJoined, cards_at};
 
 use crate::cards_by_region::cards_by_region;
-use crate::copied_cards::copied_cards;
+use crate::copied_cards::{Copied, copied_cards};
 use crate::fates::{Fate, fates, stays};
+use crate::moving::Moving;
 use g1_layout::Plan;
 use g1_rem::{MERGED_CARDS_A_THREAD, Tracked, cards_in, image, merged};
 use g1_words::{Fault, Heap};
@@ -157,7 +158,15 @@ pub(crate) fn remembered_by_fate(
 {
     let heap = image(tracked).heap();
     let outer = cards_by_region(alloc, heap, changes.patches)?;
-    let inner = copied_cards(rt, alloc, heap, changes.plan, changes.gathered, workers)?;
+    let moving = Moving {
+        heap,
+        plan: changes.plan,
+    };
+    let copied = Copied {
+        moving: &moving,
+        gathered: changes.gathered,
+    };
+    let inner = copied_cards(rt, alloc, &copied, workers)?;
     let joining = Joining {
         heap,
         fates: changes.fates,
