@@ -1,6 +1,5 @@
 pub mod LeadingCards
 pub mod Moves
-pub mod Viewed
 pub mod OnCards
 pub mod GatheringWords
 pub mod LinkingCards

@@ -60,9 +60,9 @@ fn add_run(
     requires one_each { length lists.old ≡ moving.now.heap.geometry.n }
     ensures { let h = moving.now.heap in let l = moving.now.plan.survivors in OnOk result ((i : ℕ) → i ≤ run.now.from → map (λ s. s.items) lists.old ≡ cards_by_region h (copied_between h l i run.now.from) → map (λ s. s.items) lists.new ≡ cards_by_region h (copied_between h l i run.now.to)) }
 {
-    let start = moving.heap.geometry().start(run.region);
+    let start = moving.geometry().start(run.region);
     for i in run.from..run.to {
-        let place = moving.plan.places()[i];
+        let place = moving.places()[i];
         add_object(moving.heap, words, (place - start) as usize, place, lists)?;
     }
     Ok(())
@@ -97,8 +97,7 @@ impl<'a> Copied<'a> {
         ensures same { result.now ≡ self.now.plan.runs }
         ensures made { IsPlanOf self.now.heap self.now.plan }
     {
-        let moving = self.moving;
-        moving.plan.runs()
+        self.moving.runs()
     }
 
     /// The geometry of the heap.
@@ -106,8 +105,7 @@ impl<'a> Copied<'a> {
         ensures same { result ≡ self.now.heap.geometry }
         ensures valid { IsValid self.now.heap }
     {
-        let moving = self.moving;
-        moving.heap.geometry()
+        self.moving.geometry()
     }
 }
 

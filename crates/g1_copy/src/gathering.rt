@@ -59,11 +59,11 @@ fn fill(moving: &Moving<'_>, run: Run, words: &mut [u64])
     requires empty { words.old ≡ replicate moving.now.heap.geometry.w 0 }
     ensures { words.new ≡ placed_words moving.now.heap moving.now.plan.survivors run.region }
 {
-    let start = moving.heap.geometry().start(run.region);
+    let start = moving.geometry().start(run.region);
     let mut ahead = Headers::new(run.from);
     for i in run.from..run.to {
         let object = ahead.object(moving, i);
-        let from = (moving.plan.places()[i] - start) as usize;
+        let from = (moving.places()[i] - start) as usize;
         copy(moving, &object, &mut words[from..from + object.size as usize]);
     }
 }
@@ -80,8 +80,7 @@ impl Fill for Copies<'_> {
     ghost fills = { λ s r xs ys. ys ≡ placed_words s.moving.now.heap s.moving.now.plan.survivors (slice_index (free_regions s.moving.now.heap) r) };
 
     fn fill(&self, region: usize, words: &mut [u64]) {
-        let moving = self.moving;
-        fill(moving, moving.plan.runs()[region], words);
+        fill(self.moving, self.moving.runs()[region], words);
     }
 }
 
@@ -132,9 +131,9 @@ pub(crate) fn gather_by(
 ) -> Result<Vec<u64>, AllocError>
     ensures { IfOk result (λ v. v.items ≡ to_space_words moving.now.heap moving.now.plan.survivors) }
 {
-    let geometry = moving.heap.geometry();
+    let geometry = moving.geometry();
     let region_words = geometry.region_words() as usize;
-    let to_space = geometry.words_of(moving.plan.runs().len() as u64) as usize;
+    let to_space = geometry.words_of(moving.runs().len() as u64) as usize;
     let mut words = vec![in alloc; 0u64; to_space]?;
     let copies = Copies { moving };
     let threads = threads_for(workers.min(MOST_WORKERS), to_space, COPIED_WORDS_A_THREAD) as u64;

@@ -1,26 +1,14 @@
 use Rattle.std.proofs.Common.{◌≡◌, ◌≤◌, ◌-◌, ◌*◌, ◌∙◌, length, slice_index, arith, ap, sym}
 use Rattle.g1_words.specs.Geometry.{Geometry}
-use Rattle.g1_words.specs.Valid.{IsValid}
 use Rattle.g1_copy.specs.Links.{cards_by_region, copied_between}
-use Rattle.g1_copy.specs.Plans.{IsPlanOf, Moving}
+use Rattle.g1_copy.specs.Plans.{Moving}
 use Rattle.g1_copy.proofs.CopiedWords.{AreSlotsAt, in_places, index_small, not_below, run_order, slots_at}
-use Rattle.g1_copy.proofs.Viewed.{heap_valid, plan_made}
 use Rattle.g1_copy.proofs.copied_cards.add_run.Goals as goal
 use Rattle.g1_copy.proofs.copied_cards.add_run.Goals.{After-places}
 
-made : (c : After-places) → IsPlanOf c.args.moving.now.heap c.args.moving.now.plan
-made c = plan_made _ c.args.moving.now c.moving.view_is c.moving.invariant
-
-valid : (c : After-places) → IsValid c.args.moving.now.heap
-valid c = heap_valid _ c.args.moving.now c.moving.view_is c.moving.invariant
-
 -- where the run's region begins
 start_is : (c : After-places) → c.start-start.result ≡ c.args.run.now.region * c.args.moving.now.heap.geometry.w
-start_is c = c.start-start.ensures.value ∙ ap (λ (g : Geometry). c.args.run.now.region * g.w) (c.geometry.ensures.same ∙ ap (λ (m : Moving). m.heap.geometry) c.moving.view_is)
-
--- where the survivor will be
-place_is : (c : After-places) → slice_index c.places.result.now c.loop-i.i ≡ slice_index c.args.moving.now.plan.places c.loop-i.i
-place_is c = ap (λ xs. slice_index xs c.loop-i.i) (c.places.ensures ∙ ap (λ (m : Moving). m.plan.places) c.moving.view_is)
+start_is c = c.start-start.ensures.value ∙ ap (λ (g : Geometry). c.args.run.now.region * g.w) c.geometry.ensures.same
 
 -- its slots
 slots : (c : After-places) →
@@ -28,27 +16,25 @@ slots : (c : After-places) →
 slots c =
     let m : Moving = c.args.moving.now in
     let place = slice_index c.places.result.now c.loop-i.i in
-    slots_at m.heap m.plan (made c) (valid c) c.args.run.now c.requires.run c.loop-i.i c.loop-i.auto.i c.loop-i-test.true place (place_is c) c.args.words.now
+    slots_at m.heap m.plan c.geometry.ensures.made c.geometry.ensures.valid c.args.run.now c.requires.run c.loop-i.i c.loop-i.auto.i c.loop-i-test.true place (ap (λ xs. slice_index xs c.loop-i.i) c.places.ensures) c.args.words.now
     (place - c.start-start.result) c.requires.words (ap (λ z. place - z) (start_is c))
 
 pub offset_bounds-places-i : goal.offset_bounds-places-i
 offset_bounds-places-i c =
     let m : Moving = c.args.moving.now in
-    let b = (goal.at.offset_bounds-places-i c).After-places in
-    omega (arith, index_small m.heap m.plan (made b) (valid b) c.args.run.now c.requires.run c.loop-i.i c.loop-i.auto.i c.loop-i-test.true)
+    omega (arith, index_small m.heap m.plan c.geometry.ensures.made c.geometry.ensures.valid c.args.run.now c.requires.run c.loop-i.i c.loop-i.auto.i c.loop-i-test.true)
 
 pub bounds-places-i : goal.bounds-places-i
 bounds-places-i c =
     let m : Moving = c.args.moving.now in
-    let b = (goal.at.bounds-places-i c).After-places in
-    let lt = in_places m.heap m.plan (made b) (valid b) c.args.run.now c.requires.run c.loop-i.i c.loop-i.auto.i c.loop-i-test.true in
-    omega (arith, lt, ap length c.places.ensures, ap (λ (m : Moving). length m.plan.places) c.moving.view_is)
+    let lt = in_places m.heap m.plan c.geometry.ensures.made c.geometry.ensures.valid c.args.run.now c.requires.run c.loop-i.i c.loop-i.auto.i c.loop-i-test.true in
+    omega (arith, lt, ap length c.places.ensures)
 
 pub overflow_sub-place : goal.overflow_sub-place
 overflow_sub-place c =
     let m : Moving = c.args.moving.now in
     let b = (goal.at.overflow_sub-place c).After-places in
-    let le = not_below m.heap m.plan (made b) (valid b) c.args.run.now c.requires.run c.loop-i.i c.loop-i.auto.i c.loop-i-test.true (slice_index c.places.result.now c.loop-i.i) (place_is b) in
+    let le = not_below m.heap m.plan c.geometry.ensures.made c.geometry.ensures.valid c.args.run.now c.requires.run c.loop-i.i c.loop-i.auto.i c.loop-i-test.true (slice_index c.places.result.now c.loop-i.i) (ap (λ xs. slice_index xs c.loop-i.i) c.places.ensures) in
     omega (arith, start_is b, le)
 
 pub add_object-requires-clause-slots : goal.add_object-requires-clause-slots
@@ -80,7 +66,7 @@ loop-i-preserved c = λ b le e.
 pub returns : goal.returns
 returns c = λ b le e.
     let m : Moving = c.args.moving.now in
-    let order = run_order m.heap m.plan (plan_made _ m c.moving.view_is c.moving.invariant) (heap_valid _ m c.moving.view_is c.moving.invariant) c.args.run.now c.requires.run in
+    let order = run_order m.heap m.plan c.geometry.ensures.made c.geometry.ensures.valid c.args.run.now c.requires.run in
     let end : c.loop-i.i ≡ c.args.run.now.to = omega (arith, c.loop-i-test.false, c.loop-i.auto.i-end order) in
     c.loop-i.invariant b le e ∙ ap (λ i. cards_by_region m.heap (copied_between m.heap m.plan.survivors b i)) end
 
