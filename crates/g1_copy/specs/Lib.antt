@@ -1,4 +1,5 @@
 pub mod Plans
+pub mod Pausing
 pub mod Gathered
 pub mod Patches
 pub mod Links

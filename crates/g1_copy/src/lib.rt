@@ -26,6 +26,7 @@ mod headers;
 pub mod laws;
 mod moving;
 mod patching;
+mod pausing;
 mod preparing;
 mod remembering;
 mod unnamed;

@@ -16,8 +16,9 @@ use crate::cards_by_region::cards_by_region;
 use crate::copied_cards::{Copied, copied_cards};
 use crate::fates::{Fate, fates, stays};
 use crate::moving::Moving;
+use crate::pausing::heap_of;
 use g1_layout::Plan;
-use g1_rem::{MERGED_CARDS_A_THREAD, Tracked, cards_in, image, merged};
+use g1_rem::{MERGED_CARDS_A_THREAD, Tracked, cards_in, merged};
 use g1_words::{Fault, Heap};
 use g1_work::{MOST_WORKERS, Make, make_each, threads_for};
 use std::alloc::{AllocError, Global};
@@ -156,7 +157,7 @@ pub(crate) fn remembered_by_fate(
     ensures ok { IfOk result (λ v. map (λ s. s.items) v.items ≡ map (remembered_moved tracked.now changes.now.plan.now.set changes.now.plan.now.survivors (heap_moved tracked.now.heap changes.now.plan.now.set changes.now.plan.now.survivors)) (regions tracked.now.heap)) }
     ensures memory { IfErr result (λ e. e ≡ Fault.Memory) }
 {
-    let heap = image(tracked).heap();
+    let heap = heap_of(tracked);
     let outer = cards_by_region(alloc, heap, changes.patches)?;
     let moving = Moving {
         heap,
@@ -228,7 +229,7 @@ pub fn new_rem(
     ensures ok { IfOk result (λ v. map (λ s. s.items) v.items ≡ map (remembered_moved tracked.now set.now plan.now.survivors (heap_moved tracked.now.heap set.now plan.now.survivors)) (regions tracked.now.heap)) }
     ensures memory { IfErr result (λ e. e ≡ Fault.Memory) }
 {
-    let fates = fates(alloc, image(tracked).heap(), set, plan)?;
+    let fates = fates(alloc, heap_of(tracked), set, plan)?;
     let changes = Changes {
         plan,
         fates: &fates,

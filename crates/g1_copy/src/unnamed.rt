@@ -7,15 +7,14 @@ ghost use Rattle.g1_words.specs.declared.region.Kind.TheVariants.{HumongousFirst
 ghost use Rattle.g1_after.specs.Made.{heap_moved};
 ghost use Rattle.g1_after.specs.Moved.{remembered_moved};
 ghost use Rattle.g1_after.specs.Unnamed.{lies_in, unnamed};
-ghost use Rattle.g1_rem.specs.Starts.{IsStartsOf, card_count};
+ghost use Rattle.g1_rem.specs.Starts.{card_count};
 ghost use Rattle.g1_copy.specs.Fates.{AreFates};
-ghost use Rattle.g1_copy.specs.Plans.{IsPauseOf};
 ghost use Rattle.g1_copy.specs.Remembered.{AreLeft, cards_at, left, stays};
 ghost use Rattle.g1_copy.specs.Unnamed.{is_naming, is_rooted, is_unnamed, humongous_regions};
 
 use crate::fates::{Fate, stays};
-use g1_layout::Plan;
-use g1_rem::{Starts, Tracked, image, leads_into};
+use crate::pausing::{Pausing, heap_of};
+use g1_rem::{Starts, leads_into};
 use g1_words::{Heap, Kind, Marks, Object, region_of, size_at};
 use std::alloc::{AllocError, Global};
 use std::marker::Model;
@@ -149,26 +148,22 @@ fn unnamed_firsts(
 /// the regions, the roots, the remembered cards of humongous regions and the slots on them.
 pub(crate) fn unnamed(
     alloc: Global,
-    tracked: &Tracked,
-    starts: &Starts,
-    plan: &Plan,
+    pausing: &Pausing<'_>,
     fates: &[Fate],
     remembered: &[Vec<u32>],
 ) -> Result<Vec<u32>, AllocError>
-    requires starts { IsStartsOf tracked.now.heap starts.now }
-    requires plan { IsPauseOf tracked.now.heap plan.now.set plan.now }
-    requires fates { AreFates tracked.now.heap plan.now.set (to_space tracked.now.heap plan.now.survivors) fates.now }
-    requires remembered { map (λ s. s.items) remembered.now ≡ map (remembered_moved tracked.now plan.now.set plan.now.survivors (heap_moved tracked.now.heap plan.now.set plan.now.survivors)) (regions tracked.now.heap) }
-    ensures { IfOk result (λ v. v.items ≡ map (λ o. region_of tracked.now.heap o.at) (unnamed (heap_moved tracked.now.heap plan.now.set plan.now.survivors))) }
+    requires fates { AreFates pausing.now.image.heap pausing.now.plan.set (to_space pausing.now.image.heap pausing.now.plan.survivors) fates.now }
+    requires remembered { let p = pausing.now.plan in map (λ s. s.items) remembered.now ≡ map (remembered_moved pausing.now.image p.set p.survivors (heap_moved pausing.now.image.heap p.set p.survivors)) (regions pausing.now.image.heap) }
+    ensures { IfOk result (λ v. v.items ≡ map (λ o. region_of pausing.now.image.heap o.at) (unnamed (heap_moved pausing.now.image.heap pausing.now.plan.set pausing.now.plan.survivors))) }
 {
     g1_after::laws::survivors_moved();
     g1_after::laws::named_by_cards();
-    let heap = image(tracked).heap();
+    let heap = heap_of(pausing.tracked);
     let mut rooted = Marks::none(alloc, heap.geometry().regions() as usize)?;
     mark_rooted(heap, &mut rooted);
     let naming = Naming {
         heap,
-        starts,
+        starts: pausing.starts,
         fates,
     };
     unnamed_firsts(alloc, &naming, &rooted, remembered)

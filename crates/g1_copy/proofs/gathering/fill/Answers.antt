@@ -1,4 +1,4 @@
-use Rattle.std.proofs.Common.{◌≡◌, ◌≤◌, ◌+◌, ◌-◌, ◌*◌, Contains, get_or, length, arith, ap, sym, subst, ◌∙◌}
+use Rattle.std.proofs.Common.{◌≡◌, ◌≤◌, ◌+◌, ◌-◌, Contains, get_or, length, arith, ap, sym, subst, ◌∙◌}
 use Rattle.g1_words.specs.Heap.{object_at, start}
 use Rattle.g1_words.specs.Layout.{forward}
 use Rattle.g1_words.specs.Copy.{renamed_words}
