@@ -64,7 +64,11 @@ fn fill(moving: &Moving<'_>, run: Run, words: &mut [u64])
     for i in run.from..run.to {
         let object = ahead.object(moving, i);
         let from = (moving.places()[i] - start) as usize;
-        copy(moving, &object, &mut words[from..from + object.size as usize]);
+        copy(
+            moving,
+            &object,
+            &mut words[from..from + object.size as usize],
+        );
     }
 }
 
