@@ -1,5 +1,4 @@
 pub mod Plans
-pub mod Pausing
 pub mod Gathered
 pub mod Patches
 pub mod Links

@@ -18,7 +18,7 @@ pub(crate) struct Pausing<'a> {
 
 impl<'a> Model for Pausing<'a> {
     ghost use Rattle.std.specs.Prelude.{map};
-    ghost use Rattle.g1_copy.specs.Pausing.{IsPausing, Pausing as PausingOf};
+    ghost use Rattle.g1_copy.specs.Plans.{IsPausing, Pausing as PausingOf};
 
     ghost Value = { PausingOf };
 

@@ -11,9 +11,8 @@ use Rattle.g1_rem.proofs.Entering.{lent_back}
 use Rattle.g1_copy.specs.declared.fates.Fate.{Fate}
 use Rattle.g1_copy.specs.Fates.{AreFates}
 use Rattle.g1_copy.specs.Gathered.{to_space_words}
-use Rattle.g1_copy.specs.Plans.{IsPauseOf}
+use Rattle.g1_copy.specs.Plans.{IsPauseOf, Pausing}
 use Rattle.g1_copy.specs.Patches.{AreFirsts, all_patches}
-use Rattle.g1_copy.specs.Pausing.{Pausing}
 use Rattle.g1_copy.specs.Prepared.{IsMadeFor, Prepared}
 use Rattle.g1_copy.proofs.PreparedPause.{fates_after, firsts_there, found_rise, made_for, own_patches, remembered_left, regions_freed}
 use Rattle.g1_copy.proofs.PreparedPause.{runs_there, table_after}

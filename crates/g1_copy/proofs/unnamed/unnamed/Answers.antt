@@ -8,8 +8,7 @@ use Rattle.g1_after.specs.Made.{heap_moved}
 use Rattle.g1_after.specs.Moved.{remembered_moved}
 use Rattle.g1_after.specs.Unnamed.{unnamed}
 use Rattle.g1_rem.specs.Starts.{card_count}
-use Rattle.g1_copy.specs.Pausing.{Pausing}
-use Rattle.g1_copy.specs.Plans.{IsPauseOf}
+use Rattle.g1_copy.specs.Plans.{IsPauseOf, Pausing}
 use Rattle.g1_copy.specs.Remembered.{cards_at}
 use Rattle.g1_copy.specs.Unnamed.{is_unnamed}
 use Rattle.g1_copy.proofs.PreparedPause.{has_room}
