@@ -271,6 +271,15 @@ module _ (h : Heap) (set l : List ℕ) (valid : IsValid h) (can : CanPlace h set
 
 -- ---- plans
 
+-- the i-th survivor's slots: its words stand at an index of these, and will be at a place
+pub record AreSlotsAt (h : Heap) (p : Plan) (i place : ℕ) (words : List ℕ) (at : ℕ) : Type 0 where
+  pub within : at + slice_index words at % 2 ^ 32 < length words
+  pub inside : place + slice_index words at % 2 ^ 32 < h.geometry.n * h.geometry.w
+  pub below : place + slice_index words at % 2 ^ 32 < 2 ^ 64
+  pub named : (k : ℕ) → k < slice_index words at % 2 ^ 32 → slice_index words (at + k + 1) ≤ h.geometry.n * h.geometry.w
+  pub lower : (b : ℕ) → b ≤ i → All (λ x. x.0 ≤ place) (copied_between h p.survivors b i)
+  pub more : (b : ℕ) → b ≤ i → copied_between h p.survivors b i ++ filled_slots words at place ≡ copied_between h p.survivors b (i + 1)
+
 -- a plan's places and runs
 module _ (h : Heap) (p : Plan) (made : IsPlanOf h p) where
   pub places_are : p.places ≡ places h p.survivors
@@ -353,31 +362,31 @@ module _ (h : Heap) (p : Plan) (made : IsPlanOf h p) where
           refs_are = (λ j. slice_index (words_there j) (at_offset j) % 2 ^ 32) ∙ refs_there h p.set p.survivors valid can room one.0 there i from to
 
           -- the slots stand among the words
-          pub slots_within : at + slice_index words at % 2 ^ 32 < length words
+          slots_within : at + slice_index words at % 2 ^ 32 < length words
           slots_within =
               let count = ap length words_are ∙ length-placed_words h p.survivors u.region in
               omega (arith, at_offset, refs_are, count, some_slots h p.set p.survivors valid can room one.0 there i from to, ends_within h p.set p.survivors valid can room one.0 there i from to)
 
           -- and at addresses of the heap
-          pub slots_inside : place + slice_index words at % 2 ^ 32 < h.geometry.n * h.geometry.w
+          slots_inside : place + slice_index words at % 2 ^ 32 < h.geometry.n * h.geometry.w
           slots_inside =
               let goes = place_is ∙ ap (λ xs. get_or xs i 0) places_are ∙ sym (forward_at h p.set p.survivors valid can room i listed) in
               let ends = place_within h p.set p.survivors valid can room (get_or p.survivors i 0) (get_or-In p.survivors i 0 listed) in
               let some = some_slots h p.set p.survivors valid can room one.0 there i from to in
               omega (arith, refs_are, goes, ends, some)
 
-          pub slots_below : place + slice_index words at % 2 ^ 32 < 2 ^ 64
+          slots_below : place + slice_index words at % 2 ^ 32 < 2 ^ 64
           slots_below = omega (arith, slots_inside, valid.limits.words_most)
 
           -- what they name is there
-          pub slots_named : (k : ℕ) → k < slice_index words at % 2 ^ 32 → slice_index words (at + k + 1) ≤ h.geometry.n * h.geometry.w
+          slots_named : (k : ℕ) → k < slice_index words at % 2 ^ 32 → slice_index words (at + k + 1) ≤ h.geometry.n * h.geometry.w
           slots_named k less =
               let is : slice_index words (at + k + 1) ≡ slice_index (placed_words h p.survivors (get_or (free_regions h) one.0 0))
               (offset h p.set p.survivors valid can room i + k + 1) = λ j. slice_index (words_there j) (at_offset j + k + 1) in
               omega (arith, is, named_there h p.set p.survivors valid can room one.0 there i from to k (omega (arith, less, refs_are)))
 
           -- the slots of the survivors before this one stand below it
-          pub slots_lower : (b : ℕ) → b ≤ i → All (λ x. x.0 ≤ place) (copied_between h p.survivors b i)
+          slots_lower : (b : ℕ) → b ≤ i → All (λ x. x.0 ≤ place) (copied_between h p.survivors b i)
           slots_lower b le =
               let goes : forward h p.survivors (get_or p.survivors i 0) ≡ place = forward_at h p.set p.survivors valid can room i listed ∙ sym (place_is ∙ ap (λ xs. get_or xs i 0) places_are) in
               let all = subst (λ q. All (λ x. x.0 ≤ q) (first_copied h p.survivors i)) goes (slots_before h p.set p.survivors valid can room i listed) in
@@ -387,8 +396,11 @@ module _ (h : Heap) (p : Plan) (made : IsPlanOf h p) where
               subst (λ (z : ℕ × ℕ). z.0 ≤ place) c.2 (all c.0 (get_or (copied_between h p.survivors b i) k d) c.1)
 
           -- one survivor more
-          pub slots_more : (b : ℕ) → b ≤ i → copied_between h p.survivors b i ++ filled_slots words at place ≡ copied_between h p.survivors b (i + 1)
+          slots_more : (b : ℕ) → b ≤ i → copied_between h p.survivors b i ++ filled_slots words at place ≡ copied_between h p.survivors b (i + 1)
           slots_more b le =
               let goes : place ≡ get_or (places h p.survivors) i 0 = place_is ∙ ap (λ xs. get_or xs i 0) places_are in
               (λ j. copied_between h p.survivors b i ++ filled_slots (words_there j) (at_offset j) (goes j))
               ∙ run_more h p.set p.survivors valid can room one.0 there i from to b le
+
+          pub slots_at : AreSlotsAt h p i place words at
+          slots_at = record { within = slots_within; inside = slots_inside; below = slots_below; named = slots_named; lower = slots_lower; more = slots_more }

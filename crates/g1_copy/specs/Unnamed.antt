@@ -12,6 +12,11 @@ use Rattle.g1_copy.specs.declared.fates.Fate.TheVariants.{Filled}
 use Rattle.g1_copy.specs.Fates.{fate_at}
 use Rattle.g1_copy.specs.Remembered.{cards_at}
 
+-- a heap, and what a pause does with each region
+pub record Naming : Type 0 where
+  pub heap : Heap
+  pub fates : List Fate
+
 -- a run of survivors fills the region
 abbrev pub is_filled_fate : Fate → Bool
 is_filled_fate (Filled t) = true

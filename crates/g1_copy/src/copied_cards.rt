@@ -1,18 +1,19 @@
 ghost use Rattle.std.specs.Prelude.{◌≡◌, ◌≤◌, ◌<◌, ◌+◌, ◌*◌, ◌++◌, ◌%◌, ◌^◌, ℕ, List, length, map, slice_index, All, Contains, OnOk, IfOk, IfErr};
 ghost use Rattle.g1_words.specs.declared.fault.Fault.TheVariants.{Memory};
 ghost use Rattle.g1_layout.specs.Plan.{laid_before};
-ghost use Rattle.g1_copy.specs.Plans.{IsPlanOf};
-ghost use Rattle.g1_copy.specs.Gathered.{placed_words, to_space_words};
+ghost use Rattle.g1_copy.specs.Gathered.{placed_words};
 ghost use Rattle.g1_copy.specs.Links.{cards_by_region, copied_between, copied_slots, part_cards};
 ghost use Rattle.g1_copy.specs.Filled.{filled_slots};
 ghost use Rattle.g1_copy.specs.Remembered.{cards_at};
 
 use crate::cards_by_region::add_slot;
-use g1_layout::{Plan, Run};
+use crate::moving::Moving;
+use g1_layout::Run;
 use g1_rem::no_cards;
-use g1_words::{Fault, Heap, header};
+use g1_words::{Fault, Geometry, Heap, header};
 use g1_work::{Make, make_each, threads_for};
 use std::alloc::{AllocError, Global};
+use std::marker::Model;
 use std::thread::Threads;
 
 /// A thread is worth starting for this many words of to-space.
@@ -49,32 +50,63 @@ fn add_object(
 /// lists have the cards of the survivors before the run from some index on, they then have those of
 /// the run's, too.
 fn add_run(
-    heap: &Heap,
-    plan: &Plan,
+    moving: &Moving<'_>,
     run: &Run,
     words: &[u64],
     lists: &mut [Vec<u32>],
 ) -> Result<(), AllocError>
-    requires plan { IsPlanOf heap.now plan.now }
-    requires run { Contains plan.now.runs run.now }
-    requires words { words.now ≡ placed_words heap.now plan.now.survivors run.now.region }
-    requires one_each { length lists.old ≡ heap.now.geometry.n }
-    ensures { OnOk result ((i : ℕ) → i ≤ run.now.from → map (λ s. s.items) lists.old ≡ cards_by_region heap.now (copied_between heap.now plan.now.survivors i run.now.from) → map (λ s. s.items) lists.new ≡ cards_by_region heap.now (copied_between heap.now plan.now.survivors i run.now.to)) }
+    requires run { Contains moving.now.plan.runs run.now }
+    requires words { words.now ≡ placed_words moving.now.heap moving.now.plan.survivors run.now.region }
+    requires one_each { length lists.old ≡ moving.now.heap.geometry.n }
+    ensures { let h = moving.now.heap in let l = moving.now.plan.survivors in OnOk result ((i : ℕ) → i ≤ run.now.from → map (λ s. s.items) lists.old ≡ cards_by_region h (copied_between h l i run.now.from) → map (λ s. s.items) lists.new ≡ cards_by_region h (copied_between h l i run.now.to)) }
 {
-    let start = heap.geometry().start(run.region);
+    let start = moving.geometry().start(run.region);
     for i in run.from..run.to {
-        let place = plan.places()[i];
-        add_object(heap, words, (place - start) as usize, place, lists)?;
+        let place = moving.places()[i];
+        add_object(moving.heap, words, (place - start) as usize, place, lists)?;
     }
     Ok(())
 }
 
 /// What cards are listed of: the survivors of a plan, and the words of to-space that hold them.
-#[derive(Clone, Copy)]
-pub struct Copied<'a> {
-    heap: &'a Heap,
-    plan: &'a Plan,
-    gathered: &'a [u64],
+#[derive(Drop)]
+pub(crate) struct Copied<'a> {
+    pub(crate) moving: &'a Moving<'a>,
+    pub(crate) gathered: &'a [u64],
+}
+
+impl<'a> Model for Copied<'a> {
+    ghost use Rattle.std.specs.Prelude.{◌≡◌};
+    ghost use Rattle.g1_copy.specs.Gathered.{to_space_words};
+    ghost use Rattle.g1_copy.specs.Plans.{Moving as MovingOf};
+
+    ghost Value = { MovingOf };
+
+    ghost view = { λ c. c.moving.now };
+
+    ghost invariant = { λ c. c.gathered.now ≡ to_space_words c.moving.now.heap c.moving.now.plan.survivors };
+}
+
+impl<'a> Copied<'a> {
+    ghost use Rattle.std.specs.Prelude.{◌≡◌};
+    ghost use Rattle.g1_words.specs.Valid.{IsValid};
+    ghost use Rattle.g1_copy.specs.Plans.{IsPlanOf};
+
+    /// The runs of the plan.
+    fn runs(&self) -> &'a [Run]
+        ensures same { result.now ≡ self.now.plan.runs }
+        ensures made { IsPlanOf self.now.heap self.now.plan }
+    {
+        self.moving.runs()
+    }
+
+    /// The geometry of the heap.
+    fn geometry(&self) -> Geometry
+        ensures same { result ≡ self.now.heap.geometry }
+        ensures valid { IsValid self.now.heap }
+    {
+        self.moving.geometry()
+    }
 }
 
 /// For each region the cards, rising, of those slots of the survivors of some runs, at their places,
@@ -85,25 +117,19 @@ fn cards_of_runs(
     from: usize,
     to: usize,
 ) -> Result<Vec<Vec<u32>>, AllocError>
-    requires plan { IsPlanOf copied.now.heap.now copied.now.plan.now }
-    requires gathered { copied.now.gathered.now ≡ to_space_words copied.now.heap.now copied.now.plan.now.survivors }
     requires order { from ≤ to }
-    requires there { to ≤ length copied.now.plan.now.runs }
-    ensures { let h = copied.now.heap.now in let l = copied.now.plan.now.survivors in IfOk result (λ v. map (λ s. s.items) v.items ≡ cards_by_region h (copied_between h l (laid_before h l from) (laid_before h l to))) }
+    requires there { to ≤ length copied.now.plan.runs }
+    ensures { let h = copied.now.heap in let l = copied.now.plan.survivors in IfOk result (λ v. map (λ s. s.items) v.items ≡ cards_by_region h (copied_between h l (laid_before h l from) (laid_before h l to))) }
 {
-    let Copied {
-        heap,
-        plan,
-        gathered,
-    } = *copied;
-    let geometry = heap.geometry();
+    let geometry = copied.geometry();
     let region_words = geometry.region_words() as usize;
-    let runs = plan.runs();
+    let runs = copied.runs();
+    let gathered = copied.gathered;
     let mut lists = no_cards(alloc, geometry.regions())?;
     for number in from..to {
         let first = geometry.words_of(number as u64) as usize;
         let words = &gathered[first..first + region_words];
-        add_run(heap, plan, &runs[number], words, &mut lists)?;
+        add_run(copied.moving, &runs[number], words, &mut lists)?;
     }
     Ok(lists)
 }
@@ -118,12 +144,12 @@ struct Parts<'a> {
 impl Make for Parts<'_> {
     type Made = Vec<Vec<u32>>;
 
-    ghost ready = { λ s j. IsPlanOf s.copied.now.heap.now s.copied.now.plan.now × (s.copied.now.gathered.now ≡ to_space_words s.copied.now.heap.now s.copied.now.plan.now.survivors) × (j * s.size ≤ length s.copied.now.plan.now.runs) };
+    ghost ready = { λ s j. j * s.size ≤ length s.copied.now.plan.runs };
 
-    ghost makes = { λ s j v. map (λ c. c.items) v.items ≡ part_cards s.copied.now.heap.now s.copied.now.plan.now s.size j };
+    ghost makes = { λ s j v. map (λ c. c.items) v.items ≡ part_cards s.copied.now.heap s.copied.now.plan s.size j };
 
     fn make(&self, alloc: Global, part: usize) -> Result<Vec<Vec<u32>>, Fault> {
-        let runs = self.copied.plan.runs();
+        let runs = self.copied.runs();
         let from = part * self.size;
         let to = from + self.size.min(runs.len() - from);
         Ok(cards_of_runs(alloc, self.copied, from, to)?)
@@ -150,16 +176,14 @@ fn cards_by_threads(
     threads: usize,
 ) -> Result<Vec<Vec<u32>>, Fault>
     requires some { 0 < threads }
-    requires plan { IsPlanOf copied.now.heap.now copied.now.plan.now }
-    requires gathered { copied.now.gathered.now ≡ to_space_words copied.now.heap.now copied.now.plan.now.survivors }
-    ensures ok { IfOk result (λ v. map (λ s. s.items) v.items ≡ cards_by_region copied.now.heap.now (copied_slots copied.now.heap.now copied.now.plan.now.survivors)) }
+    ensures ok { IfOk result (λ v. map (λ s. s.items) v.items ≡ cards_by_region copied.now.heap (copied_slots copied.now.heap copied.now.plan.survivors)) }
     ensures memory { IfErr result (λ e. e ≡ Memory) }
 {
-    let runs = copied.plan.runs().len();
+    let runs = copied.runs().len();
     let size = runs.div_ceil(threads).max(1);
     let parts = Parts { copied, size };
     let made = make_each(rt, alloc, threads, runs.div_ceil(size), &parts)?;
-    let mut lists = no_cards(alloc, copied.heap.geometry().regions())?;
+    let mut lists = no_cards(alloc, copied.geometry().regions())?;
     for part in &made {
         append_each(&mut lists, part)?;
     }
@@ -176,25 +200,16 @@ fn cards_by_threads(
 pub(crate) fn copied_cards(
     rt: &(impl Threads + Sync),
     alloc: Global,
-    heap: &Heap,
-    plan: &Plan,
-    gathered: &[u64],
+    copied: &Copied<'_>,
     workers: u64,
 ) -> Result<Vec<Vec<u32>>, Fault>
-    requires plan { IsPlanOf heap.now plan.now }
-    requires gathered { gathered.now ≡ to_space_words heap.now plan.now.survivors }
-    ensures ok { IfOk result (λ v. map (λ s. s.items) v.items ≡ cards_by_region heap.now (copied_slots heap.now plan.now.survivors)) }
+    ensures ok { IfOk result (λ v. map (λ s. s.items) v.items ≡ cards_by_region copied.now.heap (copied_slots copied.now.heap copied.now.plan.survivors)) }
     ensures memory { IfErr result (λ e. e ≡ Memory) }
 {
-    let copied = Copied {
-        heap,
-        plan,
-        gathered,
-    };
     // Each thread has a list for each region, so it has more words if there are many regions.
-    let least = LISTED_WORDS_A_THREAD.max(4 * heap.geometry().regions() as usize);
-    match threads_for(workers, gathered.len(), least) {
-        1 => Ok(cards_of_runs(alloc, &copied, 0, plan.runs().len())?),
-        threads => cards_by_threads(rt, alloc, &copied, threads),
+    let least = LISTED_WORDS_A_THREAD.max(4 * copied.geometry().regions() as usize);
+    match threads_for(workers, copied.gathered.len(), least) {
+        1 => Ok(cards_of_runs(alloc, copied, 0, copied.runs().len())?),
+        threads => cards_by_threads(rt, alloc, copied, threads),
     }
 }

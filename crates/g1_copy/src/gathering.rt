@@ -1,6 +1,5 @@
 ghost use Rattle.std.specs.Prelude.{◌≡◌, ◌≤◌, ◌<◌, ◌^◌, ◌⊎◌, ℕ, length, replicate, slice_index, Contains, IfOk, IfErr};
 ghost use Rattle.g1_words.specs.Heap.{object_at};
-ghost use Rattle.g1_words.specs.Valid.{IsValid};
 ghost use Rattle.g1_words.specs.Layout.{need, free_regions, forward, moved_to};
 ghost use Rattle.g1_words.specs.Copy.{renamed, renamed_words};
 ghost use Rattle.g1_layout.specs.Plan.{run_at};
@@ -8,6 +7,7 @@ ghost use Rattle.g1_copy.specs.Plans.{IsPlanOf};
 ghost use Rattle.g1_copy.specs.Gathered.{placed_words, to_space_words};
 
 use crate::headers::Headers;
+use crate::moving::Moving;
 use g1_layout::{Plan, Run};
 use g1_words::{Fault, Heap, Object};
 use g1_work::{Fill, MOST_WORKERS, Open, each_region_mut, threads_for};
@@ -43,33 +43,29 @@ fn rename(plan: &Plan, refs: u64, words: &mut [u64])
 }
 
 /// Writes the copy of a survivor: its words, the references renamed.
-fn copy(heap: &Heap, plan: &Plan, object: &Object, copy: &mut [u64])
-    requires heap { IsValid heap.now }
-    requires plan { IsPlanOf heap.now plan.now }
-    requires survivor { Contains plan.now.survivors object.now.at }
-    requires object { object.now ≡ object_at heap.now object.now.at }
+fn copy(moving: &Moving<'_>, object: &Object, copy: &mut [u64])
+    requires survivor { Contains moving.now.plan.survivors object.now.at }
+    requires object { object.now ≡ object_at moving.now.heap object.now.at }
     requires size { length copy.old ≡ object.now.size }
-    ensures { copy.new ≡ renamed_words (forward heap.now plan.now.survivors) heap.now object.now }
+    ensures { copy.new ≡ renamed_words (forward moving.now.heap moving.now.plan.survivors) moving.now.heap object.now }
 {
-    copy.copy_from_slice(heap.words_of(object));
-    rename(plan, object.refs, copy);
+    copy.copy_from_slice(moving.heap.words_of(object));
+    rename(moving.plan, object.refs, copy);
 }
 
 /// Writes the copies of a run's survivors into its region, whose words are 0.
-fn fill(heap: &Heap, plan: &Plan, run: Run, words: &mut [u64])
-    requires plan { IsPlanOf heap.now plan.now }
-    requires run { (t : ℕ) × (t < need heap.now plan.now.survivors) × (run ≡ run_at heap.now plan.now.survivors t) }
-    requires empty { words.old ≡ replicate heap.now.geometry.w 0 }
-    ensures { words.new ≡ placed_words heap.now plan.now.survivors run.region }
+fn fill(moving: &Moving<'_>, run: Run, words: &mut [u64])
+    requires run { (t : ℕ) × (t < need moving.now.heap moving.now.plan.survivors) × (run ≡ run_at moving.now.heap moving.now.plan.survivors t) }
+    requires empty { words.old ≡ replicate moving.now.heap.geometry.w 0 }
+    ensures { words.new ≡ placed_words moving.now.heap moving.now.plan.survivors run.region }
 {
-    let start = heap.geometry().start(run.region);
+    let start = moving.geometry().start(run.region);
     let mut ahead = Headers::new(run.from);
     for i in run.from..run.to {
-        let object = ahead.object(heap, plan, i);
-        let from = (plan.places()[i] - start) as usize;
+        let object = ahead.object(moving, i);
+        let from = (moving.places()[i] - start) as usize;
         copy(
-            heap,
-            plan,
+            moving,
             &object,
             &mut words[from..from + object.size as usize],
         );
@@ -79,17 +75,16 @@ fn fill(heap: &Heap, plan: &Plan, run: Run, words: &mut [u64])
 /// The copies of the survivors, written into the regions of to-space.
 #[derive(Drop)]
 struct Copies<'a> {
-    heap: &'a Heap,
-    plan: &'a Plan,
+    moving: &'a Moving<'a>,
 }
 
 impl Fill for Copies<'_> {
-    ghost ready = { λ s r xs. IsPlanOf s.heap.now s.plan.now × (r < need s.heap.now s.plan.now.survivors) × (xs ≡ replicate s.heap.now.geometry.w 0) };
+    ghost ready = { λ s r xs. (r < need s.moving.now.heap s.moving.now.plan.survivors) × (xs ≡ replicate s.moving.now.heap.geometry.w 0) };
 
-    ghost fills = { λ s r xs ys. ys ≡ placed_words s.heap.now s.plan.now.survivors (slice_index (free_regions s.heap.now) r) };
+    ghost fills = { λ s r xs ys. ys ≡ placed_words s.moving.now.heap s.moving.now.plan.survivors (slice_index (free_regions s.moving.now.heap) r) };
 
     fn fill(&self, region: usize, words: &mut [u64]) {
-        fill(self.heap, self.plan, self.plan.runs()[region], words);
+        fill(self.moving, self.moving.runs()[region], words);
     }
 }
 
@@ -126,25 +121,25 @@ pub fn gather(
     ensures ok { IfOk result (λ v. v.items ≡ to_space_words heap.now plan.now.survivors) }
     ensures memory { IfErr result (λ e. e ≡ Fault.Memory) }
 {
-    Ok(gather_by(rt, alloc, heap, plan, MOST_WORKERS)?)
+    g1_words::laws::valid(heap);
+    let moving = Moving { heap, plan };
+    Ok(gather_by(rt, alloc, &moving, MOST_WORKERS)?)
 }
 
 /// As `gather`, with this many workers at most. One if it is 0.
 pub(crate) fn gather_by(
     rt: &(impl Threads + Sync),
     alloc: Global,
-    heap: &Heap,
-    plan: &Plan,
+    moving: &Moving<'_>,
     workers: u64,
 ) -> Result<Vec<u64>, AllocError>
-    requires { IsPlanOf heap.now plan.now }
-    ensures { IfOk result (λ v. v.items ≡ to_space_words heap.now plan.now.survivors) }
+    ensures { IfOk result (λ v. v.items ≡ to_space_words moving.now.heap moving.now.plan.survivors) }
 {
-    let geometry = heap.geometry();
+    let geometry = moving.geometry();
     let region_words = geometry.region_words() as usize;
-    let to_space = geometry.words_of(plan.runs().len() as u64) as usize;
+    let to_space = geometry.words_of(moving.runs().len() as u64) as usize;
     let mut words = vec![in alloc; 0u64; to_space]?;
-    let copies = Copies { heap, plan };
+    let copies = Copies { moving };
     let threads = threads_for(workers.min(MOST_WORKERS), to_space, COPIED_WORDS_A_THREAD) as u64;
     each_region_mut(rt, threads, &mut words, region_words, &copies, &Open);
     Ok(words)

@@ -1,7 +1,7 @@
 ghost use Rattle.std.specs.Prelude.{◌≡◌, ◌≤◌, ◌<◌, ℕ, length, slice_index, All};
 
-use g1_layout::Plan;
-use g1_words::{Heap, Object, Words, header};
+use crate::moving::Moving;
+use g1_words::{Object, Words, header};
 
 /// So many headers are read at once: the processor then waits for them together, and not for one after
 /// another.
@@ -28,7 +28,6 @@ fn read(words: &Words, addresses: &[u64], headers: &mut [u64])
 impl Headers {
     ghost use Rattle.std.specs.Prelude.{◌≡◌, ◌<◌, ◌+◌, ℕ, List, length, slice_index};
     ghost use Rattle.g1_words.specs.Heap.{Heap as HeapOf, object_at};
-    ghost use Rattle.g1_copy.specs.Plans.{IsPlanOf};
     ghost use Rattle.g1_copy.specs.Headers.{AreAhead};
 
     /// None is read, and the survivor at an index is the next.
@@ -43,18 +42,16 @@ impl Headers {
     }
 
     /// The survivor at an index. Its header, and those of the next ones, are read if none is left.
-    pub(crate) fn object(&mut self, heap: &Heap, plan: &Plan, i: usize) -> Object
-        requires plan { IsPlanOf heap.now plan.now }
-        requires index { i < length plan.now.survivors }
-        requires ahead { AreAhead heap.now plan.now.survivors i self.old }
-        ensures object { result ≡ object_at heap.now (slice_index plan.now.survivors i) }
-        ensures ahead { AreAhead heap.now plan.now.survivors (i + 1) self.new }
+    pub(crate) fn object(&mut self, moving: &Moving<'_>, i: usize) -> Object
+        requires index { i < length moving.now.plan.survivors }
+        requires ahead { AreAhead moving.now.heap moving.now.plan.survivors i self.old }
+        ensures object { result ≡ object_at moving.now.heap (slice_index moving.now.plan.survivors i) }
+        ensures ahead { AreAhead moving.now.heap moving.now.plan.survivors (i + 1) self.new }
     {
-        g1_words::laws::valid(heap);
-        let survivors = plan.survivors();
+        let survivors = moving.plan.survivors();
         if i == self.to {
             let to = survivors.len().min(i + AHEAD);
-            read(heap.words(), &survivors[i..to], &mut self.headers);
+            read(moving.heap.words(), &survivors[i..to], &mut self.headers);
             self.from = i;
             self.to = to;
         }

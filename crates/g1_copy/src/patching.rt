@@ -1,6 +1,5 @@
 ghost use Rattle.std.specs.Prelude.{◌≡◌, ◌<◌, ◌++◌, length, map, Contains, false, All, OnOk, IfOk, IfErr};
 ghost use Rattle.std.specs.List.Sorted.{IsStrictlyIncreasing};
-ghost use Rattle.g1_words.specs.Valid.{IsValid};
 ghost use Rattle.g1_image.specs.Image.{card_in};
 ghost use Rattle.g1_rem.specs.Slots.{slots_on};
 ghost use Rattle.g1_rem.specs.Starts.{IsStartsOf, card_count};
@@ -8,32 +7,31 @@ ghost use Rattle.g1_copy.specs.Plans.{IsPauseOf, IsPlanOf};
 ghost use Rattle.g1_copy.specs.Patches.{AreLeads, all_patches, patch_at, patches_at, patches_by_card, patches_on, AreBefore, AreFirsts};
 
 use crate::gathering::rename_reference;
+use crate::moving::Moving;
 use g1_layout::Plan;
 use g1_rem::{SCANNED_CARDS_A_THREAD, Starts, slots_on};
 use g1_words::{Fault, Heap};
 use g1_work::{MOST_WORKERS, threads_for};
 use std::alloc::{AllocError, Global};
+use std::marker::Model;
 use std::thread;
 use std::thread::Threads;
 
 /// Adds a slot with its new word, if it references a survivor.
 fn push_patch(
-    heap: &Heap,
-    plan: &Plan,
+    moving: &Moving<'_>,
     slot: u64,
     patches: &mut Vec<(u64, u64)>,
 ) -> Result<(), AllocError>
-    requires heap { IsValid heap.now }
-    requires plan { IsPlanOf heap.now plan.now }
-    requires slot { slot < length heap.now.words }
-    ensures { OnOk result (patches.new.items ≡ patches.old.items ++ patch_at heap.now plan.now.survivors slot) }
+    requires { slot < length moving.now.heap.words }
+    ensures { OnOk result (patches.new.items ≡ patches.old.items ++ patch_at moving.now.heap moving.now.plan.survivors slot) }
 {
-    let word = heap.words().at(slot);
+    let word = moving.heap.words().at(slot);
     if word == 0 {
         return Ok(());
     }
     let target = word - 1;
-    let place = plan.forward(target);
+    let place = moving.plan.forward(target);
     // Each survivor moves, from an ordinary region to a free one, and nothing else does.
     if place != target {
         patches.push((slot, place + 1))?;
@@ -44,9 +42,19 @@ fn push_patch(
 /// Where slots are found, and where what they reference goes.
 #[derive(Drop)]
 pub(crate) struct Moves<'a> {
-    pub(crate) heap: &'a Heap,
+    pub(crate) moving: &'a Moving<'a>,
     pub(crate) starts: &'a Starts,
-    pub(crate) plan: &'a Plan,
+}
+
+impl<'a> Model for Moves<'a> {
+    ghost use Rattle.g1_rem.specs.Starts.{IsStartsOf};
+    ghost use Rattle.g1_copy.specs.Plans.{Moving as MovingOf};
+
+    ghost Value = { MovingOf };
+
+    ghost view = { λ m. m.moving.now };
+
+    ghost invariant = { λ m. IsStartsOf m.moving.now.heap m.starts.now };
 }
 
 /// Adds the slots on a card that reference a survivor, each with its new word.
@@ -56,15 +64,13 @@ fn push_card(
     card: u32,
     patches: &mut Vec<(u64, u64)>,
 ) -> Result<(), AllocError>
-    requires heap { IsValid moves.now.heap.now }
-    requires starts { IsStartsOf moves.now.heap.now moves.now.starts.now }
-    requires plan { IsPlanOf moves.now.heap.now moves.now.plan.now }
-    requires card { card < card_count moves.now.heap.now }
-    ensures { OnOk result (patches.new.items ≡ patches.old.items ++ patches_at moves.now.heap.now moves.now.plan.now.survivors (slots_on moves.now.heap.now card)) }
+    requires { card < card_count moves.now.heap }
+    ensures { OnOk result (patches.new.items ≡ patches.old.items ++ patches_at moves.now.heap moves.now.plan.survivors (slots_on moves.now.heap card)) }
 {
-    let slots = slots_on(alloc, moves.heap, moves.starts, card);
+    let moving = moves.moving;
+    let slots = slots_on(alloc, moving.heap, moves.starts, card);
     for slot in slots.as_slice() {
-        push_patch(moves.heap, moves.plan, *slot, patches)?;
+        push_patch(moving, *slot, patches)?;
     }
     Ok(())
 }
@@ -75,11 +81,8 @@ fn patches_alone(
     moves: &Moves<'_>,
     cards: &[u32],
 ) -> Result<Vec<(u64, u64)>, AllocError>
-    requires heap { IsValid moves.now.heap.now }
-    requires starts { IsStartsOf moves.now.heap.now moves.now.starts.now }
-    requires plan { IsPlanOf moves.now.heap.now moves.now.plan.now }
-    requires there { All (λ c. c < card_count moves.now.heap.now) cards.now }
-    ensures { IfOk result (λ v. v.items ≡ patches_by_card moves.now.heap.now moves.now.plan.now.survivors cards.now) }
+    requires { All (λ c. c < card_count moves.now.heap) cards.now }
+    ensures { IfOk result (λ v. v.items ≡ patches_by_card moves.now.heap moves.now.plan.survivors cards.now) }
 {
     let mut patches = Vec::new(alloc);
     for card in cards {
@@ -97,11 +100,8 @@ fn patches_by_threads(
     threads: usize,
 ) -> Result<Vec<(u64, u64)>, AllocError>
     requires some { 0 < threads }
-    requires heap { IsValid moves.now.heap.now }
-    requires starts { IsStartsOf moves.now.heap.now moves.now.starts.now }
-    requires plan { IsPlanOf moves.now.heap.now moves.now.plan.now }
-    requires there { All (λ c. c < card_count moves.now.heap.now) cards.now }
-    ensures { IfOk result (λ v. v.items ≡ patches_by_card moves.now.heap.now moves.now.plan.now.survivors cards.now) }
+    requires there { All (λ c. c < card_count moves.now.heap) cards.now }
+    ensures { IfOk result (λ v. v.items ≡ patches_by_card moves.now.heap moves.now.plan.survivors cards.now) }
 {
     let size = cards.len().div_ceil(threads).max(1);
     let parts = thread::map_chunks(
@@ -110,8 +110,8 @@ fn patches_by_threads(
         cards,
         size,
         &|_start: usize, part: &[u32]| -> Result<Vec<(u64, u64)>, AllocError>
-            requires { IsValid moves.now.heap.now × IsStartsOf moves.now.heap.now moves.now.starts.now × IsPlanOf moves.now.heap.now moves.now.plan.now × All (λ c. c < card_count moves.now.heap.now) part.now }
-            ensures { IfOk result (λ v. v.items ≡ patches_by_card moves.entry.now.heap.now moves.entry.now.plan.now.survivors part.now) }
+            requires { All (λ c. c < card_count moves.now.heap) part.now }
+            ensures { IfOk result (λ v. v.items ≡ patches_by_card moves.entry.now.heap moves.entry.now.plan.survivors part.now) }
         { patches_alone(alloc, moves, part) },
     )?;
     let mut patches = Vec::new(alloc);
@@ -163,7 +163,12 @@ pub fn patches(
     ensures ok { IfOk result (λ v. v.items ≡ patches_on heap.now plan.now.survivors cards.now) }
     ensures memory { IfErr result (λ e. e ≡ Fault.Memory) }
 {
-    let moves = Moves { heap, starts, plan };
+    g1_words::laws::valid(heap);
+    let moving = Moving { heap, plan };
+    let moves = Moves {
+        moving: &moving,
+        starts,
+    };
     Ok(patches_by(rt, alloc, &moves, cards, MOST_WORKERS)?)
 }
 
@@ -175,13 +180,12 @@ pub(crate) fn patches_by(
     cards: &[u32],
     workers: u64,
 ) -> Result<Vec<(u64, u64)>, AllocError>
-    requires starts { IsStartsOf moves.now.heap.now moves.now.starts.now }
-    requires plan { IsPlanOf moves.now.heap.now moves.now.plan.now }
     requires rising { IsStrictlyIncreasing cards.now }
-    requires there { All (λ c. c < card_count moves.now.heap.now) cards.now }
-    ensures { IfOk result (λ v. v.items ≡ patches_on moves.now.heap.now moves.now.plan.now.survivors cards.now) }
+    requires there { All (λ c. c < card_count moves.now.heap) cards.now }
+    ensures { IfOk result (λ v. v.items ≡ patches_on moves.now.heap moves.now.plan.survivors cards.now) }
 {
-    g1_words::laws::valid(moves.heap);
+    let moving = moves.moving;
+    g1_words::laws::valid(moving.heap);
     match threads_for(workers, cards.len(), SCANNED_CARDS_A_THREAD) {
         1 => patches_alone(alloc, moves, cards),
         threads => patches_by_threads(rt, alloc, moves, cards, threads),

@@ -15,11 +15,13 @@ ghost use Rattle.g1_copy.specs.declared.fates.Fate.TheVariants.{Filled};
 use crate::fates::{Fate, fates, free};
 use crate::gathering::{gather_by, rename_reference};
 use crate::laws;
+use crate::moving::Moving;
 use crate::patching::{Moves, firsts, patches_by, rename_slots};
+use crate::pausing::{Pausing, heap_of};
 use crate::remembering::{Changes, remembered_by_fate};
 use crate::unnamed::{humongous_regions, leave_all, unnamed};
 use g1_layout::{Plan, Run};
-use g1_rem::{Starts, Tracked, cards_into, image};
+use g1_rem::{Starts, Tracked, cards_into};
 use g1_words::{Fault, Heap, Kind, Region};
 use g1_work::MOST_WORKERS;
 use std::alloc::{AllocError, Global};
@@ -296,7 +298,7 @@ pub fn prepare(
     ensures ok { IfOk result (λ p. IsMadeFor p tracked.now set.now plan.now.survivors) }
     ensures memory { IfErr result (λ e. e ≡ Fault.Memory) }
 {
-    let cards = cards_into(alloc, image(tracked).heap(), remembered, set)?;
+    let cards = cards_into(alloc, heap_of(tracked), remembered, set)?;
     let basis = Basis {
         tracked,
         starts,
@@ -374,14 +376,26 @@ pub fn prepare_on(
     let Basis {
         tracked,
         starts,
+        remembered,
+        set,
         plan,
         cards,
-        ..
     } = *basis;
-    let heap = image(tracked).heap();
-    let moves = Moves { heap, starts, plan };
+    let heap = heap_of(tracked);
+    let moving = Moving { heap, plan };
+    let moves = Moves {
+        moving: &moving,
+        starts,
+    };
     let patches = patches_by(rt, alloc, &moves, cards, workers)?;
-    prepare_patches(rt, alloc, basis, patches, workers)
+    let pausing = Pausing {
+        tracked,
+        starts,
+        remembered,
+        set,
+        plan,
+    };
+    prepare_patches(rt, alloc, &pausing, patches, workers)
 }
 
 /// As `prepare_on`, for a caller that has listed the slots outside the set that reference a survivor, by
@@ -431,26 +445,6 @@ pub fn prepare_by_leads(
     ensures ok { IfOk result (λ p. IsMadeFor p basis.now.tracked.now basis.now.set.now basis.now.plan.now.survivors) }
     ensures memory { IfErr result (λ e. e ≡ Fault.Memory) }
 {
-    let mut patches = leads;
-    rename_slots(image(basis.tracked).heap(), basis.plan, &mut patches);
-    prepare_patches(rt, alloc, basis, patches, workers)
-}
-
-/// All that a pause writes, for a caller that has the patches.
-fn prepare_patches(
-    rt: &(impl Threads + Sync),
-    alloc: Global,
-    basis: &Basis<'_>,
-    patches: Vec<(u64, u64)>,
-    workers: u64,
-) -> Result<Prepared, Fault>
-    requires starts { IsStartsOf basis.now.tracked.now.heap basis.now.starts.now }
-    requires remembered { map (λ s. s.items) basis.now.remembered.now ≡ map (refined basis.now.tracked.now) (regions basis.now.tracked.now.heap) }
-    requires plan { IsPauseOf basis.now.tracked.now.heap basis.now.set.now basis.now.plan.now }
-    requires patches { patches.items ≡ all_patches basis.now.tracked.now.heap basis.now.set.now basis.now.plan.now.survivors }
-    ensures ok { IfOk result (λ p. IsMadeFor p basis.now.tracked.now basis.now.set.now basis.now.plan.now.survivors) }
-    ensures memory { IfErr result (λ e. e ≡ Fault.Memory) }
-{
     let Basis {
         tracked,
         starts,
@@ -459,17 +453,44 @@ fn prepare_patches(
         plan,
         ..
     } = *basis;
-    let heap = image(tracked).heap();
-    let gathered = gather_by(rt, alloc, heap, plan, workers)?;
-    let mut fates = fates(alloc, heap, set, plan)?;
+    let mut patches = leads;
+    rename_slots(heap_of(tracked), plan, &mut patches);
+    let pausing = Pausing {
+        tracked,
+        starts,
+        remembered,
+        set,
+        plan,
+    };
+    prepare_patches(rt, alloc, &pausing, patches, workers)
+}
+
+/// All that a pause writes, for a caller that has the patches.
+fn prepare_patches(
+    rt: &(impl Threads + Sync),
+    alloc: Global,
+    pausing: &Pausing<'_>,
+    patches: Vec<(u64, u64)>,
+    workers: u64,
+) -> Result<Prepared, Fault>
+    requires { patches.items ≡ all_patches pausing.now.image.heap pausing.now.set pausing.now.plan.survivors }
+    ensures ok { IfOk result (λ p. IsMadeFor p pausing.now.image pausing.now.set pausing.now.plan.survivors) }
+    ensures memory { IfErr result (λ e. e ≡ Fault.Memory) }
+{
+    let tracked = pausing.tracked;
+    let plan = pausing.plan;
+    let heap = heap_of(tracked);
+    let moving = Moving { heap, plan };
+    let gathered = gather_by(rt, alloc, &moving, workers)?;
+    let mut fates = fates(alloc, heap, pausing.set, plan)?;
     let changes = Changes {
         plan,
         fates: &fates,
         patches: &patches,
         gathered: &gathered,
     };
-    let mut sets = remembered_by_fate(rt, alloc, tracked, remembered, &changes, workers)?;
-    let humongous = unnamed(alloc, tracked, starts, plan, &fates, &sets)?;
+    let mut sets = remembered_by_fate(rt, alloc, tracked, pausing.remembered, &changes, workers)?;
+    let humongous = unnamed(alloc, pausing, &fates, &sets)?;
     let freed = humongous_regions(alloc, heap, &humongous)?;
     free(&mut fates, &freed);
     leave_all(heap, &fates, &freed, &mut sets);

@@ -13,10 +13,12 @@ ghost use Rattle.g1_copy.specs.Fates.{AreFates, fate_at};
 ghost use Rattle.g1_copy.specs.Remembered.{stays, IsJoined, AreSources, AreJoined, cards_at};
 
 use crate::cards_by_region::cards_by_region;
-use crate::copied_cards::copied_cards;
+use crate::copied_cards::{Copied, copied_cards};
 use crate::fates::{Fate, fates, stays};
+use crate::moving::Moving;
+use crate::pausing::heap_of;
 use g1_layout::Plan;
-use g1_rem::{MERGED_CARDS_A_THREAD, Tracked, cards_in, image, merged};
+use g1_rem::{MERGED_CARDS_A_THREAD, Tracked, cards_in, merged};
 use g1_words::{Fault, Heap};
 use g1_work::{MOST_WORKERS, Make, make_each, threads_for};
 use std::alloc::{AllocError, Global};
@@ -155,9 +157,17 @@ pub(crate) fn remembered_by_fate(
     ensures ok { IfOk result (λ v. map (λ s. s.items) v.items ≡ map (remembered_moved tracked.now changes.now.plan.now.set changes.now.plan.now.survivors (heap_moved tracked.now.heap changes.now.plan.now.set changes.now.plan.now.survivors)) (regions tracked.now.heap)) }
     ensures memory { IfErr result (λ e. e ≡ Fault.Memory) }
 {
-    let heap = image(tracked).heap();
+    let heap = heap_of(tracked);
     let outer = cards_by_region(alloc, heap, changes.patches)?;
-    let inner = copied_cards(rt, alloc, heap, changes.plan, changes.gathered, workers)?;
+    let moving = Moving {
+        heap,
+        plan: changes.plan,
+    };
+    let copied = Copied {
+        moving: &moving,
+        gathered: changes.gathered,
+    };
+    let inner = copied_cards(rt, alloc, &copied, workers)?;
     let joining = Joining {
         heap,
         fates: changes.fates,
@@ -219,7 +229,7 @@ pub fn new_rem(
     ensures ok { IfOk result (λ v. map (λ s. s.items) v.items ≡ map (remembered_moved tracked.now set.now plan.now.survivors (heap_moved tracked.now.heap set.now plan.now.survivors)) (regions tracked.now.heap)) }
     ensures memory { IfErr result (λ e. e ≡ Fault.Memory) }
 {
-    let fates = fates(alloc, image(tracked).heap(), set, plan)?;
+    let fates = fates(alloc, heap_of(tracked), set, plan)?;
     let changes = Changes {
         plan,
         fates: &fates,

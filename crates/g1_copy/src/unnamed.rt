@@ -7,17 +7,17 @@ ghost use Rattle.g1_words.specs.declared.region.Kind.TheVariants.{HumongousFirst
 ghost use Rattle.g1_after.specs.Made.{heap_moved};
 ghost use Rattle.g1_after.specs.Moved.{remembered_moved};
 ghost use Rattle.g1_after.specs.Unnamed.{lies_in, unnamed};
-ghost use Rattle.g1_rem.specs.Starts.{IsStartsOf, card_count};
+ghost use Rattle.g1_rem.specs.Starts.{card_count};
 ghost use Rattle.g1_copy.specs.Fates.{AreFates};
-ghost use Rattle.g1_copy.specs.Plans.{IsPauseOf};
 ghost use Rattle.g1_copy.specs.Remembered.{AreLeft, cards_at, left, stays};
 ghost use Rattle.g1_copy.specs.Unnamed.{is_naming, is_rooted, is_unnamed, humongous_regions};
 
 use crate::fates::{Fate, stays};
-use g1_layout::Plan;
-use g1_rem::{Starts, Tracked, image, leads_into};
+use crate::pausing::{Pausing, heap_of};
+use g1_rem::{Starts, leads_into};
 use g1_words::{Heap, Kind, Marks, Object, region_of, size_at};
 use std::alloc::{AllocError, Global};
+use std::marker::Model;
 
 /// Sets the marks of the regions in which a root references an object.
 fn mark_rooted(heap: &Heap, rooted: &mut Marks)
@@ -52,15 +52,25 @@ struct Naming<'a> {
     fates: &'a [Fate],
 }
 
+impl<'a> Model for Naming<'a> {
+    ghost use Rattle.std.specs.Prelude.{◌≡◌, length};
+    ghost use Rattle.g1_rem.specs.Starts.{IsStartsOf};
+    ghost use Rattle.g1_copy.specs.Unnamed.{Naming as NamingOf};
+
+    ghost Value = { NamingOf };
+
+    ghost view = { λ n. record { heap = n.heap.now; fates = n.fates.now } };
+
+    ghost invariant = { λ n. IsStartsOf n.heap.now n.starts.now × (length n.fates.now ≡ n.heap.now.geometry.n) };
+}
+
 /// Whether a slot on a card of the remembered set, outside the object's own regions, references the
 /// humongous object that begins in a region.
 fn names(alloc: Global, naming: &Naming<'_>, region: u32, object: &Object, card: u32) -> bool
-    requires starts { IsStartsOf naming.now.heap.now naming.now.starts.now }
-    requires fates { length naming.now.fates.now ≡ naming.now.heap.now.geometry.n }
-    requires object { object.now ≡ object_at naming.now.heap.now (start naming.now.heap.now region) }
+    requires object { object.now ≡ object_at naming.now.heap (start naming.now.heap region) }
     requires small { object.now.at + object.now.size < 2 ^ 64 }
-    requires card { card < card_count naming.now.heap.now }
-    ensures { result ≡ is_naming naming.now.heap.now naming.now.fates.now region card }
+    requires card { card < card_count naming.now.heap }
+    ensures { result ≡ is_naming naming.now.heap naming.now.fates region card }
 {
     let heap = naming.heap;
     let home = heap.geometry().region_of_card(card);
@@ -75,11 +85,9 @@ fn names(alloc: Global, naming: &Naming<'_>, region: u32, object: &Object, card:
 
 /// Whether one of the cards holds such a slot.
 fn one_names(alloc: Global, naming: &Naming<'_>, region: u32, cards: &[u32]) -> bool
-    requires starts { IsStartsOf naming.now.heap.now naming.now.starts.now }
-    requires fates { length naming.now.fates.now ≡ naming.now.heap.now.geometry.n }
-    requires region { region < naming.now.heap.now.geometry.n }
-    requires cards { All (λ c. c < card_count naming.now.heap.now) cards.now }
-    ensures { result ≡ list_any (is_naming naming.now.heap.now naming.now.fates.now region) cards.now }
+    requires region { region < naming.now.heap.geometry.n }
+    requires cards { All (λ c. c < card_count naming.now.heap) cards.now }
+    ensures { result ≡ list_any (is_naming naming.now.heap naming.now.fates region) cards.now }
 {
     let heap = naming.heap;
     let object = heap.words().header(heap.geometry().start(region));
@@ -99,13 +107,11 @@ fn is_unnamed(
     remembered: &[Vec<u32>],
     region: u32,
 ) -> bool
-    requires starts { IsStartsOf naming.now.heap.now naming.now.starts.now }
-    requires fates { length naming.now.fates.now ≡ naming.now.heap.now.geometry.n }
-    requires rooted { AreMarked (is_rooted naming.now.heap.now) (replicate naming.now.heap.now.geometry.n false) rooted.now }
-    requires one_each { length remembered.now ≡ naming.now.heap.now.geometry.n }
-    requires region { region < naming.now.heap.now.geometry.n }
-    requires cards { All (λ c. c < card_count naming.now.heap.now) (cards_at (map (λ s. s.items) remembered.now) region) }
-    ensures { result ≡ is_unnamed naming.now.heap.now naming.now.fates.now (map (λ s. s.items) remembered.now) region }
+    requires rooted { AreMarked (is_rooted naming.now.heap) (replicate naming.now.heap.geometry.n false) rooted.now }
+    requires one_each { length remembered.now ≡ naming.now.heap.geometry.n }
+    requires region { region < naming.now.heap.geometry.n }
+    requires cards { All (λ c. c < card_count naming.now.heap) (cards_at (map (λ s. s.items) remembered.now) region) }
+    ensures { result ≡ is_unnamed naming.now.heap naming.now.fates (map (λ s. s.items) remembered.now) region }
 {
     let at = region as usize;
     match naming.heap.region(region).kind {
@@ -123,12 +129,10 @@ fn unnamed_firsts(
     rooted: &Marks,
     remembered: &[Vec<u32>],
 ) -> Result<Vec<u32>, AllocError>
-    requires starts { IsStartsOf naming.now.heap.now naming.now.starts.now }
-    requires fates { length naming.now.fates.now ≡ naming.now.heap.now.geometry.n }
-    requires rooted { AreMarked (is_rooted naming.now.heap.now) (replicate naming.now.heap.now.geometry.n false) rooted.now }
-    requires one_each { length remembered.now ≡ naming.now.heap.now.geometry.n }
-    requires cards { (r : ℕ) → r < naming.now.heap.now.geometry.n → All (λ c. c < card_count naming.now.heap.now) (cards_at (map (λ s. s.items) remembered.now) r) }
-    ensures { IfOk result (λ v. v.items ≡ filter (is_unnamed naming.now.heap.now naming.now.fates.now (map (λ s. s.items) remembered.now)) (regions naming.now.heap.now)) }
+    requires rooted { AreMarked (is_rooted naming.now.heap) (replicate naming.now.heap.geometry.n false) rooted.now }
+    requires one_each { length remembered.now ≡ naming.now.heap.geometry.n }
+    requires cards { (r : ℕ) → r < naming.now.heap.geometry.n → All (λ c. c < card_count naming.now.heap) (cards_at (map (λ s. s.items) remembered.now) r) }
+    ensures { IfOk result (λ v. v.items ≡ filter (is_unnamed naming.now.heap naming.now.fates (map (λ s. s.items) remembered.now)) (regions naming.now.heap)) }
 {
     let mut firsts = Vec::new(alloc);
     for region in 0..naming.heap.geometry().regions() as u32 {
@@ -144,26 +148,22 @@ fn unnamed_firsts(
 /// the regions, the roots, the remembered cards of humongous regions and the slots on them.
 pub(crate) fn unnamed(
     alloc: Global,
-    tracked: &Tracked,
-    starts: &Starts,
-    plan: &Plan,
+    pausing: &Pausing<'_>,
     fates: &[Fate],
     remembered: &[Vec<u32>],
 ) -> Result<Vec<u32>, AllocError>
-    requires starts { IsStartsOf tracked.now.heap starts.now }
-    requires plan { IsPauseOf tracked.now.heap plan.now.set plan.now }
-    requires fates { AreFates tracked.now.heap plan.now.set (to_space tracked.now.heap plan.now.survivors) fates.now }
-    requires remembered { map (λ s. s.items) remembered.now ≡ map (remembered_moved tracked.now plan.now.set plan.now.survivors (heap_moved tracked.now.heap plan.now.set plan.now.survivors)) (regions tracked.now.heap) }
-    ensures { IfOk result (λ v. v.items ≡ map (λ o. region_of tracked.now.heap o.at) (unnamed (heap_moved tracked.now.heap plan.now.set plan.now.survivors))) }
+    requires fates { AreFates pausing.now.image.heap pausing.now.plan.set (to_space pausing.now.image.heap pausing.now.plan.survivors) fates.now }
+    requires remembered { let p = pausing.now.plan in map (λ s. s.items) remembered.now ≡ map (remembered_moved pausing.now.image p.set p.survivors (heap_moved pausing.now.image.heap p.set p.survivors)) (regions pausing.now.image.heap) }
+    ensures { IfOk result (λ v. v.items ≡ map (λ o. region_of pausing.now.image.heap o.at) (unnamed (heap_moved pausing.now.image.heap pausing.now.plan.set pausing.now.plan.survivors))) }
 {
     g1_after::laws::survivors_moved();
     g1_after::laws::named_by_cards();
-    let heap = image(tracked).heap();
+    let heap = heap_of(pausing.tracked);
     let mut rooted = Marks::none(alloc, heap.geometry().regions() as usize)?;
     mark_rooted(heap, &mut rooted);
     let naming = Naming {
         heap,
-        starts,
+        starts: pausing.starts,
         fates,
     };
     unnamed_firsts(alloc, &naming, &rooted, remembered)

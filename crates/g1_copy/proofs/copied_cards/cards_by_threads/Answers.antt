@@ -13,14 +13,14 @@ use Rattle.g1_copy.proofs.copied_cards.cards_by_threads.Goals as goal
 
 pub loop-part-init : goal.loop-part-init
 loop-part-init g c =
-    let h = c.args.copied.now.heap.now in
-    let count : c.regions.result ≡ c.args.copied.now.heap.now.geometry.n = c.regions.ensures.value ∙ ap (λ (g : Geometry). g.n) c.geometry.ensures.same in
-    c.in_ok-lists.ensures ∙ ap (λ n. replicate n []) count ∙ parts_none h c.args.copied.now.plan.now c.requires.plan c.geometry.ensures.valid c.max-size.result (linked_none h)
+    let h = c.args.copied.now.heap in
+    let count : c.regions.result ≡ c.args.copied.now.heap.geometry.n = c.regions.ensures.value ∙ ap (λ (g : Geometry). g.n) c.geometry.ensures.same in
+    c.in_ok-lists.ensures ∙ ap (λ n. replicate n []) count ∙ parts_none h c.args.copied.now.plan c.runs-runs.ensures.made c.geometry.ensures.valid c.max-size.result (linked_none h)
 
 pub append_each-requires : goal.append_each-requires
 append_each-requires g c =
-    let h = c.args.copied.now.heap.now in
-    let p = c.args.copied.now.plan.now in
+    let h = c.args.copied.now.heap in
+    let p = c.args.copied.now.plan in
     let size : ℕ = c.max-size.result in
     let i : ℕ = c.loop-part.part-index in
     let lt : c.loop-part.part-index < length c.in_ok-made.made.items = omega (arith, ap length c.deref-part-items.ensures.value, c.loop-part-test.true) in
@@ -36,8 +36,8 @@ append_each-requires g c =
 
 pub loop-part-preserved : goal.loop-part-preserved
 loop-part-preserved g c =
-    let h = c.args.copied.now.heap.now in
-    let p = c.args.copied.now.plan.now in
+    let h = c.args.copied.now.heap in
+    let p = c.args.copied.now.plan in
     let size : ℕ = c.max-size.result in
     let i : ℕ = c.loop-part.part-index in
     let lt : c.loop-part.part-index < length c.in_ok-made.made.items = omega (arith, ap length c.deref-part-items.ensures.value, c.loop-part-test.true) in
@@ -51,13 +51,13 @@ loop-part-preserved g c =
     let lists : length c.deref_mut.result.now ≡ h.geometry.n = sym (length-map c.deref_mut.result.now (λ s. s.items)) ∙ ap length old ∙ length-map-range_with_len _ 0 h.geometry.n in
     let count : length (map (λ s. s.items) c.append_each.new.lists) ≡ h.geometry.n = length-map c.append_each.new.lists (λ s. s.items) ∙ c.append_each.auto.lists ∙ lists in
     ap (map (λ s. s.items)) (with_items_is c.loop-part.lists c.append_each.new.lists (c.append_each.auto.lists ∙ c.deref_mut.ensures.len))
-    ∙ parts_more h p c.requires.plan c.geometry.ensures.valid size i (map (λ s. s.items) c.deref_mut.result.now) (map (λ s. s.items) c.deref.result.now) (map (λ s. s.items) c.append_each.new.lists) old more count
+    ∙ parts_more h p c.runs-runs.ensures.made c.geometry.ensures.valid size i (map (λ s. s.items) c.deref_mut.result.now) (map (λ s. s.items) c.deref.result.now) (map (λ s. s.items) c.append_each.new.lists) old more count
     (λ r less. c.in_ok-append_each.ensures r (omega (arith, less, long)))
 
 pub returns-clause-ok : goal.returns-clause-ok
 returns-clause-ok g c =
-    let h = c.args.copied.now.heap.now in
-    let p = c.args.copied.now.plan.now in
+    let h = c.args.copied.now.heap in
+    let p = c.args.copied.now.plan in
     let n : ℕ = length c.runs-runs.result.now in
     let size : ℕ = c.max-size.result in
     let some : 0 < c.max-size.result = omega (arith, c.max-size.ensures) in
@@ -65,6 +65,6 @@ returns-clause-ok g c =
     let long : length c.in_ok-made.made.items ≡ c.div_ceil-2.result =
     AllZip-long (λ j v. map (λ s. s.items) v.items ≡ part_cards h p size j) (range_with_len 0 c.div_ceil-2.result) c.in_ok-made.made.items c.in_ok-made.ensures.ok ∙ length-range_with_len 0 c.div_ceil-2.result in
     let end : c.loop-part.part-index ≡ c.div_ceil-2.result = omega (arith, long, ap length c.deref-part-items.ensures.value, c.loop-part-test.false, c.loop-part.auto.part-index-end) in
-    let reached : length c.args.copied.now.plan.now.runs ≤ c.loop-part.part-index * c.max-size.result =
-    subst (λ m. length p.runs ≤ m * size) (sym end) (omega (arith, covered, ap length c.runs-runs.ensures)) in
-    c.loop-part.invariant ∙ ap (cards_by_region h) (parts_all h p c.requires.plan c.geometry.ensures.valid size c.loop-part.part-index reached)
+    let reached : length c.args.copied.now.plan.runs ≤ c.loop-part.part-index * c.max-size.result =
+    subst (λ m. length p.runs ≤ m * size) (sym end) (omega (arith, covered, ap length c.runs-runs.ensures.same)) in
+    c.loop-part.invariant ∙ ap (cards_by_region h) (parts_all h p c.runs-runs.ensures.made c.geometry.ensures.valid size c.loop-part.part-index reached)

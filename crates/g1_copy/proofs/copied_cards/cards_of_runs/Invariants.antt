@@ -5,4 +5,4 @@ use Rattle.g1_copy.proofs.copied_cards.cards_of_runs.Given as goal
 
 abbrev pub invariant-loop-number : goal.invariant-loop-number
 invariant-loop-number l = map (λ s. s.items) l.lists.items
-    ≡ cards_by_region l.heap (copied_between l.heap l.plan.survivors (laid_before l.heap l.plan.survivors l.from) (laid_before l.heap l.plan.survivors l.number))
+    ≡ cards_by_region l.copied.heap (copied_between l.copied.heap l.copied.plan.survivors (laid_before l.copied.heap l.copied.plan.survivors l.from) (laid_before l.copied.heap l.copied.plan.survivors l.number))

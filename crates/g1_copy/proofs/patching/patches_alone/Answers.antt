@@ -12,14 +12,14 @@ pub loop-card-preserved : goal.loop-card-preserved
 loop-card-preserved c =
     let xs = c.args.cards.now in
     let i = c.loop-card.card-index in
-    pushed_more (λ c'. patches_at c.args.moves.now.heap.now c.args.moves.now.plan.now.survivors (slots_on c.args.moves.now.heap.now c')) [] c.loop-card.patches.items
+    pushed_more (λ c'. patches_at c.args.moves.now.heap c.args.moves.now.plan.survivors (slots_on c.args.moves.now.heap c')) [] c.loop-card.patches.items
     c.push_card.new.patches.items (take i xs) (get_or xs i 0) c.loop-card.invariant c.in_ok-push_card.ensures
-    ∙ ap (flat_map (λ c'. patches_at c.args.moves.now.heap.now c.args.moves.now.plan.now.survivors (slots_on c.args.moves.now.heap.now c'))) (sym (take_more xs i 0 c.loop-card-test.true))
+    ∙ ap (flat_map (λ c'. patches_at c.args.moves.now.heap c.args.moves.now.plan.survivors (slots_on c.args.moves.now.heap c'))) (sym (take_more xs i 0 c.loop-card-test.true))
 
 pub returns : goal.returns
 returns c =
     c.loop-card.invariant
-    ∙ ap (patches_by_card c.args.moves.now.heap.now c.args.moves.now.plan.now.survivors) (take_whole c.args.cards.now c.loop-card.card-index c.loop-card-test.false)
+    ∙ ap (patches_by_card c.args.moves.now.heap c.args.moves.now.plan.survivors) (take_whole c.args.cards.now c.loop-card.card-index c.loop-card-test.false)
 
 pub loop-card-smaller : goal.loop-card-smaller
 loop-card-smaller c = omega (arith, c.loop-card-test.true)

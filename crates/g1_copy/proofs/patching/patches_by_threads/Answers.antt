@@ -7,8 +7,8 @@ use Rattle.g1_copy.proofs.patching.patches_by_threads.Goals as goal
 
 pub loop-part-preserved : goal.loop-part-preserved
 loop-part-preserved g c =
-    let h = c.args.moves.now.heap.now in
-    let l = c.args.moves.now.plan.now.survivors in
+    let h = c.args.moves.now.heap in
+    let l = c.args.moves.now.plan.survivors in
     let i = c.loop-part.part-index in
     let size = c.max-size.result in
     let lt : i < length c.in_ok-parts.parts.items = omega (arith, ap length c.deref-part-items.ensures.value, c.loop-part-test.true) in
@@ -23,4 +23,4 @@ pub returns : goal.returns
 returns g c =
     let whole = all_chunks c.args.cards.now c.max-size.result c.loop-part.part-index
     (omega (arith, c.max-size.ensures)) (omega (arith, ap length c.deref-part-items.ensures.value, c.loop-part-test.false, c.loop-part.auto.part-index-end, c.in_ok-parts.ensures.len)) in
-    c.loop-part.invariant ∙ ap (patches_by_card c.args.moves.now.heap.now c.args.moves.now.plan.now.survivors) whole
+    c.loop-part.invariant ∙ ap (patches_by_card c.args.moves.now.heap c.args.moves.now.plan.survivors) whole
