@@ -7,50 +7,51 @@ use Rattle.g1_same.specs.declared.difference.How.{How}
 use Rattle.g1_same.specs.declared.difference.How.TheVariants.{NullBefore, Data}
 use Rattle.g1_same.proofs.Adding.{IsAdded, pairs_fit}
 use Rattle.g1_same.proofs.Behind.{new_pair, passed_walk, passed_below, passed_linked}
+use Rattle.g1_same.proofs.Held.{before_valid, after_valid}
 use Rattle.g1_same.proofs.differences.go_behind.Goals as goal
 
 pub overflow_sub-place : goal.overflow_sub-place
 overflow_sub-place c =
-    let g : Heap = c.args.before.now in
-    let h : Heap = c.args.after.now in
+    let g : Heap = c.args.heaps.before.now in
+    let h : Heap = c.args.heaps.after.now in
     let d : Found = c.args.found.now in
-    let p = new_pair g h c.requires.stale.0 c.args.walk.now d _ c.valid.ensures c.valid-2.ensures c.requires.walk c.requires.stale.1 (c.in-How.is ∙ ap what.How c.in-Data.is) in
+    let p = new_pair g h c.requires.stale.0 c.args.walk.now d _ (before_valid c.args.heaps) (after_valid c.args.heaps) c.requires.walk c.requires.stale.1 (c.in-How.is ∙ ap what.How c.in-Data.is) in
     omega (arith, p.x_is)
 
 pub overflow_sub-place-in-Data : goal.overflow_sub-place-in-Data
 overflow_sub-place-in-Data c =
-    let g : Heap = c.args.before.now in
-    let h : Heap = c.args.after.now in
+    let g : Heap = c.args.heaps.before.now in
+    let h : Heap = c.args.heaps.after.now in
     let d : Found = c.args.found.now in
-    let p = new_pair g h c.requires.stale.0 c.args.walk.now d _ c.valid.ensures c.valid-2.ensures c.requires.walk c.requires.stale.1 (c.in-How.is ∙ ap what.How c.in-Data.is) in
+    let p = new_pair g h c.requires.stale.0 c.args.walk.now d _ (before_valid c.args.heaps) (after_valid c.args.heaps) c.requires.walk c.requires.stale.1 (c.in-How.is ∙ ap what.How c.in-Data.is) in
     omega (arith, p.y_is)
 
 pub add-requires-clause-a : goal.add-requires-clause-a
 add-requires-clause-a c =
-    let g : Heap = c.args.before.now in
-    let h : Heap = c.args.after.now in
+    let g : Heap = c.args.heaps.before.now in
+    let h : Heap = c.args.heaps.after.now in
     let d : Found = c.args.found.now in
-    let p = new_pair g h c.requires.stale.0 c.args.walk.now d _ c.valid.ensures c.valid-2.ensures c.requires.walk c.requires.stale.1 (c.in-How.is ∙ ap what.How c.in-Data.is) in
+    let p = new_pair g h c.requires.stale.0 c.args.walk.now d _ (before_valid c.args.heaps) (after_valid c.args.heaps) c.requires.walk c.requires.stale.1 (c.in-How.is ∙ ap what.How c.in-Data.is) in
     p.a_lt
 
 pub add-requires-clause-b : goal.add-requires-clause-b
 add-requires-clause-b c =
-    let g : Heap = c.args.before.now in
-    let h : Heap = c.args.after.now in
+    let g : Heap = c.args.heaps.before.now in
+    let h : Heap = c.args.heaps.after.now in
     let d : Found = c.args.found.now in
-    let p = new_pair g h c.requires.stale.0 c.args.walk.now d _ c.valid.ensures c.valid-2.ensures c.requires.walk c.requires.stale.1 (c.in-How.is ∙ ap what.How c.in-Data.is) in
+    let p = new_pair g h c.requires.stale.0 c.args.walk.now d _ (before_valid c.args.heaps) (after_valid c.args.heaps) c.requires.walk c.requires.stale.1 (c.in-How.is ∙ ap what.How c.in-Data.is) in
     p.b_lt
 
 pub add-requires-clause-few : goal.add-requires-clause-few
 add-requires-clause-few c =
-    pairs_fit c.args.before.now c.args.after.now c.args.walk.now c.valid.ensures c.requires.walk
+    pairs_fit c.args.heaps.before.now c.args.heaps.after.now c.args.walk.now (before_valid c.args.heaps) c.requires.walk
 
 pub returns-in-Data-clause-walk : goal.returns-in-Data-clause-walk
 returns-in-Data-clause-walk c =
-    let g : Heap = c.args.before.now in
-    let h : Heap = c.args.after.now in
+    let g : Heap = c.args.heaps.before.now in
+    let h : Heap = c.args.heaps.after.now in
     let d : Found = c.args.found.now in
-    let p = new_pair g h c.requires.stale.0 c.args.walk.now d _ c.valid.ensures c.valid-2.ensures c.requires.walk c.requires.stale.1 (c.in-How.is ∙ ap what.How c.in-Data.is) in
+    let p = new_pair g h c.requires.stale.0 c.args.walk.now d _ (before_valid c.args.heaps) (after_valid c.args.heaps) c.requires.walk c.requires.stale.1 (c.in-How.is ∙ ap what.How c.in-Data.is) in
     let e : IsAdded c.args.walk.now c.add.new.self d.place.way.from d.place.way.number (d.place.before - 1) (d.place.after - 1) = record {
       before = c.in_ok-add.ensures.before;
       after = c.in_ok-add.ensures.after;
@@ -63,10 +64,10 @@ returns-in-Data-clause-walk c =
 
 pub returns-in-Data-clause-below : goal.returns-in-Data-clause-below
 returns-in-Data-clause-below c =
-    let g : Heap = c.args.before.now in
-    let h : Heap = c.args.after.now in
+    let g : Heap = c.args.heaps.before.now in
+    let h : Heap = c.args.heaps.after.now in
     let d : Found = c.args.found.now in
-    let p = new_pair g h c.requires.stale.0 c.args.walk.now d _ c.valid.ensures c.valid-2.ensures c.requires.walk c.requires.stale.1 (c.in-How.is ∙ ap what.How c.in-Data.is) in
+    let p = new_pair g h c.requires.stale.0 c.args.walk.now d _ (before_valid c.args.heaps) (after_valid c.args.heaps) c.requires.walk c.requires.stale.1 (c.in-How.is ∙ ap what.How c.in-Data.is) in
     let e : IsAdded c.args.walk.now c.add.new.self d.place.way.from d.place.way.number (d.place.before - 1) (d.place.after - 1) = record {
       before = c.in_ok-add.ensures.before;
       after = c.in_ok-add.ensures.after;
@@ -79,10 +80,10 @@ returns-in-Data-clause-below c =
 
 pub returns-in-Data-clause-passed : goal.returns-in-Data-clause-passed
 returns-in-Data-clause-passed c =
-    let g : Heap = c.args.before.now in
-    let h : Heap = c.args.after.now in
+    let g : Heap = c.args.heaps.before.now in
+    let h : Heap = c.args.heaps.after.now in
     let d : Found = c.args.found.now in
-    let p = new_pair g h c.requires.stale.0 c.args.walk.now d _ c.valid.ensures c.valid-2.ensures c.requires.walk c.requires.stale.1 (c.in-How.is ∙ ap what.How c.in-Data.is) in
+    let p = new_pair g h c.requires.stale.0 c.args.walk.now d _ (before_valid c.args.heaps) (after_valid c.args.heaps) c.requires.walk c.requires.stale.1 (c.in-How.is ∙ ap what.How c.in-Data.is) in
     let e : IsAdded c.args.walk.now c.add.new.self d.place.way.from d.place.way.number (d.place.before - 1) (d.place.after - 1) = record {
       before = c.in_ok-add.ensures.before;
       after = c.in_ok-add.ensures.after;

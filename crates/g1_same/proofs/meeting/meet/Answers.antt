@@ -2,6 +2,7 @@ use Rattle.std.proofs.Common.{arith, subst, sym, suc, inl, ℕ, ◌≡◌, ◌�
 use Rattle.std.proofs.lemmas.List.{get_or_read}
 use Rattle.g1_same.specs.Walk.{IsPaired, IsSeen, IsLeast}
 use Rattle.g1_same.proofs.Words.{named, named_below, known_here, split_here, joined_here, seen_of, new_before, new_after, least_of}
+use Rattle.g1_same.proofs.Held.{before_valid, after_valid}
 use Rattle.g1_same.proofs.meeting.meet.Goals as goal
 
 some : (n : ℕ) → n ≢ 0 → n ≡ suc (n - 1)
@@ -9,23 +10,23 @@ some n h = omega arith
 
 pub index-i-requires : goal.index-i-requires
 index-i-requires c =
-    let g = c.args.before.now in
-    let k = named_below g c.args.x c.valid.ensures c.if-x-eq0.false c.requires.x in
+    let g = c.args.heaps.before.now in
+    let k = named_below g c.args.x (before_valid c.args.heaps) c.if-x-eq0.false c.requires.x in
     omega (arith, k, c.requires.walk.table_before, c.args.walk.now.new_of.ok)
 
 pub index-j-requires : goal.index-j-requires
 index-j-requires c =
-    let h = c.args.after.now in
-    let k = named_below h c.args.y c.valid-2.ensures c.if-y-eq0-2.false c.requires.y in
+    let h = c.args.heaps.after.now in
+    let k = named_below h c.args.y (after_valid c.args.heaps) c.if-y-eq0-2.false c.requires.y in
     omega (arith, k, c.requires.walk.table_after, c.args.walk.now.old_of.ok)
 
 pub index-requires : goal.index-requires
 index-requires c =
-    let g = c.args.before.now in
-    let h = c.args.after.now in
+    let g = c.args.heaps.before.now in
+    let h = c.args.heaps.after.now in
     let w = c.args.walk.now in
-    let left = c.valid.ensures in
-    let right = c.valid-2.ensures in
+    let left = (before_valid c.args.heaps) in
+    let right = (after_valid c.args.heaps) in
     let x_lt : c.args.x - 1 < length w.new_of.items = let k = named_below g c.args.x left c.if-x-eq0.false c.requires.x in omega (arith, k, c.requires.walk.table_before) in
     let y_lt : c.args.y - 1 < length w.old_of.items = let k = named_below h c.args.y right c.if-y-eq0-2.false c.requires.y in omega (arith, k, c.requires.walk.table_after) in
     let is_i : c.index-i.result.now ≡ slice_index w.new_of.items (c.args.x - 1) = get_or_read w.new_of.items (c.args.x - 1) c.index-i.result.now x_lt c.index-i.ensures 0 in
@@ -37,11 +38,11 @@ index-requires c =
 
 pub returns-then-i-ne0 : goal.returns-then-i-ne0
 returns-then-i-ne0 c =
-    let g = c.args.before.now in
-    let h = c.args.after.now in
+    let g = c.args.heaps.before.now in
+    let h = c.args.heaps.after.now in
     let w = c.args.walk.now in
-    let left = c.valid.ensures in
-    let right = c.valid-2.ensures in
+    let left = (before_valid c.args.heaps) in
+    let right = (after_valid c.args.heaps) in
     let x_lt : c.args.x - 1 < length w.new_of.items = let k = named_below g c.args.x left c.if-x-eq0.false c.requires.x in omega (arith, k, c.requires.walk.table_before) in
     let y_lt : c.args.y - 1 < length w.old_of.items = let k = named_below h c.args.y right c.if-y-eq0-2.false c.requires.y in omega (arith, k, c.requires.walk.table_after) in
     let is_i : c.index-i.result.now ≡ slice_index w.new_of.items (c.args.x - 1) = get_or_read w.new_of.items (c.args.x - 1) c.index-i.result.now x_lt c.index-i.ensures 0 in
@@ -55,11 +56,11 @@ returns-then-i-ne0 c =
 
 pub index-requires-then-i-j : goal.index-requires-then-i-j
 index-requires-then-i-j c =
-    let g = c.args.before.now in
-    let h = c.args.after.now in
+    let g = c.args.heaps.before.now in
+    let h = c.args.heaps.after.now in
     let w = c.args.walk.now in
-    let left = c.valid.ensures in
-    let right = c.valid-2.ensures in
+    let left = (before_valid c.args.heaps) in
+    let right = (after_valid c.args.heaps) in
     let x_lt : c.args.x - 1 < length w.new_of.items = let k = named_below g c.args.x left c.if-x-eq0.false c.requires.x in omega (arith, k, c.requires.walk.table_before) in
     let y_lt : c.args.y - 1 < length w.old_of.items = let k = named_below h c.args.y right c.if-y-eq0-2.false c.requires.y in omega (arith, k, c.requires.walk.table_after) in
     let is_i : c.index-i.result.now ≡ slice_index w.new_of.items (c.args.x - 1) = get_or_read w.new_of.items (c.args.x - 1) c.index-i.result.now x_lt c.index-i.ensures 0 in
@@ -71,11 +72,11 @@ index-requires-then-i-j c =
 
 pub returns-then-i-j : goal.returns-then-i-j
 returns-then-i-j c =
-    let g = c.args.before.now in
-    let h = c.args.after.now in
+    let g = c.args.heaps.before.now in
+    let h = c.args.heaps.after.now in
     let w = c.args.walk.now in
-    let left = c.valid.ensures in
-    let right = c.valid-2.ensures in
+    let left = (before_valid c.args.heaps) in
+    let right = (after_valid c.args.heaps) in
     let x_lt : c.args.x - 1 < length w.new_of.items = let k = named_below g c.args.x left c.if-x-eq0.false c.requires.x in omega (arith, k, c.requires.walk.table_before) in
     let y_lt : c.args.y - 1 < length w.old_of.items = let k = named_below h c.args.y right c.if-y-eq0-2.false c.requires.y in omega (arith, k, c.requires.walk.table_after) in
     let is_i : c.index-i.result.now ≡ slice_index w.new_of.items (c.args.x - 1) = get_or_read w.new_of.items (c.args.x - 1) c.index-i.result.now x_lt c.index-i.ensures 0 in
@@ -92,11 +93,11 @@ returns-then-i-j c =
 
 pub returns-then-i-ne0-2 : goal.returns-then-i-ne0-2
 returns-then-i-ne0-2 c =
-    let g = c.args.before.now in
-    let h = c.args.after.now in
+    let g = c.args.heaps.before.now in
+    let h = c.args.heaps.after.now in
     let w = c.args.walk.now in
-    let left = c.valid.ensures in
-    let right = c.valid-2.ensures in
+    let left = (before_valid c.args.heaps) in
+    let right = (after_valid c.args.heaps) in
     let x_lt : c.args.x - 1 < length w.new_of.items = let k = named_below g c.args.x left c.if-x-eq0.false c.requires.x in omega (arith, k, c.requires.walk.table_before) in
     let y_lt : c.args.y - 1 < length w.old_of.items = let k = named_below h c.args.y right c.if-y-eq0-2.false c.requires.y in omega (arith, k, c.requires.walk.table_after) in
     let is_i : c.index-i.result.now ≡ slice_index w.new_of.items (c.args.x - 1) = get_or_read w.new_of.items (c.args.x - 1) c.index-i.result.now x_lt c.index-i.ensures 0 in
@@ -108,11 +109,11 @@ returns-then-i-ne0-2 c =
 
 pub returns-in-Some : goal.returns-in-Some
 returns-in-Some c =
-    let g = c.args.before.now in
-    let h = c.args.after.now in
+    let g = c.args.heaps.before.now in
+    let h = c.args.heaps.after.now in
     let w = c.args.walk.now in
-    let left = c.valid.ensures in
-    let right = c.valid-2.ensures in
+    let left = (before_valid c.args.heaps) in
+    let right = (after_valid c.args.heaps) in
     let x_lt : c.args.x - 1 < length w.new_of.items = let k = named_below g c.args.x left c.if-x-eq0.false c.requires.x in omega (arith, k, c.requires.walk.table_before) in
     let y_lt : c.args.y - 1 < length w.old_of.items = let k = named_below h c.args.y right c.if-y-eq0-2.false c.requires.y in omega (arith, k, c.requires.walk.table_after) in
     let is_i : c.index-i.result.now ≡ slice_index w.new_of.items (c.args.x - 1) = get_or_read w.new_of.items (c.args.x - 1) c.index-i.result.now x_lt c.index-i.ensures 0 in
@@ -149,7 +150,7 @@ pub overflow_sub-j : goal.overflow_sub-j
 overflow_sub-j c = omega (arith, c.if-i-j.true, c.if-i-ne0.false)
 
 pub objects_differ-requires-clause-a : goal.objects_differ-requires-clause-a
-objects_differ-requires-clause-a c = named c.args.before.now c.args.x c.valid.ensures c.if-x-eq0.false c.requires.x
+objects_differ-requires-clause-a c = named c.args.heaps.before.now c.args.x (before_valid c.args.heaps) c.if-x-eq0.false c.requires.x
 
 pub objects_differ-requires-clause-b : goal.objects_differ-requires-clause-b
-objects_differ-requires-clause-b c = named c.args.after.now c.args.y c.valid-2.ensures c.if-y-eq0-2.false c.requires.y
+objects_differ-requires-clause-b c = named c.args.heaps.after.now c.args.y (after_valid c.args.heaps) c.if-y-eq0-2.false c.requires.y
