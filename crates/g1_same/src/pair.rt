@@ -1,4 +1,3 @@
-ghost use Rattle.std.specs.Prelude.{◌≡◌};
 ghost use Rattle.g1_words.specs.Valid.{IsValid};
 
 use g1_words::Heap;
@@ -8,8 +7,9 @@ use g1_words::Heap;
 pub struct Pair<'a> {
     pub before: &'a Heap,
     pub after: &'a Heap,
-    ghost valid_before: { ∥ IsValid before.now ∥₁ },
-    ghost valid_after: { ∥ IsValid after.now ∥₁ },
+    // A fact that a type carries has one proof: so it only says that there is one.
+    pub ghost valid_before: { ∥ IsValid before.now ∥₁ },
+    pub ghost valid_after: { ∥ IsValid after.now ∥₁ },
 }
 
 impl<'a> Pair<'a> {

@@ -1,6 +1,7 @@
-use Rattle.std.proofs.Common.{arith, ap, subst, sym, inl, inr, ℕ, ◌<◌, ◌+◌, length, slice_index}
+use Rattle.std.proofs.Common.{arith, ap, subst, sym, inl, inr, ℕ, List, ◌≡◌, ◌<◌, ◌+◌, length, slice_index}
 use Rattle.g1_words.specs.Heap.{Heap}
 use Rattle.g1_words.specs.Valid.{IsReference}
+use Rattle.g1_same.specs.declared.pair.Pair.{Pair}
 use Rattle.g1_same.specs.declared.walk.Walk.{Walk}
 use Rattle.g1_same.specs.declared.difference.How.{How}
 use Rattle.g1_same.specs.Walk.{IsEarlier, IsLinked, IsWay, IsBelow, IsSeen, IsLeast}
@@ -16,6 +17,16 @@ use Rattle.g1_same.proofs.searching.link_roots.Goals as goal
 earlier_root : (p q n : ℕ) → IsEarlier p q 0 n → IsEarlier p q 1 0
 earlier_root p q n (inl lt) = inl (omega (arith, lt))
 earlier_root p q n (inr e) = inl (omega (arith, e.0))
+
+-- roots of both heaps stand at a way
+root_way : (p : Pair) (w : Walk) (n : ℕ) {xs ys : List ℕ} → xs ≡ p.before.now.roots → ys ≡ p.after.now.roots → n < length xs → n < length ys
+    → IsWay p.before.now p.after.now w.before.items w.after.items 0 n (slice_index xs n) (slice_index ys n)
+root_way p w n same alike old new = (
+  subst (λ l. n < length l) same old,
+  subst (λ l. n < length l) alike new,
+  ap (λ l. slice_index l n) (sym same),
+  ap (λ l. slice_index l n) (sym alike),
+)
 
 pub link-requires-clause-x : goal.link-requires-clause-x
 link-requires-clause-x c =
@@ -39,13 +50,7 @@ link-requires-clause-backward c = omega arith
 pub link-requires-clause-way : goal.link-requires-clause-way
 link-requires-clause-way c =
     let n : ℕ = c.loop-number.number in
-    let roots = ap length c.roots-roots.ensures in
-    let others = ap length c.roots-others.ensures in (
-      omega (arith, c.loop-number-test.true, c.min-end.ensures, roots),
-      omega (arith, c.loop-number-test.true, c.min-end.ensures, others),
-      ap (λ l. slice_index l n) (sym c.roots-roots.ensures),
-      ap (λ l. slice_index l n) (sym c.roots-others.ensures),
-    )
+    root_way c.args.heaps c.loop-number.walk n c.roots-roots.ensures c.roots-others.ensures (omega (arith, c.loop-number-test.true, c.min-end.ensures)) (omega (arith, c.loop-number-test.true, c.min-end.ensures))
 
 pub loop-number-preserved : goal.loop-number-preserved
 loop-number-preserved c =
@@ -56,14 +61,7 @@ loop-number-preserved c =
     let n : ℕ = c.loop-number.number in
     let x : ℕ = slice_index c.roots-roots.result.now n in
     let y : ℕ = slice_index c.roots-others.result.now n in
-    let roots = ap length c.roots-roots.ensures in
-    let others = ap length c.roots-others.ensures in
-    let way : IsWay g h v.before.items v.after.items 0 n x y = (
-      omega (arith, c.loop-number-test.true, c.min-end.ensures, roots),
-      omega (arith, c.loop-number-test.true, c.min-end.ensures, others),
-      ap (λ l. slice_index l n) (sym c.roots-roots.ensures),
-      ap (λ l. slice_index l n) (sym c.roots-others.ensures),
-    ) in
+    let way : IsWay g h v.before.items v.after.items 0 n x y = root_way c.args.heaps v n c.roots-roots.ensures c.roots-others.ensures (omega (arith, c.loop-number-test.true, c.min-end.ensures)) (omega (arith, c.loop-number-test.true, c.min-end.ensures)) in
     let l : IsLinked v 0 n x y = none_then (IsLinked v 0 n x y) c.in_ok-how.field-0 c.in_default-2.not-Some c.in_ok-how.ensures.linked in
     let grown = c.in_ok-how.ensures.grown in
     record {
@@ -174,17 +172,8 @@ returns-in-Some-clause-found c =
     let g : Heap = c.args.heaps.before.now in
     let h : Heap = c.args.heaps.after.now in
     let n : ℕ = c.loop-number.number in
-    let x : ℕ = slice_index c.roots-roots.result.now n in
-    let y : ℕ = slice_index c.roots-others.result.now n in
-    let roots = ap length c.roots-roots.ensures in
-    let others = ap length c.roots-others.ensures in
     subst (IsFound g h c.args.stale.now c.loop-number.walk) (sym c.found_at.ensures) (record {
-      way = (
-        omega (arith, c.loop-number-test.true, c.min-end.ensures, roots),
-        omega (arith, c.loop-number-test.true, c.min-end.ensures, others),
-        ap (λ l. slice_index l n) (sym c.roots-roots.ensures),
-        ap (λ l. slice_index l n) (sym c.roots-others.ensures),
-      );
+      way = root_way c.args.heaps c.loop-number.walk n c.roots-roots.ensures c.roots-others.ensures (omega (arith, c.loop-number-test.true, c.min-end.ensures)) (omega (arith, c.loop-number-test.true, c.min-end.ensures));
       below = c.loop-number.invariant.below;
       differs = (c.in-Some.ensures.there, c.in-Some.ensures.null);
     })
@@ -196,17 +185,10 @@ returns-in-Some-2-clause-found c =
     let n : ℕ = c.loop-number.number in
     let x : ℕ = slice_index c.roots-roots.result.now n in
     let y : ℕ = slice_index c.roots-others.result.now n in
-    let roots = ap length c.roots-roots.ensures in
-    let others = ap length c.roots-others.ensures in
     let v : Walk = c.link.new.walk in
     let k = some_then (λ (how : How). IsSeen g h v how x y × IsBelow v 0 n × IsLeast g h v how x y) c.in_ok-how.field-0 c.in-Some-2.how c.in-Some-2.is c.in_ok-how.ensures.clash in
     subst (IsFound g h c.args.stale.now v) (sym c.found_at-in-Some-2.ensures) (record {
-      way = (
-        omega (arith, c.loop-number-test.true, c.min-end.ensures, roots),
-        omega (arith, c.loop-number-test.true, c.min-end.ensures, others),
-        ap (λ l. slice_index l n) (sym c.roots-roots.ensures),
-        ap (λ l. slice_index l n) (sym c.roots-others.ensures),
-      );
+      way = root_way c.args.heaps v n c.roots-roots.ensures c.roots-others.ensures (omega (arith, c.loop-number-test.true, c.min-end.ensures)) (omega (arith, c.loop-number-test.true, c.min-end.ensures));
       below = k.1;
       differs = (k.0, k.2);
     })
@@ -224,14 +206,7 @@ returns-in-Some-2-clause-no_stale c =
     let n : ℕ = c.loop-number.number in
     let x : ℕ = slice_index c.roots-roots.result.now n in
     let y : ℕ = slice_index c.roots-others.result.now n in
-    let roots = ap length c.roots-roots.ensures in
-    let others = ap length c.roots-others.ensures in
-    let way : IsWay g h v.before.items v.after.items 0 n x y = (
-      omega (arith, c.loop-number-test.true, c.min-end.ensures, roots),
-      omega (arith, c.loop-number-test.true, c.min-end.ensures, others),
-      ap (λ l. slice_index l n) (sym c.roots-roots.ensures),
-      ap (λ l. slice_index l n) (sym c.roots-others.ensures),
-    ) in
+    let way : IsWay g h v.before.items v.after.items 0 n x y = root_way c.args.heaps v n c.roots-roots.ensures c.roots-others.ensures (omega (arith, c.loop-number-test.true, c.min-end.ensures)) (omega (arith, c.loop-number-test.true, c.min-end.ensures)) in
     subst (IsNextStale g h c.args.stale.now v 0 c.args.first) (sym c.found_at-in-Some-2.ensures) (
     passes_step g h c.args.stale.now v 0 c.args.first 0 n x y
     (passes_kept g h c.args.stale.now w v 0 c.args.first 0 n c.in_ok-how.ensures.grown (omega arith) c.loop-number.invariant.passed) way
