@@ -54,7 +54,7 @@ module _ (g h : Heap) (left : IsValid g) (right : IsValid h) (w : Walk) (walk : 
   met_objects a b a_lt b_lt =
       let i : ℕ = slice_index w.new_of.items a in
       let j : ℕ = slice_index w.old_of.items b in
-      let read : IsRead w a b i j = record { a_lt = a_lt; b_lt = b_lt; is_i = refl; is_j = refl } in
+      let read : IsRead w.new_of.items w.old_of.items a b i j = record { a_lt = a_lt; b_lt = b_lt; is_i = refl; is_j = refl } in
       elim (decided_eq i j) [
         | inr other ↦ elim (decided_eq i 0) [
           | inr some ↦
@@ -74,7 +74,7 @@ module _ (g h : Heap) (left : IsValid g) (right : IsValid h) (w : Walk) (walk : 
       new_objects i_none j_none = elim (compared g h a b) [
         | inl alike ↦ (New a b, (refl, refl, i_none, j_none, alike))
         | inr d ↦
-            let read : IsRead w a b (slice_index w.new_of.items a) (slice_index w.old_of.items b) = record { a_lt = a_lt; b_lt = b_lt; is_i = refl; is_j = refl } in
+            let read : IsRead w.new_of.items w.old_of.items a b (slice_index w.new_of.items a) (slice_index w.old_of.items b) = record { a_lt = a_lt; b_lt = b_lt; is_i = refl; is_j = refl } in
             let old = new_before walk read i_none in
             let new = new_after walk read j_none in
             (Clash d.0, (seen_of g h w (suc a) (suc b) d.0 d.1, least_of g h w a b d.0 d.1 old new d.2))

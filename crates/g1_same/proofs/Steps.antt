@@ -114,7 +114,7 @@ pub record IsPair (g h : Heap) (w : Walk) (i a b : ℕ) : Type 0 where
   pub after : slice_index w.after.items i ≡ b
   pub before_in : Contains (objects g) (object_at g a)
   pub after_in : Contains (objects h) (object_at h b)
-  pub refs : (object_at g a).refs ≡ (object_at h b).refs
+  pub header : word g a ≡ word h b
 
 pub pair_read : (p : Pair) (w : Walk) (f : ℕ) {a b : ℕ} → IsTour p.before.now p.after.now w → 0 < f → f ≤ length w.before.items
     → a ≡ get_or w.before.items (f - 1) a → b ≡ get_or w.after.items (f - 1) b → IsPair p.before.now p.after.now w (f - 1) a b
@@ -128,44 +128,56 @@ pair_read p w f {a = a} {b = b} walk some within read_a read_b =
       after = sym b_is;
       before_in = subst (λ z. Contains (objects p.before.now) (object_at p.before.now z)) (sym a_is) (walk.names_before (f - 1) lt);
       after_in = subst (λ z. Contains (objects p.after.now) (object_at p.after.now z)) (sym b_is) (walk.names_after (f - 1) lt);
-      refs = ap (λ q. q % 2 ^ 32) (ap (word p.before.now) a_is ∙ walk.alike (f - 1) lt ∙ ap (word p.after.now) (sym b_is));
+      header = ap (word p.before.now) a_is ∙ walk.alike (f - 1) lt ∙ ap (word p.after.now) (sym b_is);
     }
 
--- the pair before place f is of these two objects, and the lists have their slots
-pub record IsRow (p : Pair) (w : Walk) (f a b : ℕ) (olds news : List ℕ) : Type 0 where
-  pub some : 0 < f
-  pub pair : IsPair p.before.now p.after.now w (f - 1) a b
+-- the lists have the slots of two objects, which have as many
+pub record AreRead (p : Pair) (a b : ℕ) (olds news : List ℕ) : Type 0 where
+  pub before_in : Contains (objects p.before.now) (object_at p.before.now a)
+  pub after_in : Contains (objects p.after.now) (object_at p.after.now b)
+  pub refs : (object_at p.before.now a).refs ≡ (object_at p.after.now b).refs
   pub here : HasSlots p.before.now a olds
   pub there : HasSlots p.after.now b news
 
-pub row_read : (p : Pair) (w : Walk) (f : ℕ) {a b : ℕ} {o q : Object} (olds news : List ℕ) → IsTour p.before.now p.after.now w → 0 < f → f ≤ length w.before.items
-    → a ≡ get_or w.before.items (f - 1) a → b ≡ get_or w.after.items (f - 1) b → o ≡ object_at p.before.now a → q ≡ object_at p.after.now b
+pub slots_read : (p : Pair) (a b : ℕ) {o q : Object} (olds news : List ℕ) → Contains (objects p.before.now) (object_at p.before.now a) → Contains (objects p.after.now) (object_at p.after.now b)
+    → word p.before.now a ≡ word p.after.now b → o ≡ object_at p.before.now a → q ≡ object_at p.after.now b
     → length olds ≡ o.refs → ((i : ℕ) → i < o.refs → slice_index olds i ≡ word p.before.now (o.at + 1 + i))
-    → length news ≡ q.refs → ((i : ℕ) → i < q.refs → slice_index news i ≡ word p.after.now (q.at + 1 + i)) → IsRow p w f a b olds news
-row_read p w f {a = a} {b = b} {o = o} {q = q} olds news walk some within read_a read_b is_o is_q old_count old_each new_count new_each = record {
-  some = some;
-  pair = pair_read p w f walk some within read_a read_b;
+    → length news ≡ q.refs → ((i : ℕ) → i < q.refs → slice_index news i ≡ word p.after.now (q.at + 1 + i)) → AreRead p a b olds news
+slots_read p a b {o = o} {q = q} olds news before_in after_in header is_o is_q old_count old_each new_count new_each = record {
+  before_in = before_in;
+  after_in = after_in;
+  refs = ap (λ x. x % 2 ^ 32) header;
   here = has_slots p.before.now a o olds is_o old_count old_each;
   there = has_slots p.after.now b q news is_q new_count new_each;
 }
 
-module _ {p : Pair} {w : Walk} {f a b : ℕ} {olds news : List ℕ} (row : IsRow p w f a b olds news) (n : ℕ) (lt : n < length olds) where
-  pub row_below : n < length news
-  row_below = omega (arith, lt, row.here.count, row.pair.refs, row.there.count)
+module _ {p : Pair} {a b : ℕ} {olds news : List ℕ} (read : AreRead p a b olds news) (n : ℕ) (lt : n < length olds) where
+  pub below_new : n < length news
+  below_new = omega (arith, lt, read.here.count, read.refs, read.there.count)
 
-  pub row_old : IsReference p.before.now (slice_index olds n)
-  row_old =
-      subst (IsReference p.before.now) (sym (row.here.each n lt)) (slot_names p.before.now a n (before_valid p) row.pair.before_in (omega (arith, lt, row.here.count)))
+  pub within_old : n < (object_at p.before.now a).refs
+  within_old = omega (arith, lt, read.here.count)
 
-  pub row_new : IsReference p.after.now (slice_index news n)
-  row_new =
-      subst (IsReference p.after.now) (sym (row.there.each n row_below)) (slot_names p.after.now b n (after_valid p) row.pair.after_in (omega (arith, row_below, row.there.count)))
+  pub within_new : n < (object_at p.after.now b).refs
+  within_new = omega (arith, lt, read.here.count, read.refs)
 
-  -- both slots stand at a way of a later walk
-  pub row_way : (v : Walk) → HasGrown w v → IsWay p.before.now p.after.now v.before.items v.after.items f n (slice_index olds n) (slice_index news n)
-  row_way v grown =
-      let one : f - 1 + 1 ≡ f = omega (arith, row.some) in
-      subst (λ z. IsWay p.before.now p.after.now v.before.items v.after.items z n (slice_index olds n) (slice_index news n)) one
-      (slot_way p.before.now p.after.now v.before.items v.after.items (f - 1) n a b (slice_index olds n) (slice_index news n) (omega (arith, row.pair.place, grown.more))
-      (grown.olds (f - 1) row.pair.place ∙ row.pair.before) (grown.news (f - 1) row.pair.place ∙ row.pair.after)
-      (omega (arith, lt, row.here.count)) (omega (arith, row_below, row.there.count)) (sym (row.here.each n lt)) (sym (row.there.each n row_below)))
+  pub old_word : slice_index olds n ≡ word p.before.now (a + 1 + n)
+  old_word = read.here.each n lt
+
+  pub new_word : slice_index news n ≡ word p.after.now (b + 1 + n)
+  new_word = read.there.each n below_new
+
+  pub old_names : IsReference p.before.now (slice_index olds n)
+  old_names = subst (IsReference p.before.now) (sym old_word) (slot_names p.before.now a n (before_valid p) read.before_in within_old)
+
+  pub new_names : IsReference p.after.now (slice_index news n)
+  new_names = subst (IsReference p.after.now) (sym new_word) (slot_names p.after.now b n (after_valid p) read.after_in within_new)
+
+-- both slots stand at a way of a later walk, if the objects are the pair before place f
+pub slots_way : {p : Pair} {w : Walk} (v : Walk) (f : ℕ) {a b : ℕ} {olds news : List ℕ} → 0 < f → IsPair p.before.now p.after.now w (f - 1) a b → AreRead p a b olds news → HasGrown w v
+    → (n : ℕ) → n < length olds → IsWay p.before.now p.after.now v.before.items v.after.items f n (slice_index olds n) (slice_index news n)
+slots_way {p = p} v f {a = a} {b = b} {olds = olds} {news = news} some pair read grown n lt =
+    let one : f - 1 + 1 ≡ f = omega (arith, some) in
+    subst (λ z. IsWay p.before.now p.after.now v.before.items v.after.items z n (slice_index olds n) (slice_index news n)) one
+    (slot_way p.before.now p.after.now v.before.items v.after.items (f - 1) n a b (slice_index olds n) (slice_index news n) (omega (arith, pair.place, grown.more))
+    (grown.olds (f - 1) pair.place ∙ pair.before) (grown.news (f - 1) pair.place ∙ pair.after) (within_old read n lt) (within_new read n lt) (sym (old_word read n lt)) (sym (new_word read n lt)))

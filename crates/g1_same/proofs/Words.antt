@@ -9,7 +9,7 @@ use Rattle.g1_same.specs.declared.difference.How.{How}
 use Rattle.g1_same.specs.declared.difference.How.TheVariants.{NullBefore, NullAfter, Split, Joined, Size, Slots, Data}
 use Rattle.g1_same.specs.Path.{Before}
 use Rattle.g1_same.specs.Same.{IsClash}
-use Rattle.g1_same.specs.Walk.{IsSeen, IsPaired, IsLeast, IsLower, IsNew, IsTour, IsWalkOf}
+use Rattle.g1_same.specs.Walk.{IsSeen, IsPaired, IsLeast, IsLower, IsNew, IsWalkOf}
 use Rattle.g1_words.proofs.Sound.{object_in}
 use Rattle.g1_same.proofs.Held.{after_valid, before_valid}
 use Rattle.g1_same.proofs.Heaps.{object_named}
@@ -21,23 +21,23 @@ named h x valid some names = object_named h x (x - 1) valid names (omega arith)
 pub named_below : (h : Heap) (x : ℕ) → IsValid h → x ≢ 0 → IsReference h x → x - 1 < length h.words
 named_below h x valid some names = let o = object_in h (x - 1) valid (named h x valid some names) in omega (arith, o.0, o.1)
 
--- the entries of the tables for two objects
-pub record IsRead (w : Walk) (a b i j : ℕ) : Type 0 where
-  pub a_lt : a < length w.new_of.items
-  pub b_lt : b < length w.old_of.items
-  pub is_i : i ≡ slice_index w.new_of.items a
-  pub is_j : j ≡ slice_index w.old_of.items b
+-- the entries of two tables for two objects
+pub record IsRead (new_of old_of : List ℕ) (a b i j : ℕ) : Type 0 where
+  pub a_lt : a < length new_of
+  pub b_lt : b < length old_of
+  pub is_i : i ≡ slice_index new_of a
+  pub is_j : j ≡ slice_index old_of b
 
-pub reading : (p : Pair) (w : Walk) (x y i j : ℕ) → IsTour p.before.now p.after.now w → IsReference p.before.now x → IsReference p.after.now y → x ≢ 0 → y ≢ 0
-    → i ≡ get_or w.new_of.items (x - 1) i → j ≡ get_or w.old_of.items (y - 1) j → IsRead w (x - 1) (y - 1) i j
-reading p w x y i j walk old new x_some y_some read_i read_j =
+pub reading : (p : Pair) (new_of old_of : List ℕ) (x y i j : ℕ) → length new_of ≡ length p.before.now.words → length old_of ≡ length p.after.now.words
+    → IsReference p.before.now x → IsReference p.after.now y → x ≢ 0 → y ≢ 0 → i ≡ get_or new_of (x - 1) i → j ≡ get_or old_of (y - 1) j → IsRead new_of old_of (x - 1) (y - 1) i j
+reading p new_of old_of x y i j before after old new x_some y_some read_i read_j =
     let left = named_below p.before.now x (before_valid p) x_some old in
     let right = named_below p.after.now y (after_valid p) y_some new in
-    let a_lt : x - 1 < length w.new_of.items = omega (arith, left, walk.table_before) in
-    let b_lt : y - 1 < length w.old_of.items = omega (arith, right, walk.table_after) in
-    record { a_lt = a_lt; b_lt = b_lt; is_i = get_or_read w.new_of.items (x - 1) i a_lt read_i 0; is_j = get_or_read w.old_of.items (y - 1) j b_lt read_j 0 }
+    let a_lt : x - 1 < length new_of = omega (arith, left, before) in
+    let b_lt : y - 1 < length old_of = omega (arith, right, after) in
+    record { a_lt = a_lt; b_lt = b_lt; is_i = get_or_read new_of (x - 1) i a_lt read_i 0; is_j = get_or_read old_of (y - 1) j b_lt read_j 0 }
 
-module _ {R : ℕ → ℕ → Type 0} {g h : Heap} {w : Walk} {a b i j : ℕ} (walk : IsWalkOf R g h w) (read : IsRead w a b i j) where
+module _ {R : ℕ → ℕ → Type 0} {g h : Heap} {w : Walk} {a b i j : ℕ} (walk : IsWalkOf R g h w) (read : IsRead w.new_of.items w.old_of.items a b i j) where
   in_before : i ≢ 0 → (i - 1 < length w.before.items) × (slice_index w.before.items (i - 1) ≡ a)
   in_before some = subst (λ m. (m - 1 < length w.before.items) × (slice_index w.before.items (m - 1) ≡ a)) (sym read.is_i)
       (index_some w.new_of.items w.before.items walk.index_before a read.a_lt (λ z. some (read.is_i ∙ z)))

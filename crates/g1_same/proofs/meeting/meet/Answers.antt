@@ -23,14 +23,14 @@ index-j-requires c =
 pub index-requires : goal.index-requires
 index-requires c =
     let w = c.args.walk.now in
-    let r = reading c.args.heaps w c.args.x c.args.y c.index-i.result.now c.index-j.result.now c.requires.walk c.requires.x c.requires.y c.if-x-eq0.false c.if-y-eq0-2.false c.index-i.ensures c.index-j.ensures in
+    let r = reading c.args.heaps c.args.walk.now.new_of.items c.args.walk.now.old_of.items c.args.x c.args.y c.index-i.result.now c.index-j.result.now c.requires.walk.table_before c.requires.walk.table_after c.requires.x c.requires.y c.if-x-eq0.false c.if-y-eq0-2.false c.index-i.ensures c.index-j.ensures in
     let s = split_here c.requires.walk r c.if-i-j.true c.if-i-ne0.true in
     omega (arith, s.0, c.requires.walk.pairs, w.after.ok)
 
 pub returns-then-i-ne0 : goal.returns-then-i-ne0
 returns-then-i-ne0 c =
     let w = c.args.walk.now in
-    let r = reading c.args.heaps w c.args.x c.args.y c.index-i.result.now c.index-j.result.now c.requires.walk c.requires.x c.requires.y c.if-x-eq0.false c.if-y-eq0-2.false c.index-i.ensures c.index-j.ensures in
+    let r = reading c.args.heaps c.args.walk.now.new_of.items c.args.walk.now.old_of.items c.args.x c.args.y c.index-i.result.now c.index-j.result.now c.requires.walk.table_before c.requires.walk.table_after c.requires.x c.requires.y c.if-x-eq0.false c.if-y-eq0-2.false c.index-i.ensures c.index-j.ensures in
     let x_is : c.args.x ≡ suc (c.args.x - 1) = some c.args.x c.if-x-eq0.false in
     let y_is : c.args.y ≡ suc (c.args.y - 1) = some c.args.y c.if-y-eq0-2.false in
     let s = split_here c.requires.walk r c.if-i-j.true c.if-i-ne0.true in
@@ -41,14 +41,14 @@ returns-then-i-ne0 c =
 pub index-requires-then-i-j : goal.index-requires-then-i-j
 index-requires-then-i-j c =
     let w = c.args.walk.now in
-    let r = reading c.args.heaps w c.args.x c.args.y c.index-i.result.now c.index-j.result.now c.requires.walk c.requires.x c.requires.y c.if-x-eq0.false c.if-y-eq0-2.false c.index-i.ensures c.index-j.ensures in
+    let r = reading c.args.heaps c.args.walk.now.new_of.items c.args.walk.now.old_of.items c.args.x c.args.y c.index-i.result.now c.index-j.result.now c.requires.walk.table_before c.requires.walk.table_after c.requires.x c.requires.y c.if-x-eq0.false c.if-y-eq0-2.false c.index-i.ensures c.index-j.ensures in
     let s = joined_here c.requires.walk r c.if-i-j.true c.if-i-ne0.false in
     omega (arith, s.0, w.before.ok)
 
 pub returns-then-i-j : goal.returns-then-i-j
 returns-then-i-j c =
     let w = c.args.walk.now in
-    let r = reading c.args.heaps w c.args.x c.args.y c.index-i.result.now c.index-j.result.now c.requires.walk c.requires.x c.requires.y c.if-x-eq0.false c.if-y-eq0-2.false c.index-i.ensures c.index-j.ensures in
+    let r = reading c.args.heaps c.args.walk.now.new_of.items c.args.walk.now.old_of.items c.args.x c.args.y c.index-i.result.now c.index-j.result.now c.requires.walk.table_before c.requires.walk.table_after c.requires.x c.requires.y c.if-x-eq0.false c.if-y-eq0-2.false c.index-i.ensures c.index-j.ensures in
     let x_is : c.args.x ≡ suc (c.args.x - 1) = some c.args.x c.if-x-eq0.false in
     let y_is : c.args.y ≡ suc (c.args.y - 1) = some c.args.y c.if-y-eq0-2.false in
     let s = joined_here c.requires.walk r c.if-i-j.true c.if-i-ne0.false in
@@ -61,7 +61,7 @@ returns-then-i-j c =
 pub returns-then-i-ne0-2 : goal.returns-then-i-ne0-2
 returns-then-i-ne0-2 c =
     let w = c.args.walk.now in
-    let r = reading c.args.heaps w c.args.x c.args.y c.index-i.result.now c.index-j.result.now c.requires.walk c.requires.x c.requires.y c.if-x-eq0.false c.if-y-eq0-2.false c.index-i.ensures c.index-j.ensures in
+    let r = reading c.args.heaps c.args.walk.now.new_of.items c.args.walk.now.old_of.items c.args.x c.args.y c.index-i.result.now c.index-j.result.now c.requires.walk.table_before c.requires.walk.table_after c.requires.x c.requires.y c.if-x-eq0.false c.if-y-eq0-2.false c.index-i.ensures c.index-j.ensures in
     let x_is : c.args.x ≡ suc (c.args.x - 1) = some c.args.x c.if-x-eq0.false in
     let y_is : c.args.y ≡ suc (c.args.y - 1) = some c.args.y c.if-y-eq0-2.false in
     let k = known_here c.requires.walk r c.if-i-j.false c.if-i-ne0-2.true in
@@ -72,7 +72,7 @@ returns-in-Some c =
     let g = c.args.heaps.before.now in
     let h = c.args.heaps.after.now in
     let w = c.args.walk.now in
-    let r = reading c.args.heaps w c.args.x c.args.y c.index-i.result.now c.index-j.result.now c.requires.walk c.requires.x c.requires.y c.if-x-eq0.false c.if-y-eq0-2.false c.index-i.ensures c.index-j.ensures in
+    let r = reading c.args.heaps c.args.walk.now.new_of.items c.args.walk.now.old_of.items c.args.x c.args.y c.index-i.result.now c.index-j.result.now c.requires.walk.table_before c.requires.walk.table_after c.requires.x c.requires.y c.if-x-eq0.false c.if-y-eq0-2.false c.index-i.ensures c.index-j.ensures in
     let x_is : c.args.x ≡ suc (c.args.x - 1) = some c.args.x c.if-x-eq0.false in
     let y_is : c.args.y ≡ suc (c.args.y - 1) = some c.args.y c.if-y-eq0-2.false in
     let none : c.index-j.result.now ≡ 0 = sym c.if-i-j.false ∙ c.if-i-ne0-2.false in

@@ -8,7 +8,7 @@ use Rattle.g1_same.specs.declared.stale.StaleWords.{StaleWords}
 use Rattle.g1_same.specs.Walk.{IsEarlier, IsLinked, IsWay, IsBelow, IsSeen, IsLeast, HasGrown}
 use Rattle.g1_same.specs.Behind.{HasNoneAt, IsFound, IsNext, IsNextStale, IsStaleAt}
 use Rattle.g1_same.proofs.Adding.{grown_more, grown_same}
-use Rattle.g1_same.proofs.Steps.{none_then, some_then, pair_read, row_read, row_below, row_old, row_new, row_way}
+use Rattle.g1_same.proofs.Steps.{none_then, some_then, pair_read, slots_read, below_new, old_names, new_names, slots_way}
 use Rattle.g1_same.proofs.Between.{between_none, between_step, between_row, between_kept, alike_none, alike_more, not_before}
 use Rattle.g1_same.proofs.Passing.{IsPlain, passes_none, passes_step, passes_row, passes_kept, plain_slot}
 use Rattle.g1_same.proofs.searching.link_slots.Goals as goal
@@ -29,27 +29,31 @@ object-new-requires c =
 
 pub bounds-there-number : goal.bounds-there-number
 bounds-there-number c =
-    let r = row_read c.args.heaps c.args.walk.now c.args.first.from c.slots-here.result.now c.slots-there.result.now c.requires.walk c.requires.some c.requires.pair c.index.ensures c.index-2.ensures
+    let pair = pair_read c.args.heaps c.args.walk.now c.args.first.from c.requires.walk c.requires.some c.requires.pair c.index.ensures c.index-2.ensures in
+    let r = slots_read c.args.heaps c.index.result.now c.index-2.result.now c.slots-here.result.now c.slots-there.result.now pair.before_in pair.after_in pair.header
     c.object-old.ensures.value c.object-new.ensures.value c.slots-here.ensures.count c.slots-here.ensures.each c.slots-there.ensures.count c.slots-there.ensures.each in
-    row_below r c.loop-number.number c.loop-number-test.true
+    below_new r c.loop-number.number c.loop-number-test.true
 
 pub link-requires-clause-x : goal.link-requires-clause-x
 link-requires-clause-x c =
-    let r = row_read c.args.heaps c.args.walk.now c.args.first.from c.slots-here.result.now c.slots-there.result.now c.requires.walk c.requires.some c.requires.pair c.index.ensures c.index-2.ensures
+    let pair = pair_read c.args.heaps c.args.walk.now c.args.first.from c.requires.walk c.requires.some c.requires.pair c.index.ensures c.index-2.ensures in
+    let r = slots_read c.args.heaps c.index.result.now c.index-2.result.now c.slots-here.result.now c.slots-there.result.now pair.before_in pair.after_in pair.header
     c.object-old.ensures.value c.object-new.ensures.value c.slots-here.ensures.count c.slots-here.ensures.each c.slots-there.ensures.count c.slots-there.ensures.each in
-    row_old r c.loop-number.number c.loop-number-test.true
+    old_names r c.loop-number.number c.loop-number-test.true
 
 pub link-requires-clause-y : goal.link-requires-clause-y
 link-requires-clause-y c =
-    let r = row_read c.args.heaps c.args.walk.now c.args.first.from c.slots-here.result.now c.slots-there.result.now c.requires.walk c.requires.some c.requires.pair c.index.ensures c.index-2.ensures
+    let pair = pair_read c.args.heaps c.args.walk.now c.args.first.from c.requires.walk c.requires.some c.requires.pair c.index.ensures c.index-2.ensures in
+    let r = slots_read c.args.heaps c.index.result.now c.index-2.result.now c.slots-here.result.now c.slots-there.result.now pair.before_in pair.after_in pair.header
     c.object-old.ensures.value c.object-new.ensures.value c.slots-here.ensures.count c.slots-here.ensures.each c.slots-there.ensures.count c.slots-there.ensures.each in
-    row_new r c.loop-number.number c.loop-number-test.true
+    new_names r c.loop-number.number c.loop-number-test.true
 
 pub link-requires-clause-way : goal.link-requires-clause-way
 link-requires-clause-way c =
-    let r = row_read c.args.heaps c.args.walk.now c.args.first.from c.slots-here.result.now c.slots-there.result.now c.requires.walk c.requires.some c.requires.pair c.index.ensures c.index-2.ensures
+    let pair = pair_read c.args.heaps c.args.walk.now c.args.first.from c.requires.walk c.requires.some c.requires.pair c.index.ensures c.index-2.ensures in
+    let r = slots_read c.args.heaps c.index.result.now c.index-2.result.now c.slots-here.result.now c.slots-there.result.now pair.before_in pair.after_in pair.header
     c.object-old.ensures.value c.object-new.ensures.value c.slots-here.ensures.count c.slots-here.ensures.each c.slots-there.ensures.count c.slots-there.ensures.each in
-    row_way r c.loop-number.number c.loop-number-test.true c.loop-number.walk c.loop-number.invariant.grown
+    slots_way c.loop-number.walk c.args.first.from c.requires.some pair r c.loop-number.invariant.grown c.loop-number.number c.loop-number-test.true
 
 pub link-requires-clause-below : goal.link-requires-clause-below
 link-requires-clause-below c = c.loop-number.invariant.below
@@ -62,7 +66,8 @@ link-requires-clause-backward c = omega (arith, c.requires.pair, c.loop-number.i
 
 pub loop-number-preserved : goal.loop-number-preserved
 loop-number-preserved c =
-    let r = row_read c.args.heaps c.args.walk.now c.args.first.from c.slots-here.result.now c.slots-there.result.now c.requires.walk c.requires.some c.requires.pair c.index.ensures c.index-2.ensures
+    let pair = pair_read c.args.heaps c.args.walk.now c.args.first.from c.requires.walk c.requires.some c.requires.pair c.index.ensures c.index-2.ensures in
+    let r = slots_read c.args.heaps c.index.result.now c.index-2.result.now c.slots-here.result.now c.slots-there.result.now pair.before_in pair.after_in pair.header
     c.object-old.ensures.value c.object-new.ensures.value c.slots-here.ensures.count c.slots-here.ensures.each c.slots-there.ensures.count c.slots-there.ensures.each in
     let g : Heap = c.args.heaps.before.now in
     let h : Heap = c.args.heaps.after.now in
@@ -72,13 +77,13 @@ loop-number-preserved c =
     let v : Walk = c.link.new.walk in
     let step : HasGrown w v = c.in_ok-how.ensures.grown in
     let more : HasGrown c.args.walk.now v = grown_more c.args.walk.now w v c.loop-number.invariant.grown step in
-    let way = row_way r n c.loop-number-test.true v more in
+    let way = slots_way v f c.requires.some pair r more n c.loop-number-test.true in
     let b : ℕ = c.index-2.result.now in
     let x : ℕ = slice_index c.slots-here.result.now n in
     let y : ℕ = slice_index c.slots-there.result.now n in
     let at : c.object-new.result.at ≡ b = ap (λ o. o.at) c.object-new.ensures.value in
     let none = none_then (HasNoneAt c.args.stale.now.slots.now (c.object-new.result.at + 1 + n) y) c.stale_word.result c.in_default.not-Some c.stale_word.ensures.none in
-    let plain : IsPlain c.args.stale.now v f n y = plain_slot c.args.stale.now v f n b y c.requires.some (more.news (f - 1) r.pair.place ∙ r.pair.after)
+    let plain : IsPlain c.args.stale.now v f n y = plain_slot c.args.stale.now v f n b y c.requires.some (more.news (f - 1) pair.place ∙ pair.after)
     (subst (λ q. HasNoneAt c.args.stale.now.slots.now (q + 1 + n) y) at none) in
     let l : IsLinked v f n x y = none_then (IsLinked v f n x y) c.in_ok-how.field-0 c.in_default-2.not-Some c.in_ok-how.ensures.linked in
     record {
@@ -170,11 +175,12 @@ slot_below g h w (suc i) j x y a some is way =
 
 pub returns-clause-linked : goal.returns-clause-linked
 returns-clause-linked c =
-    let r = row_read c.args.heaps c.args.walk.now c.args.first.from c.slots-here.result.now c.slots-there.result.now c.requires.walk c.requires.some c.requires.pair c.index.ensures c.index-2.ensures
+    let pair = pair_read c.args.heaps c.args.walk.now c.args.first.from c.requires.walk c.requires.some c.requires.pair c.index.ensures c.index-2.ensures in
+    let r = slots_read c.args.heaps c.index.result.now c.index-2.result.now c.slots-here.result.now c.slots-there.result.now pair.before_in pair.after_in pair.header
     c.object-old.ensures.value c.object-new.ensures.value c.slots-here.ensures.count c.slots-here.ensures.each c.slots-there.ensures.count c.slots-there.ensures.each in
     between_row c.args.heaps.before.now c.args.heaps.after.now c.loop-number.walk c.args.first.from c.args.first.number c.args.first.from c.loop-number.number c.loop-number.invariant.linked
     (λ j x y way. let lt = slot_below c.args.heaps.before.now c.args.heaps.after.now c.loop-number.walk c.args.first.from j x y c.index.result.now c.requires.some
-    (c.loop-number.invariant.grown.olds (c.args.first.from - 1) r.pair.place ∙ r.pair.before) way in omega (arith, lt, c.loop-number-test.false, r.here.count))
+    (c.loop-number.invariant.grown.olds (c.args.first.from - 1) pair.place ∙ pair.before) way in omega (arith, lt, c.loop-number-test.false, r.here.count))
 
 pub index-requires : goal.index-requires
 index-requires c = omega (arith, c.requires.some, c.requires.pair, c.args.walk.now.before.ok)
@@ -218,7 +224,8 @@ slots-there-requires c =
 
 pub returns-in-Some-clause-found : goal.returns-in-Some-clause-found
 returns-in-Some-clause-found c =
-    let r = row_read c.args.heaps c.args.walk.now c.args.first.from c.slots-here.result.now c.slots-there.result.now c.requires.walk c.requires.some c.requires.pair c.index.ensures c.index-2.ensures
+    let pair = pair_read c.args.heaps c.args.walk.now c.args.first.from c.requires.walk c.requires.some c.requires.pair c.index.ensures c.index-2.ensures in
+    let r = slots_read c.args.heaps c.index.result.now c.index-2.result.now c.slots-here.result.now c.slots-there.result.now pair.before_in pair.after_in pair.header
     c.object-old.ensures.value c.object-new.ensures.value c.slots-here.ensures.count c.slots-here.ensures.each c.slots-there.ensures.count c.slots-there.ensures.each in
     let g : Heap = c.args.heaps.before.now in
     let h : Heap = c.args.heaps.after.now in
@@ -228,10 +235,10 @@ returns-in-Some-clause-found c =
     let b : ℕ = c.index-2.result.now in
     let at : c.object-new.result.at ≡ b = ap (λ o. o.at) c.object-new.ensures.value in
     subst (IsFound g h c.args.stale.now w) (sym c.found_at.ensures) (record {
-      way = row_way r n c.loop-number-test.true w c.loop-number.invariant.grown;
+      way = slots_way w c.args.first.from c.requires.some pair r c.loop-number.invariant.grown n c.loop-number-test.true;
       below = c.loop-number.invariant.below;
       differs = (
-        stale_slot c.args.stale.now w f n b c.in-Some.word c.requires.some (c.loop-number.invariant.grown.news (f - 1) r.pair.place ∙ r.pair.after)
+        stale_slot c.args.stale.now w f n b c.in-Some.word c.requires.some (c.loop-number.invariant.grown.news (f - 1) pair.place ∙ pair.after)
             (subst (λ q. Contains c.args.stale.now.slots.now (q + 1 + n, c.in-Some.word)) at c.in-Some.ensures.there),
         c.in-Some.ensures.null,
       );
@@ -239,7 +246,8 @@ returns-in-Some-clause-found c =
 
 pub returns-in-Some-2-clause-found : goal.returns-in-Some-2-clause-found
 returns-in-Some-2-clause-found c =
-    let r = row_read c.args.heaps c.args.walk.now c.args.first.from c.slots-here.result.now c.slots-there.result.now c.requires.walk c.requires.some c.requires.pair c.index.ensures c.index-2.ensures
+    let pair = pair_read c.args.heaps c.args.walk.now c.args.first.from c.requires.walk c.requires.some c.requires.pair c.index.ensures c.index-2.ensures in
+    let r = slots_read c.args.heaps c.index.result.now c.index-2.result.now c.slots-here.result.now c.slots-there.result.now pair.before_in pair.after_in pair.header
     c.object-old.ensures.value c.object-new.ensures.value c.slots-here.ensures.count c.slots-here.ensures.each c.slots-there.ensures.count c.slots-there.ensures.each in
     let g : Heap = c.args.heaps.before.now in
     let h : Heap = c.args.heaps.after.now in
@@ -249,7 +257,7 @@ returns-in-Some-2-clause-found c =
     let v : Walk = c.link.new.walk in
     let step : HasGrown w v = c.in_ok-how.ensures.grown in
     let more : HasGrown c.args.walk.now v = grown_more c.args.walk.now w v c.loop-number.invariant.grown step in
-    let way = row_way r n c.loop-number-test.true v more in
+    let way = slots_way v f c.requires.some pair r more n c.loop-number-test.true in
     let k = some_then (λ (how : How). IsSeen g h v how (slice_index c.slots-here.result.now n) (slice_index c.slots-there.result.now n) × IsBelow v f n
     × IsLeast g h v how (slice_index c.slots-here.result.now n) (slice_index c.slots-there.result.now n)) c.in_ok-how.field-0 c.in-Some-2.how c.in-Some-2.is c.in_ok-how.ensures.clash in
     subst (IsFound g h c.args.stale.now v) (sym c.found_at-in-Some-2.ensures) (record {
@@ -264,7 +272,8 @@ returns-in-Some-clause-no_stale c =
 
 pub returns-in-Some-2-clause-no_stale : goal.returns-in-Some-2-clause-no_stale
 returns-in-Some-2-clause-no_stale c =
-    let r = row_read c.args.heaps c.args.walk.now c.args.first.from c.slots-here.result.now c.slots-there.result.now c.requires.walk c.requires.some c.requires.pair c.index.ensures c.index-2.ensures
+    let pair = pair_read c.args.heaps c.args.walk.now c.args.first.from c.requires.walk c.requires.some c.requires.pair c.index.ensures c.index-2.ensures in
+    let r = slots_read c.args.heaps c.index.result.now c.index-2.result.now c.slots-here.result.now c.slots-there.result.now pair.before_in pair.after_in pair.header
     c.object-old.ensures.value c.object-new.ensures.value c.slots-here.ensures.count c.slots-here.ensures.each c.slots-there.ensures.count c.slots-there.ensures.each in
     let g : Heap = c.args.heaps.before.now in
     let h : Heap = c.args.heaps.after.now in
@@ -274,13 +283,13 @@ returns-in-Some-2-clause-no_stale c =
     let v : Walk = c.link.new.walk in
     let step : HasGrown w v = c.in_ok-how.ensures.grown in
     let more : HasGrown c.args.walk.now v = grown_more c.args.walk.now w v c.loop-number.invariant.grown step in
-    let way = row_way r n c.loop-number-test.true v more in
+    let way = slots_way v f c.requires.some pair r more n c.loop-number-test.true in
     let b : ℕ = c.index-2.result.now in
     let x : ℕ = slice_index c.slots-here.result.now n in
     let y : ℕ = slice_index c.slots-there.result.now n in
     let at : c.object-new.result.at ≡ b = ap (λ o. o.at) c.object-new.ensures.value in
     let none = none_then (HasNoneAt c.args.stale.now.slots.now (c.object-new.result.at + 1 + n) y) c.stale_word.result c.in_default.not-Some c.stale_word.ensures.none in
-    let plain : IsPlain c.args.stale.now v f n y = plain_slot c.args.stale.now v f n b y c.requires.some (more.news (f - 1) r.pair.place ∙ r.pair.after)
+    let plain : IsPlain c.args.stale.now v f n y = plain_slot c.args.stale.now v f n b y c.requires.some (more.news (f - 1) pair.place ∙ pair.after)
     (subst (λ q. HasNoneAt c.args.stale.now.slots.now (q + 1 + n) y) at none) in
     subst (IsNextStale g h c.args.stale.now v f c.args.first.number) (sym c.found_at-in-Some-2.ensures) (
     passes_step g h c.args.stale.now v f c.args.first.number f n x y
@@ -289,8 +298,9 @@ returns-in-Some-2-clause-no_stale c =
 
 pub returns-clause-no_stale_left : goal.returns-clause-no_stale_left
 returns-clause-no_stale_left c =
-    let r = row_read c.args.heaps c.args.walk.now c.args.first.from c.slots-here.result.now c.slots-there.result.now c.requires.walk c.requires.some c.requires.pair c.index.ensures c.index-2.ensures
+    let pair = pair_read c.args.heaps c.args.walk.now c.args.first.from c.requires.walk c.requires.some c.requires.pair c.index.ensures c.index-2.ensures in
+    let r = slots_read c.args.heaps c.index.result.now c.index-2.result.now c.slots-here.result.now c.slots-there.result.now pair.before_in pair.after_in pair.header
     c.object-old.ensures.value c.object-new.ensures.value c.slots-here.ensures.count c.slots-here.ensures.each c.slots-there.ensures.count c.slots-there.ensures.each in
     passes_row c.args.heaps.before.now c.args.heaps.after.now c.args.stale.now c.loop-number.walk c.args.first.from c.args.first.number c.args.first.from c.loop-number.number c.loop-number.invariant.passed
     (λ j x y way. let lt = slot_below c.args.heaps.before.now c.args.heaps.after.now c.loop-number.walk c.args.first.from j x y c.index.result.now c.requires.some
-    (c.loop-number.invariant.grown.olds (c.args.first.from - 1) r.pair.place ∙ r.pair.before) way in omega (arith, lt, c.loop-number-test.false, r.here.count))
+    (c.loop-number.invariant.grown.olds (c.args.first.from - 1) pair.place ∙ pair.before) way in omega (arith, lt, c.loop-number-test.false, r.here.count))
