@@ -31,10 +31,8 @@ fn leads_in(pause: &Pause<'_>, x: u64) -> bool
     ensures yes { IsTrue result → (x ≢ 0) × IsTrue (in_set pause.now.heaps.before.now pause.now.set.now (x - 1)) }
     ensures no { IsFalse result → LeadsOut pause.now.set.now pause.now.heaps.before.now x }
 {
-    x > 0
-        && pause
-            .set
-            .has(region_of(&pause.heaps.before.geometry(), x - 1))
+    let geometry = pause.heaps.before.geometry();
+    x > 0 && pause.set.has(region_of(&geometry, x - 1))
 }
 
 // Whether an address is at or above a region's top.
