@@ -152,7 +152,7 @@ slots_read p a b {o = o} {q = q} olds news before_in after_in header is_o is_q o
 }
 
 module _ {p : Pair} {a b : ℕ} {olds news : List ℕ} (read : AreRead p a b olds news) (n : ℕ) (lt : n < length olds) where
-  pub below_new : n < length news
+  below_new : n < length news
   below_new = omega (arith, lt, read.here.count, read.refs, read.there.count)
 
   pub within_old : n < (object_at p.before.now a).refs

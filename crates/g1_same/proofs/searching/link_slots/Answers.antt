@@ -8,7 +8,7 @@ use Rattle.g1_same.specs.declared.stale.StaleWords.{StaleWords}
 use Rattle.g1_same.specs.Walk.{IsEarlier, IsLinked, IsWay, IsBelow, IsSeen, IsLeast, HasGrown}
 use Rattle.g1_same.specs.Behind.{HasNoneAt, IsFound, IsNext, IsNextStale, IsStaleAt}
 use Rattle.g1_same.proofs.Adding.{grown_more, grown_same}
-use Rattle.g1_same.proofs.Steps.{none_then, some_then, pair_read, slots_read, below_new, old_names, new_names, slots_way}
+use Rattle.g1_same.proofs.Steps.{none_then, some_then, pair_read, slots_read, old_names, new_names, slots_way}
 use Rattle.g1_same.proofs.Between.{between_none, between_step, between_row, between_kept, alike_none, alike_more, not_before}
 use Rattle.g1_same.proofs.Passing.{IsPlain, passes_none, passes_step, passes_row, passes_kept, plain_slot}
 use Rattle.g1_same.proofs.searching.link_slots.Goals as goal
@@ -32,7 +32,7 @@ bounds-there-number c =
     let pair = pair_read c.args.heaps c.args.walk.now c.args.first.from c.requires.walk c.requires.some c.requires.pair c.index.ensures c.index-2.ensures in
     let r = slots_read c.args.heaps c.index.result.now c.index-2.result.now c.slots-here.result.now c.slots-there.result.now pair.before_in pair.after_in pair.header
     c.object-old.ensures.value c.object-new.ensures.value c.slots-here.ensures.count c.slots-here.ensures.each c.slots-there.ensures.count c.slots-there.ensures.each in
-    below_new r c.loop-number.number c.loop-number-test.true
+    omega (arith, c.loop-number-test.true, r.refs, r.here.count, r.there.count)
 
 pub link-requires-clause-x : goal.link-requires-clause-x
 link-requires-clause-x c =
