@@ -1,7 +1,7 @@
 use Rattle.std.proofs.Common.{arith, ap, refl, subst, sym, suc, ℕ, ◌≡◌, ◌≤◌, ◌+◌, ◌∙◌, slice_index, Contains}
 use Rattle.g1_words.specs.Heap.{Heap, word, object_at, objects}
 use Rattle.g1_words.specs.declared.object.Object.{Object}
-use Rattle.g1_same.proofs.Steps.{slots_read, below_new, within_old, within_new, old_word, new_word, old_names, new_names}
+use Rattle.g1_same.proofs.Steps.{slots_read, within_old, within_new, old_word, new_word, old_names, new_names}
 use Rattle.g1_kept.specs.declared.pairs.Pairs.{Pairs}
 use Rattle.g1_kept.specs.Lost.{Disagree, slot}
 use Rattle.g1_kept.specs.Pause.{IsLossIn}
@@ -123,7 +123,7 @@ pub bounds-there-number : goal.bounds-there-number
 bounds-there-number c =
     let r = slots_read c.args.pause.now.heaps c.args.a c.args.b c.slots-here.result.now c.slots-there.result.now c.requires.pair.before c.requires.pair.after c.requires.alike.header
     c.object-old.ensures.value c.object-new.ensures.value c.slots-here.ensures.count c.slots-here.ensures.each c.slots-there.ensures.count c.slots-there.ensures.each in
-    below_new r c.loop-number.number c.loop-number-test.true
+    omega (arith, c.loop-number-test.true, r.refs, r.here.count, r.there.count)
 
 pub link-requires-clause-walk : goal.link-requires-clause-walk
 link-requires-clause-walk c = c.loop-number.invariant.walk
