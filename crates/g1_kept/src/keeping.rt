@@ -16,27 +16,27 @@ use crate::pairs::{Pairs, start};
 use crate::pause::Pause;
 use crate::region_set::RegionSet;
 use crate::tables::compare_tables;
-use g1_same::first_other;
+use g1_same::{Pair, first_other};
 use g1_words::{Fault, Heap, objects_in};
 use std::alloc::{AllocError, Global};
 
 // What is lost of an object in the one after that matches it, apart from its slots.
 fn compare_contents(pause: &Pause<'_>, a: u64, b: u64) -> Option<Lost>
     requires pair { AreMatched pause.now a b }
-    ensures none { IfNone result (AreAlike pause.now.before.now pause.now.after.now a b) }
+    ensures none { IfNone result (AreAlike pause.now.heaps.before.now pause.now.heaps.after.now a b) }
     ensures some { IfSome result (λ l. IsLossIn pause.now l) }
-    ensures first { IfSome result (λ l. IsFirstOfObjects pause.now.before.now pause.now.after.now a b l) }
+    ensures first { IfSome result (λ l. IsFirstOfObjects pause.now.heaps.before.now pause.now.heaps.after.now a b l) }
 {
-    let old = pause.before.object(a);
-    let new = pause.after.object(b);
+    let old = pause.heaps.before.object(a);
+    let new = pause.heaps.after.object(b);
     if old.size != new.size || old.refs != new.refs {
         return Some(Lost::Header {
             before: a,
             after: b,
         });
     }
-    let here = pause.before.data(&old);
-    let there = pause.after.data(&new);
+    let here = pause.heaps.before.data(&old);
+    let there = pause.heaps.after.data(&new);
     match first_other(here, there) {
         Some(word) => Some(Lost::Data {
             before: a,
@@ -55,11 +55,11 @@ fn compare_pair(
     b: u64,
 ) -> Result<Option<Lost>, AllocError>
     requires walk { IsWalkIn pause.now pairs.old }
-    requires sizes { length pause.now.after.now.words ≡ length pause.now.before.now.words }
+    requires sizes { length pause.now.heaps.after.now.words ≡ length pause.now.heaps.before.now.words }
     requires pair { AreMatched pause.now a b }
     ensures walk { OnOk result (IsWalkIn pause.now pairs.new) }
     ensures grown { OnOk result (HasMorePairs pairs.old pairs.new) }
-    ensures compared { let p = pause.now in IfOk result (λ o. IfNone o (IsCompared p.set.now p.before.now p.after.now pairs.new a b)) }
+    ensures compared { let p = pause.now in IfOk result (λ o. IfNone o (IsCompared p.set.now p.heaps.before.now p.heaps.after.now pairs.new a b)) }
     ensures lost { IfOk result (λ o. IfSome o (λ l. IsLossIn pause.now l)) }
     ensures passed { IfOk result (λ o. IfNone o (PassesObjectsIn pause.now pairs.old pairs.new a b 0)) }
     ensures first { IfOk result (λ o. IfSome o (λ l. StopsAtObjectsIn pause.now pairs.old a b 0 l)) }
@@ -79,21 +79,19 @@ fn compare_region(
 ) -> Result<Option<Lost>, AllocError>
     requires walk { IsWalkIn pause.now pairs.old }
     requires table { KeepsTableIn pause.now }
-    requires region { region < pause.now.before.now.geometry.n }
+    requires region { region < pause.now.heaps.before.now.geometry.n }
     requires outside { IsFalse (has pause.now.set.now region) }
-    requires used { kind pause.now.before.now region ≢ Free }
-    requires in_use { kind pause.now.after.now region ≢ Free }
-    requires search { SearchesIn pause.now pairs.old (suc (start pause.now.before.now region)) 0 }
+    requires used { kind pause.now.heaps.before.now region ≢ Free }
+    requires in_use { kind pause.now.heaps.after.now region ≢ Free }
+    requires search { SearchesIn pause.now pairs.old (suc (start pause.now.heaps.before.now region)) 0 }
     ensures walk { OnOk result (IsWalkIn pause.now pairs.new) }
     ensures grown { OnOk result (HasMorePairs pairs.old pairs.new) }
-    ensures compared { let p = pause.now in IfOk result (λ o. IfNone o (ComparesRegion p.set.now p.before.now p.after.now pairs.new region)) }
+    ensures compared { let p = pause.now in IfOk result (λ o. IfNone o (ComparesRegion p.set.now p.heaps.before.now p.heaps.after.now pairs.new region)) }
     ensures lost { IfOk result (λ o. IfSome o (λ l. IsLossIn pause.now l)) }
-    ensures searched { IfOk result (λ o. IfNone o (SearchesIn pause.now pairs.new (suc (start pause.now.before.now (region + 1))) 0)) }
+    ensures searched { IfOk result (λ o. IfNone o (SearchesIn pause.now pairs.new (suc (start pause.now.heaps.before.now (region + 1))) 0)) }
     ensures first { IfOk result (λ o. IfSome o (λ l. IsMetFirstIn pause.now l)) }
 {
-    g1_words::laws::valid(pause.before);
-    g1_words::laws::valid(pause.after);
-    let starts = match objects_in(alloc, pause.before, region) {
+    let starts = match objects_in(alloc, pause.heaps.before, region) {
         Ok(starts) => starts,
         Err(_) => return Err(AllocError),
     };
@@ -108,13 +106,13 @@ fn compare_region(
 
 // Whether a region outside the set was in use and still is.
 fn is_compared(pause: &Pause<'_>, region: u32) -> bool
-    requires before { region < pause.now.before.now.geometry.n }
-    requires after { region < pause.now.after.now.geometry.n }
-    ensures { IsTrue result ↔ (IsFalse (has pause.now.set.now region) × (kind pause.now.before.now region ≢ Free) × (kind pause.now.after.now region ≢ Free)) }
+    requires before { region < pause.now.heaps.before.now.geometry.n }
+    requires after { region < pause.now.heaps.after.now.geometry.n }
+    ensures { IsTrue result ↔ (IsFalse (has pause.now.set.now region) × (kind pause.now.heaps.before.now region ≢ Free) × (kind pause.now.heaps.after.now region ≢ Free)) }
 {
     !pause.set.has(u64::from(region))
-        && pause.before.region(region).kind.is_used()
-        && pause.after.region(region).kind.is_used()
+        && pause.heaps.before.region(region).kind.is_used()
+        && pause.heaps.after.region(region).kind.is_used()
 }
 
 // Compares the objects outside the set that are still there, each with itself.
@@ -128,14 +126,12 @@ fn compare_outside(
     requires search { SearchesIn pause.now pairs.old 1 0 }
     ensures walk { OnOk result (IsWalkIn pause.now pairs.new) }
     ensures grown { OnOk result (HasMorePairs pairs.old pairs.new) }
-    ensures compared { let p = pause.now in IfOk result (λ o. IfNone o (ComparesOutside p.set.now p.before.now p.after.now pairs.new p.before.now.geometry.n)) }
+    ensures compared { let p = pause.now in IfOk result (λ o. IfNone o (ComparesOutside p.set.now p.heaps.before.now p.heaps.after.now pairs.new p.heaps.before.now.geometry.n)) }
     ensures lost { IfOk result (λ o. IfSome o (λ l. IsLossIn pause.now l)) }
-    ensures searched { IfOk result (λ o. IfNone o (SearchesIn pause.now pairs.new (suc (length pause.now.before.now.words)) 0)) }
+    ensures searched { IfOk result (λ o. IfNone o (SearchesIn pause.now pairs.new (suc (length pause.now.heaps.before.now.words)) 0)) }
     ensures first { IfOk result (λ o. IfSome o (λ l. IsMetFirstIn pause.now l)) }
 {
-    g1_words::laws::valid(pause.before);
-    g1_words::laws::valid(pause.after);
-    for region in 0..pause.before.geometry().regions() as u32 {
+    for region in 0..pause.heaps.before.geometry().regions() as u32 {
         if is_compared(pause, region) {
             if let Some(lost) = compare_region(alloc, pause, pairs, region)? {
                 return Ok(Some(lost));
@@ -149,15 +145,13 @@ fn compare_outside(
 fn compare_pairs(pause: &Pause<'_>, pairs: &mut Pairs) -> Result<Option<Lost>, AllocError>
     requires walk { IsWalkIn pause.now pairs.old }
     requires table { KeepsTableIn pause.now }
-    requires search { SearchesIn pause.now pairs.old (suc (length pause.now.before.now.words)) 0 }
+    requires search { SearchesIn pause.now pairs.old (suc (length pause.now.heaps.before.now.words)) 0 }
     ensures walk { OnOk result (IsWalkIn pause.now pairs.new) }
     ensures grown { OnOk result (HasMorePairs pairs.old pairs.new) }
-    ensures compared { let p = pause.now in IfOk result (λ o. IfNone o (ComparesPairs p.set.now p.before.now p.after.now pairs.new (length pairs.new.before.items))) }
+    ensures compared { let p = pause.now in IfOk result (λ o. IfNone o (ComparesPairs p.set.now p.heaps.before.now p.heaps.after.now pairs.new (length pairs.new.before.items))) }
     ensures lost { IfOk result (λ o. IfSome o (λ l. IsLossIn pause.now l)) }
     ensures first { IfOk result (λ o. IfSome o (λ l. IsMetFirstIn pause.now l)) }
 {
-    g1_words::laws::valid(pause.before);
-    g1_words::laws::valid(pause.after);
     let mut place = 0;
     while place < pairs.before.len() {
         let a = pairs.before[place];
@@ -173,7 +167,7 @@ fn compare_pairs(pause: &Pause<'_>, pairs: &mut Pairs) -> Result<Option<Lost>, A
 // What is lost of what roots and objects hold.
 fn compare_words(alloc: Global, pause: &Pause<'_>) -> Result<Option<Lost>, AllocError>
     requires table { KeepsTableIn pause.now }
-    requires roots { length pause.now.after.now.roots ≡ length pause.now.before.now.roots }
+    requires roots { length pause.now.heaps.after.now.roots ≡ length pause.now.heaps.before.now.roots }
     ensures none { IfOk result (λ o. IfNone o (KeepsIn pause.now)) }
     ensures some { IfOk result (λ o. IfSome o (λ l. IsLossIn pause.now l)) }
     ensures first { IfOk result (λ o. IfSome o (λ l. IsMetFirstIn pause.now l)) }
@@ -194,12 +188,10 @@ fn find_loss(alloc: Global, pause: &Pause<'_>) -> Result<Option<Lost>, AllocErro
     ensures some { IfOk result (λ o. IfSome o (λ l. IsLossIn pause.now l)) }
     ensures earliest { IfOk result (λ o. IfSome o (λ l. IsEarliestIn pause.now l)) }
 {
-    g1_words::laws::valid(pause.before);
-    g1_words::laws::valid(pause.after);
     if let Some(lost) = compare_tables(pause) {
         return Ok(Some(lost));
     }
-    if pause.before.roots().len() != pause.after.roots().len() {
+    if pause.heaps.before.roots().len() != pause.heaps.after.roots().len() {
         return Ok(Some(Lost::Roots));
     }
     compare_words(alloc, pause)
@@ -225,12 +217,10 @@ pub fn kept(
     ensures never { IfOk result (λ r. IfErr r (λ _. Keeps fill set.now before.now after.now → ⊥)) }
     ensures memory { IfErr result (λ e. e ≡ Memory) }
 {
-    g1_words::laws::valid(before);
-    g1_words::laws::valid(after);
+    let heaps = Pair::new(before, after);
     let regions = RegionSet::new(alloc, before.regions().len(), set)?;
     let pause = Pause {
-        before,
-        after,
+        heaps,
         set: &regions,
         fill,
     };

@@ -11,7 +11,6 @@ ghost use Rattle.g1_kept.specs.Pause.{MatchIn, AreMatched, IsLossIn, IsMetFirstI
 use crate::lost::Lost;
 use crate::pairs::Pairs;
 use crate::pause::Pause;
-use crate::region_set::RegionSet;
 use g1_words::{Heap, region_of};
 use std::alloc::AllocError;
 
@@ -28,11 +27,12 @@ pub enum Met {
 }
 
 // Whether a word references an object of the set.
-fn leads_in(before: &Heap, set: &RegionSet<'_>, x: u64) -> bool
-    ensures yes { IsTrue result → (x ≢ 0) × IsTrue (in_set before.now set.now (x - 1)) }
-    ensures no { IsFalse result → LeadsOut set.now before.now x }
+fn leads_in(pause: &Pause<'_>, x: u64) -> bool
+    ensures yes { IsTrue result → (x ≢ 0) × IsTrue (in_set pause.now.heaps.before.now pause.now.set.now (x - 1)) }
+    ensures no { IsFalse result → LeadsOut pause.now.set.now pause.now.heaps.before.now x }
 {
-    x > 0 && set.has(region_of(&before.geometry(), x - 1))
+    let geometry = pause.heaps.before.geometry();
+    x > 0 && pause.set.has(region_of(&geometry, x - 1))
 }
 
 // Whether an address is at or above a region's top.
@@ -56,14 +56,12 @@ fn may_hold_copy(before: &Heap, fill: bool, b: u64) -> bool
 // What two words are to the walk.
 fn meet(pause: &Pause<'_>, pairs: &Pairs, x: u64, y: u64) -> Met
     requires walk { IsWalkIn pause.now pairs.now }
-    requires sizes { length pause.now.after.now.words ≡ length pause.now.before.now.words }
-    requires x { IsReference pause.now.before.now x }
-    requires y { IsReference pause.now.after.now y }
-    ensures { let p = pause.now in IsPairMet p.fill p.set.now p.before.now p.after.now pairs.now x y result }
+    requires sizes { length pause.now.heaps.after.now.words ≡ length pause.now.heaps.before.now.words }
+    requires x { IsReference pause.now.heaps.before.now x }
+    requires y { IsReference pause.now.heaps.after.now y }
+    ensures { let p = pause.now in IsPairMet p.fill p.set.now p.heaps.before.now p.heaps.after.now pairs.now x y result }
 {
-    g1_words::laws::valid(pause.before);
-    g1_words::laws::valid(pause.after);
-    if !leads_in(pause.before, pause.set, x) {
+    if !leads_in(pause, x) {
         if x == y {
             return Met::Agree;
         }
@@ -82,7 +80,7 @@ fn meet(pause: &Pause<'_>, pairs: &Pairs, x: u64, y: u64) -> Met
     if i != 0 {
         return Met::Agree;
     }
-    if may_hold_copy(pause.before, pause.fill, b) {
+    if may_hold_copy(pause.heaps.before, pause.fill, b) {
         Met::New { a, b }
     } else {
         Met::Occupied { a, b }
@@ -98,20 +96,18 @@ fn link(
     other: Lost,
 ) -> Result<Option<Lost>, AllocError>
     requires walk { IsWalkIn pause.now pairs.old }
-    requires sizes { length pause.now.after.now.words ≡ length pause.now.before.now.words }
-    requires x { IsReference pause.now.before.now x }
-    requires y { IsReference pause.now.after.now y }
-    requires found { (a b : ℕ) → x ≡ suc a → y ≡ suc b → IsTrue (in_set pause.now.before.now pause.now.set.now a) → MatchIn pause.now a b }
-    requires other { let p = pause.now in Disagree p.set.now p.before.now p.after.now x y → IsLossIn p other }
+    requires sizes { length pause.now.heaps.after.now.words ≡ length pause.now.heaps.before.now.words }
+    requires x { IsReference pause.now.heaps.before.now x }
+    requires y { IsReference pause.now.heaps.after.now y }
+    requires found { (a b : ℕ) → x ≡ suc a → y ≡ suc b → IsTrue (in_set pause.now.heaps.before.now pause.now.set.now a) → MatchIn pause.now a b }
+    requires other { let p = pause.now in Disagree p.set.now p.heaps.before.now p.heaps.after.now x y → IsLossIn p other }
     ensures walk { OnOk result (IsWalkIn pause.now pairs.new) }
     ensures grown { OnOk result (HasMorePairs pairs.old pairs.new) }
-    ensures paired { IfOk result (λ o. IfNone o (ArePaired pause.now.set.now pause.now.before.now pairs.new x y)) }
+    ensures paired { IfOk result (λ o. IfNone o (ArePaired pause.now.set.now pause.now.heaps.before.now pairs.new x y)) }
     ensures lost { IfOk result (λ o. IfSome o (λ l. IsLossIn pause.now l)) }
-    ensures passed { let p = pause.now in IfOk result (λ o. IfNone o (PassesWords p.fill p.set.now p.before.now p.after.now pairs.old pairs.new x y)) }
-    ensures first { let p = pause.now in IfOk result (λ o. IfSome o (λ l. StopsAtWords p.fill p.set.now p.before.now p.after.now pairs.old x y other l)) }
+    ensures passed { let p = pause.now in IfOk result (λ o. IfNone o (PassesWords p.fill p.set.now p.heaps.before.now p.heaps.after.now pairs.old pairs.new x y)) }
+    ensures first { let p = pause.now in IfOk result (λ o. IfSome o (λ l. StopsAtWords p.fill p.set.now p.heaps.before.now p.heaps.after.now pairs.old x y other l)) }
 {
-    g1_words::laws::valid(pause.before);
-    g1_words::laws::valid(pause.after);
     match meet(pause, pairs, x, y) {
         Met::Agree => Ok(None),
         Met::Differ => Ok(Some(other)),
@@ -129,19 +125,17 @@ fn link(
 /// Links the roots, by number.
 pub(crate) fn link_roots(pause: &Pause<'_>, pairs: &mut Pairs) -> Result<Option<Lost>, AllocError>
     requires walk { IsWalkIn pause.now pairs.old }
-    requires sizes { length pause.now.after.now.words ≡ length pause.now.before.now.words }
-    requires roots { length pause.now.after.now.roots ≡ length pause.now.before.now.roots }
+    requires sizes { length pause.now.heaps.after.now.words ≡ length pause.now.heaps.before.now.words }
+    requires roots { length pause.now.heaps.after.now.roots ≡ length pause.now.heaps.before.now.roots }
     requires none { pairs.old.before.items ≡ [] }
     ensures walk { OnOk result (IsWalkIn pause.now pairs.new) }
-    ensures paired { let p = pause.now in IfOk result (λ o. IfNone o (PairsRoots p.set.now p.before.now p.after.now pairs.new (length p.before.now.roots))) }
+    ensures paired { let p = pause.now in IfOk result (λ o. IfNone o (PairsRoots p.set.now p.heaps.before.now p.heaps.after.now pairs.new (length p.heaps.before.now.roots))) }
     ensures lost { IfOk result (λ o. IfSome o (λ l. IsLossIn pause.now l)) }
     ensures searched { IfOk result (λ o. IfNone o (SearchesIn pause.now pairs.new 1 0)) }
     ensures first { IfOk result (λ o. IfSome o (λ l. IsMetFirstIn pause.now l)) }
 {
-    g1_words::laws::valid(pause.before);
-    g1_words::laws::valid(pause.after);
-    let old = pause.before.roots();
-    let new = pause.after.roots();
+    let old = pause.heaps.before.roots();
+    let new = pause.heaps.after.roots();
     for number in 0..old.len() {
         let x = old[number];
         let y = new[number];
@@ -161,22 +155,20 @@ pub(crate) fn link_slots(
     b: u64,
 ) -> Result<Option<Lost>, AllocError>
     requires walk { IsWalkIn pause.now pairs.old }
-    requires sizes { length pause.now.after.now.words ≡ length pause.now.before.now.words }
+    requires sizes { length pause.now.heaps.after.now.words ≡ length pause.now.heaps.before.now.words }
     requires pair { AreMatched pause.now a b }
-    requires alike { AreAlike pause.now.before.now pause.now.after.now a b }
+    requires alike { AreAlike pause.now.heaps.before.now pause.now.heaps.after.now a b }
     ensures walk { OnOk result (IsWalkIn pause.now pairs.new) }
     ensures grown { OnOk result (HasMorePairs pairs.old pairs.new) }
-    ensures paired { let p = pause.now in IfOk result (λ o. IfNone o (PairsSlots p.set.now p.before.now p.after.now pairs.new a b (object_at p.before.now a).refs)) }
+    ensures paired { let p = pause.now in IfOk result (λ o. IfNone o (PairsSlots p.set.now p.heaps.before.now p.heaps.after.now pairs.new a b (object_at p.heaps.before.now a).refs)) }
     ensures lost { IfOk result (λ o. IfSome o (λ l. IsLossIn pause.now l)) }
     ensures passed { IfOk result (λ o. IfNone o (PassesObjectsIn pause.now pairs.old pairs.new a b 1)) }
     ensures first { IfOk result (λ o. IfSome o (λ l. StopsAtObjectsIn pause.now pairs.old a b 1 l)) }
 {
-    g1_words::laws::valid(pause.before);
-    g1_words::laws::valid(pause.after);
-    let old = pause.before.object(a);
-    let new = pause.after.object(b);
-    let here = pause.before.slots(&old);
-    let there = pause.after.slots(&new);
+    let old = pause.heaps.before.object(a);
+    let new = pause.heaps.after.object(b);
+    let here = pause.heaps.before.slots(&old);
+    let there = pause.heaps.after.slots(&new);
     for number in 0..here.len() {
         let x = here[number];
         let y = there[number];

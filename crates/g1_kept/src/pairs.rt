@@ -1,10 +1,8 @@
 ghost use Rattle.std.specs.Prelude.{◌≡◌, ◌<◌, ◌≤◌, ◌++◌, ◌∷◌, [], suc, length, slice_set, IfOk, OnOk};
 ghost use Rattle.g1_words.specs.Geometry.{most_words};
-ghost use Rattle.g1_words.specs.Valid.{IsValid};
 ghost use Rattle.g1_kept.specs.Pause.{IsWalkIn};
 
 use crate::pause::Pause;
-use g1_words::Heap;
 use std::alloc::{AllocError, Global};
 
 /// Objects of the set and their copies, in the order in which they were found, and the tables that
@@ -25,13 +23,9 @@ pub struct Pairs {
 pub(crate) fn start(alloc: Global, pause: &Pause<'_>) -> Result<Pairs, AllocError>
     ensures walk { IfOk result (λ w. IsWalkIn pause.now w) }
     ensures none { IfOk result (λ w. w.before.items ≡ []) }
-    ensures before { IsValid pause.now.before.now }
-    ensures after { IsValid pause.now.after.now }
 {
-    g1_words::laws::valid(pause.before);
-    g1_words::laws::valid(pause.after);
-    let new_of = vec![in alloc; 0u32; pause.before.words().len()]?;
-    let old_of = vec![in alloc; 0u32; pause.after.words().len()]?;
+    let new_of = vec![in alloc; 0u32; pause.heaps.before.words().len()]?;
+    let old_of = vec![in alloc; 0u32; pause.heaps.after.words().len()]?;
     Ok(Pairs {
         before: Vec::new(alloc),
         after: Vec::new(alloc),

@@ -1,8 +1,8 @@
 -- Two objects whose data words alone differ become a pair.
 use Rattle.std.proofs.Common.{◌≡◌, ℕ, suc, ◌+◌, ◌-◌, ◌<◌, ◌≤◌, [], length, Contains, sym, ap, subst, ◌∙◌, arith, slice_index}
 use Rattle.g1_words.specs.Heap.{Heap, word, object_at, objects}
-use Rattle.g1_words.specs.Valid.{IsValid}
 use Rattle.g1_words.proofs.Sound.{object_in}
+use Rattle.g1_same.specs.declared.pair.Pair.{Pair}
 use Rattle.g1_same.specs.declared.walk.Walk.{Walk}
 use Rattle.g1_same.specs.declared.walk.Found.{Found}
 use Rattle.g1_same.specs.declared.walk.What.TheVariants as what
@@ -10,6 +10,7 @@ use Rattle.g1_same.specs.declared.difference.How.TheVariants.{Data}
 use Rattle.g1_same.specs.declared.stale.StaleWords.{StaleWords}
 use Rattle.g1_same.specs.Walk.{IsWay, IsTour, IsLinked, IsBelow, HasGrown}
 use Rattle.g1_same.specs.Behind.{IsStaleAt, Differs, IsFound, AddsOnly}
+use Rattle.g1_same.proofs.Held.{after_valid, before_valid}
 use Rattle.g1_same.proofs.Heaps.{object_named}
 use Rattle.g1_same.proofs.Adding.{IsAdded, added_grown, added_only, added_walk, added_linked, added_below, earlier_next}
 use Rattle.g1_same.proofs.Between.{way_names_before, way_names_after, way_within, index_new}
@@ -28,9 +29,13 @@ pub record IsNewPair (g h : Heap) (w : Walk) (f n x y : ℕ) : Type 0 where
   pub way : IsWay g h w.before.items w.after.items f n (suc (x - 1)) (suc (y - 1))
   pub back : f ≤ length w.before.items
 
-pub new_pair : (g h : Heap) (s : StaleWords) (w : Walk) (d : Found) (k : ℕ) → IsValid g → IsValid h → IsTour g h w → IsFound g h s w d → d.what ≡ what.How (Data k)
-    → IsNewPair g h w d.place.way.from d.place.way.number d.place.before d.place.after
-new_pair g h s w d k left right tour found is =
+pub new_pair : (p : Pair) (s : StaleWords) (w : Walk) (d : Found) (k : ℕ) → IsTour p.before.now p.after.now w → IsFound p.before.now p.after.now s w d → d.what ≡ what.How (Data k)
+    → IsNewPair p.before.now p.after.now w d.place.way.from d.place.way.number d.place.before d.place.after
+new_pair p s w d k tour found is =
+    let g : Heap = p.before.now in
+    let h : Heap = p.after.now in
+    let left = before_valid p in
+    let right = after_valid p in
     let f : ℕ = d.place.way.from in
     let n : ℕ = d.place.way.number in
     let x : ℕ = d.place.before in

@@ -1,3 +1,4 @@
+pub mod Held
 pub mod Heaps
 pub mod Linked
 pub mod Excludes

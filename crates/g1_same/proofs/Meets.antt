@@ -12,7 +12,7 @@ use Rattle.g1_same.specs.declared.difference.How.{How}
 use Rattle.g1_same.specs.declared.difference.How.TheVariants.{NullBefore, NullAfter, Split, Joined, Size, Slots, Data}
 use Rattle.g1_same.specs.Same.{IsClash}
 use Rattle.g1_same.specs.Walk.{AreAlike, IsWalk, IsMet, IsLower}
-use Rattle.g1_same.proofs.Words.{known_here, split_here, joined_here, new_before, new_after, seen_of, least_of}
+use Rattle.g1_same.proofs.Words.{IsRead, known_here, split_here, joined_here, new_before, new_after, seen_of, least_of}
 
 -- two objects are alike, or differ in a way that is the first of those of the objects alone
 abbrev Compared : Heap → Heap → ℕ → ℕ → Type 0
@@ -54,17 +54,18 @@ module _ (g h : Heap) (left : IsValid g) (right : IsValid h) (w : Walk) (walk : 
   met_objects a b a_lt b_lt =
       let i : ℕ = slice_index w.new_of.items a in
       let j : ℕ = slice_index w.old_of.items b in
+      let read : IsRead w.new_of.items w.old_of.items a b i j = record { a_lt = a_lt; b_lt = b_lt; is_i = refl; is_j = refl } in
       elim (decided_eq i j) [
         | inr other ↦ elim (decided_eq i 0) [
           | inr some ↦
-              let s = split_here g h w left right walk a b i j a_lt b_lt refl refl other some in
+              let s = split_here walk read other some in
               (Clash (Split a (slice_index w.after.items (i - 1)) b), ((refl, refl, s.2, i - 1, s.0, s.1, refl), tt))
           | inl none ↦
-              let s = joined_here g h w left right walk a b i j a_lt b_lt refl refl other none in
-              (Clash (Joined (slice_index w.before.items (j - 1)) a b), ((refl, refl, s.2, j - 1, s.0, refl, s.1), new_before g h w left right walk a b i j a_lt b_lt refl refl none))
+              let s = joined_here walk read other none in
+              (Clash (Joined (slice_index w.before.items (j - 1)) a b), ((refl, refl, s.2, j - 1, s.0, refl, s.1), new_before walk read none))
         ]
         | inl same ↦ elim (decided_eq i 0) [
-          | inr some ↦ (Known, known_here g h w left right walk a b i j a_lt b_lt refl refl same some)
+          | inr some ↦ (Known, known_here walk read same some)
           | inl none ↦ new_objects none (sym same ∙ none)
         ]
       ]
@@ -73,8 +74,9 @@ module _ (g h : Heap) (left : IsValid g) (right : IsValid h) (w : Walk) (walk : 
       new_objects i_none j_none = elim (compared g h a b) [
         | inl alike ↦ (New a b, (refl, refl, i_none, j_none, alike))
         | inr d ↦
-            let old = new_before g h w left right walk a b (slice_index w.new_of.items a) (slice_index w.old_of.items b) a_lt b_lt refl refl i_none in
-            let new = new_after g h w left right walk a b (slice_index w.new_of.items a) (slice_index w.old_of.items b) a_lt b_lt refl refl j_none in
+            let read : IsRead w.new_of.items w.old_of.items a b (slice_index w.new_of.items a) (slice_index w.old_of.items b) = record { a_lt = a_lt; b_lt = b_lt; is_i = refl; is_j = refl } in
+            let old = new_before walk read i_none in
+            let new = new_after walk read j_none in
             (Clash d.0, (seen_of g h w (suc a) (suc b) d.0 d.1, least_of g h w a b d.0 d.1 old new d.2))
       ]
 

@@ -1,12 +1,16 @@
 -- One more root, slot or pair is linked.
-use Rattle.std.proofs.Common.{◌≡◌, ℕ, suc, ◌+◌, ◌%◌, ◌^◌, ◌<◌, ◌≤◌, inl, inr, List, length, get_or, refl, sym, ap, subst, ◌∙◌, arith, slice_index, Contains, Option, Some, None, IfSome, IfNone}
+use Rattle.std.proofs.Common.{◌≡◌, ℕ, suc, ◌+◌, ◌-◌, ◌%◌, ◌^◌, ◌<◌, ◌≤◌, inl, inr, List, length, get_or, refl, sym, ap, subst, ◌∙◌, arith, slice_index, Contains, Option, Some, None, IfSome, IfNone}
 use Rattle.std.specs.Prelude.{Result, Ok, Err, IfOk, OnOk}
 use Rattle.std.proofs.lemmas.Bool.{cases_lt}
 use Rattle.std.proofs.lemmas.List.{get_or_read}
 use Rattle.g1_words.specs.declared.object.Object.{Object}
 use Rattle.g1_words.specs.Heap.{Heap, word, object_at, objects}
+use Rattle.g1_words.specs.Valid.{IsReference}
+use Rattle.g1_same.specs.declared.pair.Pair.{Pair}
 use Rattle.g1_same.specs.declared.walk.Walk.{Walk}
 use Rattle.g1_same.specs.Walk.{IsTour, IsLinked, IsWay, IsBelow, HasGrown}
+use Rattle.g1_same.proofs.Held.{after_valid, before_valid}
+use Rattle.g1_same.proofs.Heaps.{slot_names}
 use Rattle.g1_same.proofs.Linked.{LinksRoots, LinksSlots, LinksPairs}
 use Rattle.g1_same.proofs.Adding.{linked_more}
 
@@ -70,7 +74,7 @@ pairs_more g h w v m grown p linked new i lt = elim (cases_lt i m) [
       subst (λ z. LinksSlots g h v z (object_at g (slice_index v.before.items z)).refs) e (subst (λ z. LinksSlots g h v m (object_at g z).refs) (sym (grown.olds m p)) new)
 ]
 
-pub slot_way : (g h : Heap) (os ns : List ℕ) (i n a b x y : ℕ) → i < length os → slice_index os i ≡ a → slice_index ns i ≡ b
+slot_way : (g h : Heap) (os ns : List ℕ) (i n a b x y : ℕ) → i < length os → slice_index os i ≡ a → slice_index ns i ≡ b
     → n < (object_at g a).refs → n < (object_at h b).refs → word g (a + 1 + n) ≡ x → word h (b + 1 + n) ≡ y → IsWay g h os ns (i + 1) n x y
 slot_way g h os ns i n a b x y lt ea eb p q ex ey =
     let e : suc i ≡ i + 1 = omega arith in
@@ -96,11 +100,11 @@ pub record HasSlots (h : Heap) (a : ℕ) (list : List ℕ) : Type 0 where
   pub count : length list ≡ (object_at h a).refs
   pub each : (n : ℕ) → n < length list → slice_index list n ≡ word h (a + 1 + n)
 
-pub has_slots : (h : Heap) (a : ℕ) (o : Object) (words list : List ℕ) → o ≡ object_at h a → words ≡ h.words → length list ≡ o.refs
-    → ((i : ℕ) → i < o.refs → slice_index list i ≡ slice_index words (o.at + 1 + i)) → HasSlots h a list
-has_slots h a o words list is same count each = record {
+has_slots : (h : Heap) (a : ℕ) (o : Object) (list : List ℕ) → o ≡ object_at h a → length list ≡ o.refs
+    → ((i : ℕ) → i < o.refs → slice_index list i ≡ word h (o.at + 1 + i)) → HasSlots h a list
+has_slots h a o list is count each = record {
   count = count ∙ ap (λ q. q.refs) is;
-  each = λ n lt. each n (omega (arith, lt, count)) ∙ ap (λ q. slice_index words (q.at + 1 + n)) is ∙ ap (λ l. slice_index l (a + 1 + n)) same;
+  each = λ n lt. each n (omega (arith, lt, count)) ∙ ap (λ q. word h (q.at + 1 + n)) is;
 }
 
 -- the pair at place i is of these two objects, with as many slots
@@ -110,17 +114,70 @@ pub record IsPair (g h : Heap) (w : Walk) (i a b : ℕ) : Type 0 where
   pub after : slice_index w.after.items i ≡ b
   pub before_in : Contains (objects g) (object_at g a)
   pub after_in : Contains (objects h) (object_at h b)
-  pub refs : (object_at g a).refs ≡ (object_at h b).refs
+  pub header : word g a ≡ word h b
 
-pub pair_read : (g h : Heap) (w : Walk) (i a b : ℕ) → IsTour g h w → i < length w.before.items → a ≡ get_or w.before.items i a → b ≡ get_or w.after.items i b → IsPair g h w i a b
-pair_read g h w i a b walk lt read_a read_b =
-    let a_is : a ≡ slice_index w.before.items i = get_or_read w.before.items i a lt read_a 0 in
-    let b_is : b ≡ slice_index w.after.items i = get_or_read w.after.items i b (omega (arith, lt, walk.pairs)) read_b 0 in
+pub pair_read : (p : Pair) (w : Walk) (f : ℕ) {a b : ℕ} → IsTour p.before.now p.after.now w → 0 < f → f ≤ length w.before.items
+    → a ≡ get_or w.before.items (f - 1) a → b ≡ get_or w.after.items (f - 1) b → IsPair p.before.now p.after.now w (f - 1) a b
+pair_read p w f {a = a} {b = b} walk some within read_a read_b =
+    let lt : f - 1 < length w.before.items = omega (arith, some, within) in
+    let a_is : a ≡ slice_index w.before.items (f - 1) = get_or_read w.before.items (f - 1) a lt read_a 0 in
+    let b_is : b ≡ slice_index w.after.items (f - 1) = get_or_read w.after.items (f - 1) b (omega (arith, lt, walk.pairs)) read_b 0 in
     record {
       place = lt;
       before = sym a_is;
       after = sym b_is;
-      before_in = subst (λ z. Contains (objects g) (object_at g z)) (sym a_is) (walk.names_before i lt);
-      after_in = subst (λ z. Contains (objects h) (object_at h z)) (sym b_is) (walk.names_after i lt);
-      refs = ap (λ q. q % 2 ^ 32) (ap (word g) a_is ∙ walk.alike i lt ∙ ap (word h) (sym b_is));
+      before_in = subst (λ z. Contains (objects p.before.now) (object_at p.before.now z)) (sym a_is) (walk.names_before (f - 1) lt);
+      after_in = subst (λ z. Contains (objects p.after.now) (object_at p.after.now z)) (sym b_is) (walk.names_after (f - 1) lt);
+      header = ap (word p.before.now) a_is ∙ walk.alike (f - 1) lt ∙ ap (word p.after.now) (sym b_is);
     }
+
+-- the lists have the slots of two objects, which have as many
+pub record AreRead (p : Pair) (a b : ℕ) (olds news : List ℕ) : Type 0 where
+  pub before_in : Contains (objects p.before.now) (object_at p.before.now a)
+  pub after_in : Contains (objects p.after.now) (object_at p.after.now b)
+  pub refs : (object_at p.before.now a).refs ≡ (object_at p.after.now b).refs
+  pub here : HasSlots p.before.now a olds
+  pub there : HasSlots p.after.now b news
+
+pub slots_read : (p : Pair) (a b : ℕ) {o q : Object} (olds news : List ℕ) → Contains (objects p.before.now) (object_at p.before.now a) → Contains (objects p.after.now) (object_at p.after.now b)
+    → word p.before.now a ≡ word p.after.now b → o ≡ object_at p.before.now a → q ≡ object_at p.after.now b
+    → length olds ≡ o.refs → ((i : ℕ) → i < o.refs → slice_index olds i ≡ word p.before.now (o.at + 1 + i))
+    → length news ≡ q.refs → ((i : ℕ) → i < q.refs → slice_index news i ≡ word p.after.now (q.at + 1 + i)) → AreRead p a b olds news
+slots_read p a b {o = o} {q = q} olds news before_in after_in header is_o is_q old_count old_each new_count new_each = record {
+  before_in = before_in;
+  after_in = after_in;
+  refs = ap (λ x. x % 2 ^ 32) header;
+  here = has_slots p.before.now a o olds is_o old_count old_each;
+  there = has_slots p.after.now b q news is_q new_count new_each;
+}
+
+module _ {p : Pair} {a b : ℕ} {olds news : List ℕ} (read : AreRead p a b olds news) (n : ℕ) (lt : n < length olds) where
+  below_new : n < length news
+  below_new = omega (arith, lt, read.here.count, read.refs, read.there.count)
+
+  pub within_old : n < (object_at p.before.now a).refs
+  within_old = omega (arith, lt, read.here.count)
+
+  pub within_new : n < (object_at p.after.now b).refs
+  within_new = omega (arith, lt, read.here.count, read.refs)
+
+  pub old_word : slice_index olds n ≡ word p.before.now (a + 1 + n)
+  old_word = read.here.each n lt
+
+  pub new_word : slice_index news n ≡ word p.after.now (b + 1 + n)
+  new_word = read.there.each n below_new
+
+  pub old_names : IsReference p.before.now (slice_index olds n)
+  old_names = subst (IsReference p.before.now) (sym old_word) (slot_names p.before.now a n (before_valid p) read.before_in within_old)
+
+  pub new_names : IsReference p.after.now (slice_index news n)
+  new_names = subst (IsReference p.after.now) (sym new_word) (slot_names p.after.now b n (after_valid p) read.after_in within_new)
+
+-- both slots stand at a way of a later walk, if the objects are the pair before place f
+pub slots_way : {p : Pair} {w : Walk} (v : Walk) (f : ℕ) {a b : ℕ} {olds news : List ℕ} → 0 < f → IsPair p.before.now p.after.now w (f - 1) a b → AreRead p a b olds news → HasGrown w v
+    → (n : ℕ) → n < length olds → IsWay p.before.now p.after.now v.before.items v.after.items f n (slice_index olds n) (slice_index news n)
+slots_way {p = p} v f {a = a} {b = b} {olds = olds} {news = news} some pair read grown n lt =
+    let one : f - 1 + 1 ≡ f = omega (arith, some) in
+    subst (λ z. IsWay p.before.now p.after.now v.before.items v.after.items z n (slice_index olds n) (slice_index news n)) one
+    (slot_way p.before.now p.after.now v.before.items v.after.items (f - 1) n a b (slice_index olds n) (slice_index news n) (omega (arith, pair.place, grown.more))
+    (grown.olds (f - 1) pair.place ∙ pair.before) (grown.news (f - 1) pair.place ∙ pair.after) (within_old read n lt) (within_new read n lt) (sym (old_word read n lt)) (sym (new_word read n lt)))

@@ -6,6 +6,7 @@ ghost use Rattle.g1_same.specs.Walk.{IsWalk};
 ghost use Rattle.g1_same.specs.Behind.{IsFound, LinksBetween};
 
 use crate::difference::Difference;
+use crate::pair::Pair;
 use crate::path::path_by;
 use crate::renaming::Renaming;
 use crate::searching::search;
@@ -17,21 +18,18 @@ use std::alloc::{AllocError, Global};
 // The first difference of two heaps, if no word is stale.
 fn difference_at(
     alloc: Global,
-    before: &Heap,
-    after: &Heap,
+    heaps: Pair<'_>,
     walk: &Walk,
     stale: &StaleWords<'_>,
     found: &Found,
 ) -> Result<Difference, AllocError>
     requires none { (stale.now.roots.now ≡ []) × (stale.now.slots.now ≡ []) }
-    requires walk { IsWalk before.now after.now walk.now }
-    requires found { IsFound before.now after.now stale.now walk.now found.now }
-    requires until { LinksBetween before.now after.now walk.now 0 0 found.now.place.way.from found.now.place.way.number }
-    requires roots { length before.now.roots ≡ length after.now.roots }
-    ensures { IfOk result (λ d. IsFirstDifference before.now after.now d) }
+    requires walk { IsWalk heaps.before.now heaps.after.now walk.now }
+    requires found { IsFound heaps.before.now heaps.after.now stale.now walk.now found.now }
+    requires until { LinksBetween heaps.before.now heaps.after.now walk.now 0 0 found.now.place.way.from found.now.place.way.number }
+    requires roots { length heaps.before.now.roots ≡ length heaps.after.now.roots }
+    ensures { IfOk result (λ d. IsFirstDifference heaps.entry.before.now heaps.entry.after.now d) }
 {
-    g1_words::laws::valid(before);
-    g1_words::laws::valid(after);
     let path = path_by(alloc, walk, found.place.way)?;
     match found.what {
         What::Stale(_) => unreachable!(),
@@ -67,15 +65,16 @@ pub fn compare(
             after: after.roots().len() as u64,
         }));
     }
-    let mut walk = start(alloc, before, after)?;
+    let heaps = Pair::new(before, after);
+    let mut walk = start(alloc, heaps)?;
     let first = Way { from: 0, number: 0 };
     let none = StaleWords {
         roots: &[],
         slots: &[],
     };
-    let met = search(before, after, &none, &mut walk, first)?;
+    let met = search(heaps, &none, &mut walk, first)?;
     match met {
-        Some(found) => Ok(Err(difference_at(alloc, before, after, &walk, &none, &found)?)),
+        Some(found) => Ok(Err(difference_at(alloc, heaps, &walk, &none, &found)?)),
         None => Ok(Ok(Renaming {
             before: walk.before,
             after: walk.after,

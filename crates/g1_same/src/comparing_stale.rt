@@ -8,6 +8,7 @@ ghost use Rattle.g1_same.specs.Stale.{LeadsToStale};
 ghost use Rattle.g1_same.specs.Earliest.{IsEarliestOf};
 
 use crate::difference::Difference;
+use crate::pair::Pair;
 use crate::path::path_by;
 use crate::searching::search;
 use crate::stale::StaleWords;
@@ -36,22 +37,19 @@ pub enum Earliest {
 // What a search from the first root found.
 fn earliest_at(
     alloc: Global,
-    before: &Heap,
-    after: &Heap,
+    heaps: Pair<'_>,
     walk: &Walk,
     stale: &StaleWords<'_>,
     found: &Found,
 ) -> Result<Earliest, AllocError>
     requires by_place { AreByPlace stale.now }
-    requires walk { IsWalk before.now after.now walk.now }
-    requires found { IsFound before.now after.now stale.now walk.now found.now }
-    requires until { LinksBetween before.now after.now walk.now 0 0 found.now.place.way.from found.now.place.way.number }
-    requires no_stale { IsNextStale before.now after.now stale.now walk.now 0 0 found.now }
-    requires roots { length before.now.roots ≡ length after.now.roots }
-    ensures { IfOk result (λ e. IsEarliestOf before.now after.now stale.now.roots.now stale.now.slots.now e) }
+    requires walk { IsWalk heaps.before.now heaps.after.now walk.now }
+    requires found { IsFound heaps.before.now heaps.after.now stale.now walk.now found.now }
+    requires until { LinksBetween heaps.before.now heaps.after.now walk.now 0 0 found.now.place.way.from found.now.place.way.number }
+    requires no_stale { IsNextStale heaps.before.now heaps.after.now stale.now walk.now 0 0 found.now }
+    requires roots { length heaps.before.now.roots ≡ length heaps.after.now.roots }
+    ensures { IfOk result (λ e. IsEarliestOf heaps.entry.before.now heaps.entry.after.now stale.now.roots.now stale.now.slots.now e) }
 {
-    g1_words::laws::valid(before);
-    g1_words::laws::valid(after);
     let path = path_by(alloc, walk, found.place.way)?;
     match found.what {
         What::Stale(word) => Ok(Earliest::Stale(StaleEnd {
@@ -92,11 +90,12 @@ pub fn compare_stale(
             after: after.roots().len() as u64,
         })));
     }
-    let mut walk = start(alloc, before, after)?;
+    let heaps = Pair::new(before, after);
+    let mut walk = start(alloc, heaps)?;
     let first = Way { from: 0, number: 0 };
-    let met = search(before, after, stale, &mut walk, first)?;
+    let met = search(heaps, stale, &mut walk, first)?;
     match met {
-        Some(found) => Ok(Some(earliest_at(alloc, before, after, &walk, stale, &found)?)),
+        Some(found) => Ok(Some(earliest_at(alloc, heaps, &walk, stale, &found)?)),
         None => Ok(None),
     }
 }

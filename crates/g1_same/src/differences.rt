@@ -1,10 +1,12 @@
 //! The differences of two heaps, one after another.
 ghost use Rattle.std.specs.Prelude.{◌≡◌, ◌+◌, IfOk, OnOk};
+ghost use Rattle.g1_words.specs.Valid.{IsValid};
 ghost use Rattle.g1_same.specs.declared.stale.StaleWords.{StaleWords};
 ghost use Rattle.g1_same.specs.Walk.{IsTour, IsBelow, HasGrown};
 ghost use Rattle.g1_same.specs.Behind.{AddsOnly, IsFound, IsPassed};
 
 use crate::difference::How;
+use crate::pair::Pair;
 use crate::path::{Path, path_by};
 use crate::searching::search;
 use crate::stale::StaleWords;
@@ -24,6 +26,8 @@ pub struct Differences<'a> {
     walk: Walk,
     // Where the walk goes on.
     way: Way,
+    ghost valid_before: { ∥ IsValid before.now ∥₁ },
+    ghost valid_after: { ∥ IsValid after.now ∥₁ },
 }
 
 impl<'a> Differences<'a> {
@@ -50,10 +54,11 @@ impl<'a> Differences<'a> {
         ensures none { IfOk result (λ d. d.walk.before.items ≡ []) }
         ensures memory { IfErr result (λ e. e ≡ Memory) }
     {
-        let walk = start(alloc, before, after)?;
+        let heaps = Pair::new(before, after);
+        let walk = start(alloc, heaps)?;
         Ok(Differences {
-            before,
-            after,
+            before: heaps.before,
+            after: heaps.after,
             stale,
             walk,
             way: Way { from: 0, number: 0 },
@@ -81,17 +86,14 @@ impl<'a> Differences<'a> {
         ensures ended { IfOk result (λ o. IfNone o (self.new.way.from ≡ length self.new.walk.before.items + 1)) }
         ensures memory { IfErr result (λ e. e ≡ Memory) }
     {
-        g1_words::laws::valid(self.before);
-        let met = search(
-            self.before,
-            self.after,
-            &self.stale,
-            &mut self.walk,
-            self.way,
-        )?;
+        let heaps = Pair {
+            before: self.before,
+            after: self.after,
+        };
+        let met = search(heaps, &self.stale, &mut self.walk, self.way)?;
         match met {
             Some(found) => {
-                self.way = go_behind(self.before, self.after, &mut self.walk, &found)?;
+                self.way = go_behind(heaps, &mut self.walk, &found)?;
                 Ok(Some(found))
             }
             None => {
@@ -118,18 +120,16 @@ impl<'a> Differences<'a> {
 }
 
 // Two objects whose data words alone differ are a pair. Returns the way behind that of the difference.
-fn go_behind(before: &Heap, after: &Heap, walk: &mut Walk, found: &Found) -> Result<Way, AllocError>
-    requires walk { IsTour before.now after.now walk.old }
-    requires stale { (s : StaleWords) × IsFound before.now after.now s walk.old found.now }
-    ensures walk { OnOk result (IsTour before.now after.now walk.new) }
+fn go_behind(heaps: Pair<'_>, walk: &mut Walk, found: &Found) -> Result<Way, AllocError>
+    requires walk { IsTour heaps.before.now heaps.after.now walk.old }
+    requires stale { (s : StaleWords) × IsFound heaps.before.now heaps.after.now s walk.old found.now }
+    ensures walk { OnOk result (IsTour heaps.entry.before.now heaps.entry.after.now walk.new) }
     ensures grown { OnOk result (HasGrown walk.old walk.new) }
     ensures below { OnOk result (IsBelow walk.new found.now.place.way.from (found.now.place.way.number + 1)) }
     ensures passed { OnOk result (IsPassed walk.new found.now) }
     ensures one { OnOk result (AddsOnly walk.old walk.new found.now.place.way.from found.now.place.way.number) }
     ensures way { IfOk result (λ w. (w.from ≡ found.now.place.way.from) × (w.number ≡ found.now.place.way.number + 1)) }
 {
-    g1_words::laws::valid(before);
-    g1_words::laws::valid(after);
     let place = found.place;
     let next = Way {
         from: place.way.from,

@@ -6,6 +6,7 @@ ghost use Rattle.g1_same.specs.Ends.{AreEnds, AreValues, AreFoundValues, HasData
 ghost use Rattle.g1_same.specs.Behind.{ShowsAt};
 
 use crate::difference::{Difference, How};
+use crate::pair::Pair;
 use crate::walk::{Found, Place, What};
 use g1_words::Heap;
 
@@ -46,14 +47,15 @@ fn value(heap: &Heap, reference: u64, number: u64) -> u64
 }
 
 // The values of two data words that differ.
-fn values(before: &Heap, after: &Heap, how: &How, old: u64, new: u64) -> (u64, u64)
-    requires { (p : List ℕ) × LeadsTo before.now p old × LeadsTo after.now p new × IsClash before.now after.now p how.now old new }
-    ensures { AreValues before.now after.now how.now old new result.0 result.1 }
+fn values(heaps: Pair<'_>, how: &How, old: u64, new: u64) -> (u64, u64)
+    requires { (p : List ℕ) × LeadsTo heaps.before.now p old × LeadsTo heaps.after.now p new × IsClash heaps.before.now heaps.after.now p how.now old new }
+    ensures { AreValues heaps.entry.before.now heaps.entry.after.now how.now old new result.0 result.1 }
 {
-    g1_words::laws::valid(before);
-    g1_words::laws::valid(after);
     match how {
-        How::Data { word } => (value(before, old, *word), value(after, new, *word)),
+        How::Data { word } => (
+            value(heaps.before, old, *word),
+            value(heaps.after, new, *word),
+        ),
         _ => (0, 0),
     }
 }
@@ -64,6 +66,7 @@ pub fn ends_at(before: &Heap, after: &Heap, found: &Found) -> Ends
     ensures words { (result.before ≡ found.now.place.before) × (result.after ≡ found.now.place.after) }
     ensures values { AreFoundValues before.now after.now found.now.what result }
 {
+    let heaps = Pair::new(before, after);
     let Place {
         before: old,
         after: new,
@@ -71,7 +74,7 @@ pub fn ends_at(before: &Heap, after: &Heap, found: &Found) -> Ends
     } = found.place;
     let (word_before, word_after) = match &found.what {
         What::Stale(_) => (0, 0),
-        What::How(how) => values(before, after, how, old, new),
+        What::How(how) => values(heaps, how, old, new),
     };
     Ends {
         before: old,
@@ -94,9 +97,10 @@ pub fn ends_of(before: &Heap, after: &Heap, difference: &Difference) -> Ends
             word_after: 0,
         },
         Difference::At { root, slots, how } => {
-            let old = follow(before, *root, slots.as_slice());
-            let new = follow(after, *root, slots.as_slice());
-            let (word_before, word_after) = values(before, after, how, old, new);
+            let heaps = Pair::new(before, after);
+            let old = follow(heaps.before, *root, slots.as_slice());
+            let new = follow(heaps.after, *root, slots.as_slice());
+            let (word_before, word_after) = values(heaps, how, old, new);
             Ends {
                 before: old,
                 after: new,

@@ -27,6 +27,8 @@
 //! `ends_of` follows the path to a difference in both heaps: the words that it leads to, and of two data
 //! words that differ their values. `ends_at` says so of what `Differences` returned.
 //!
+//! The private functions take both heaps as a `Pair`, whose type carries that they are valid.
+//!
 //! Each reached object, slot and data word is looked at once. The tables have 4 bytes for each word of
 //! their heap, and the list of pairs 24 bytes for each.
 #![tactic(auto)]
@@ -38,6 +40,7 @@ mod differences;
 mod ending;
 pub mod laws;
 mod meeting;
+mod pair;
 mod path;
 mod renaming;
 mod searching;
@@ -50,6 +53,7 @@ pub use difference::{Difference, How};
 pub use differences::Differences;
 pub use ending::{Ends, ends_at, ends_of};
 pub use meeting::first_other;
+pub use pair::Pair;
 pub use path::Path;
 pub use renaming::Renaming;
 pub use stale::StaleWords;

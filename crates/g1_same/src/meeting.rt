@@ -1,13 +1,13 @@
 ghost use Rattle.std.specs.Prelude.{◌≡◌, ◌≢◌, ◌<◌, ◌≤◌, ◌+◌, suc, ℕ, List, length, slice_index, Contains, IfSome, IfNone, IfOk, OnOk};
 ghost use Rattle.g1_words.specs.Heap.{object_at, objects};
-ghost use Rattle.g1_words.specs.Valid.{IsValid, IsReference};
+ghost use Rattle.g1_words.specs.Valid.{IsReference};
 ghost use Rattle.g1_same.specs.Same.{IsClash};
 ghost use Rattle.g1_same.specs.Walk.{IsTour, IsWay, IsBelow, IsLinked, HasGrown, AreAlike, IsMet, IsSeen, IsLeast, IsLower};
 ghost use Rattle.g1_same.specs.Behind.{FindsAlike};
 
 use crate::difference::How;
+use crate::pair::Pair;
 use crate::walk::{Walk, Way};
-use g1_words::Heap;
 use std::alloc::AllocError;
 
 /// What two words are to the walk.
@@ -37,15 +37,15 @@ pub fn first_other(old: &[u64], new: &[u64]) -> Option<usize>
 }
 
 // How two objects differ, apart from what their slots name.
-fn objects_differ(before: &Heap, after: &Heap, a: u64, b: u64) -> Option<How>
-    requires a { Contains (objects before.now) (object_at before.now a) }
-    requires b { Contains (objects after.now) (object_at after.now b) }
-    ensures some { IfSome result (λ how. (p : List ℕ) → IsClash before.now after.now p how (suc a) (suc b)) }
-    ensures lower { IfSome result (λ how. IsLower before.now after.now how a b) }
-    ensures none { IfNone result (AreAlike before.now after.now a b) }
+fn objects_differ(heaps: Pair<'_>, a: u64, b: u64) -> Option<How>
+    requires a { Contains (objects heaps.before.now) (object_at heaps.before.now a) }
+    requires b { Contains (objects heaps.after.now) (object_at heaps.after.now b) }
+    ensures some { IfSome result (λ how. (p : List ℕ) → IsClash heaps.entry.before.now heaps.entry.after.now p how (suc a) (suc b)) }
+    ensures lower { IfSome result (λ how. IsLower heaps.entry.before.now heaps.entry.after.now how a b) }
+    ensures none { IfNone result (AreAlike heaps.entry.before.now heaps.entry.after.now a b) }
 {
-    let old = before.object(a);
-    let new = after.object(b);
+    let old = heaps.before.object(a);
+    let new = heaps.after.object(b);
     if old.size != new.size {
         return Some(How::Size {
             before: old.size,
@@ -58,8 +58,8 @@ fn objects_differ(before: &Heap, after: &Heap, a: u64, b: u64) -> Option<How>
             after: new.refs,
         });
     }
-    let here = before.data(&old);
-    let there = after.data(&new);
+    let here = heaps.before.data(&old);
+    let there = heaps.after.data(&new);
     match first_other(here, there) {
         Some(word) => Some(How::Data { word: word as u64 }),
         None => None,
@@ -67,14 +67,12 @@ fn objects_differ(before: &Heap, after: &Heap, a: u64, b: u64) -> Option<How>
 }
 
 // What two words are to the walk.
-fn meet(before: &Heap, after: &Heap, walk: &Walk, x: u64, y: u64) -> Met
-    requires walk { IsTour before.now after.now walk.now }
-    requires x { IsReference before.now x }
-    requires y { IsReference after.now y }
-    ensures { IsMet before.now after.now walk.now x y result }
+fn meet(heaps: Pair<'_>, walk: &Walk, x: u64, y: u64) -> Met
+    requires walk { IsTour heaps.before.now heaps.after.now walk.now }
+    requires x { IsReference heaps.before.now x }
+    requires y { IsReference heaps.after.now y }
+    ensures { IsMet heaps.entry.before.now heaps.entry.after.now walk.now x y result }
 {
-    g1_words::laws::valid(before);
-    g1_words::laws::valid(after);
     if x == 0 {
         if y == 0 {
             return Met::Known;
@@ -105,7 +103,7 @@ fn meet(before: &Heap, after: &Heap, walk: &Walk, x: u64, y: u64) -> Met
     if i != 0 {
         return Met::Known;
     }
-    match objects_differ(before, after, a, b) {
+    match objects_differ(heaps, a, b) {
         Some(how) => Met::Clash(how),
         None => Met::New { a, b },
     }
@@ -113,29 +111,26 @@ fn meet(before: &Heap, after: &Heap, walk: &Walk, x: u64, y: u64) -> Met
 
 /// Links two words to which this way leads, or returns how they disagree.
 pub fn link(
-    before: &Heap,
-    after: &Heap,
+    heaps: Pair<'_>,
     walk: &mut Walk,
     way: Way,
     x: u64,
     y: u64,
 ) -> Result<Option<How>, AllocError>
-    requires walk { IsTour before.now after.now walk.old }
+    requires walk { IsTour heaps.before.now heaps.after.now walk.old }
     requires below { IsBelow walk.old way.from way.number }
-    requires way { IsWay before.now after.now walk.old.before.items walk.old.after.items way.from way.number x y }
+    requires way { IsWay heaps.before.now heaps.after.now walk.old.before.items walk.old.after.items way.from way.number x y }
     requires backward { way.from ≤ length walk.old.before.items }
-    requires x { IsReference before.now x }
-    requires y { IsReference after.now y }
-    ensures walk { OnOk result (IsTour before.now after.now walk.new) }
+    requires x { IsReference heaps.before.now x }
+    requires y { IsReference heaps.after.now y }
+    ensures walk { OnOk result (IsTour heaps.entry.before.now heaps.entry.after.now walk.new) }
     ensures grown { OnOk result (HasGrown walk.old walk.new) }
-    ensures alike { OnOk result (FindsAlike before.now after.now walk.old walk.new) }
+    ensures alike { OnOk result (FindsAlike heaps.entry.before.now heaps.entry.after.now walk.old walk.new) }
     ensures linked { IfOk result (λ o. IfNone o (IsLinked walk.new way.from way.number x y)) }
     ensures below { OnOk result (IsBelow walk.new way.from (way.number + 1)) }
-    ensures clash { IfOk result (λ o. IfSome o (λ how. IsSeen before.now after.now walk.new how x y × IsBelow walk.new way.from way.number × IsLeast before.now after.now walk.new how x y)) }
+    ensures clash { IfOk result (λ o. IfSome o (λ how. IsSeen heaps.entry.before.now heaps.entry.after.now walk.new how x y × IsBelow walk.new way.from way.number × IsLeast heaps.entry.before.now heaps.entry.after.now walk.new how x y)) }
 {
-    g1_words::laws::valid(before);
-    g1_words::laws::valid(after);
-    match meet(before, after, walk, x, y) {
+    match meet(heaps, walk, x, y) {
         Met::Known => Ok(None),
         Met::Clash(how) => Ok(Some(how)),
         Met::New { a, b } => {

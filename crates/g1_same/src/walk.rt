@@ -1,11 +1,10 @@
 ghost use Rattle.std.specs.Prelude.{◌≡◌, ◌<◌, ◌≤◌, ◌++◌, ◌+◌, ◌∷◌, [], suc, length, slice_set, slice_index, Contains, IfOk, OnOk};
 ghost use Rattle.g1_words.specs.Geometry.{most_words};
 ghost use Rattle.g1_words.specs.Heap.{object_at, objects};
-ghost use Rattle.g1_words.specs.Valid.{IsValid};
 ghost use Rattle.g1_same.specs.Walk.{IsTour};
 
 use crate::difference::How;
-use g1_words::Heap;
+use crate::pair::Pair;
 use std::alloc::{AllocError, Global};
 
 /// The pairs of objects that were found, how each was found, and the tables that find them.
@@ -57,16 +56,12 @@ pub struct Found {
 }
 
 /// A walk that has found nothing.
-pub fn start(alloc: Global, before: &Heap, after: &Heap) -> Result<Walk, AllocError>
-    ensures walk { IfOk result (λ w. IsTour before.now after.now w) }
+pub fn start(alloc: Global, heaps: Pair<'_>) -> Result<Walk, AllocError>
+    ensures walk { IfOk result (λ w. IsTour heaps.entry.before.now heaps.entry.after.now w) }
     ensures none { IfOk result (λ w. w.before.items ≡ []) }
-    ensures before { IsValid before.now }
-    ensures after { IsValid after.now }
 {
-    g1_words::laws::valid(before);
-    g1_words::laws::valid(after);
-    let new_of = vec![in alloc; 0u32; before.words().len()]?;
-    let old_of = vec![in alloc; 0u32; after.words().len()]?;
+    let new_of = vec![in alloc; 0u32; heaps.before.words().len()]?;
+    let old_of = vec![in alloc; 0u32; heaps.after.words().len()]?;
     Ok(Walk {
         before: Vec::new(alloc),
         after: Vec::new(alloc),

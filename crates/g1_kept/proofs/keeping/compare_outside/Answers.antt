@@ -9,14 +9,15 @@ use Rattle.g1_kept.specs.Pause.{IsLossIn, IsMetFirstIn}
 use Rattle.g1_kept.specs.Walk.{IsPairWalk, HasMorePairs, ComparesRegion, ComparesOutside, Searches}
 use Rattle.g1_kept.proofs.Growing.{none_then, some_then, grown_same, grown_more, outside_more}
 use Rattle.g1_kept.proofs.Outside.{region_skipped}
+use Rattle.g1_same.proofs.Held.{after_valid, before_valid}
 use Rattle.g1_kept.proofs.keeping.compare_outside.Goals as goal
 use Rattle.g1_kept.proofs.keeping.compare_outside.Goals.{then-is_compared+in_ok-lost+in_default, else-is_compared}
 
 pub loop-region-preserved : goal.loop-region-preserved
 loop-region-preserved c =
     let pause = c.args.pause.now in
-    let g : Heap = pause.before.now in
-    let h : Heap = pause.after.now in
+    let g : Heap = pause.heaps.before.now in
+    let h : Heap = pause.heaps.after.now in
     let w : Pairs = c.loop-region.pairs in
     let k : ℕ = c.loop-region.region in
     let now : Pairs = c.if-is_compared.pairs in
@@ -37,7 +38,7 @@ loop-region-preserved c =
           record {
             walk = subst (IsPairWalk pause.fill pause.set.now g h) (sym w'.pairs-is) c.loop-region.invariant.walk;
             search = subst (λ u. Searches pause.fill pause.set.now g h u (suc (start g (k + 1))) 0) (sym w'.pairs-is)
-                (region_skipped pause.fill pause.set.now g h c.valid.ensures c.valid-2.ensures w k in_heap
+                (region_skipped pause.fill pause.set.now g h (before_valid c.args.pause.now.heaps) (after_valid c.args.pause.now.heaps) w k in_heap
                 (λ out used in_use. let yes : c.is_compared.result ≡ true = c.is_compared.ensures.1 (out, used, in_use) in false≢true (sym w'.if-is_compared.false ∙ yes))
                 c.loop-region.invariant.search);
             grown = subst (HasMorePairs c.args.pairs.now) (sym w'.pairs-is) c.loop-region.invariant.grown;
@@ -71,12 +72,12 @@ returns-in-Some-clause-walk c = c.in_ok-lost.ensures.walk
 pub loop-region-init : goal.loop-region-init
 loop-region-init c =
     let pause = c.args.pause.now in
-    let first : 1 ≡ suc (start pause.before.now 0) = omega arith in
+    let first : 1 ≡ suc (start pause.heaps.before.now 0) = omega arith in
     record {
       walk = c.requires.walk;
       grown = grown_same c.args.pairs.now;
       compared = λ r lt. absurd (omega (arith, lt));
-      search = subst (λ z. Searches pause.fill pause.set.now pause.before.now pause.after.now c.args.pairs.now z 0) first c.requires.search;
+      search = subst (λ z. Searches pause.fill pause.set.now pause.heaps.before.now pause.heaps.after.now c.args.pairs.now z 0) first c.requires.search;
     }
 
 pub returns-in-Some-clause-grown : goal.returns-in-Some-clause-grown
@@ -138,9 +139,9 @@ returns-clause-compared c =
 pub returns-clause-searched : goal.returns-clause-searched
 returns-clause-searched c =
     let pause = c.args.pause.now in
-    let g : Heap = pause.before.now in
+    let g : Heap = pause.heaps.before.now in
     let w : Pairs = c.loop-region.pairs in
     let n = ap (λ s. s.n) c.geometry.ensures.same in
     let last : c.loop-region.region ≡ g.geometry.n = omega (arith, n, c.loop-region-test.false, c.loop-region.auto.region-end, c.regions-region-end.ensures.value) in
-    let end : suc (start g c.loop-region.region) ≡ suc (length g.words) = ap (λ r. suc (r * g.geometry.w)) last ∙ ap suc (sym c.valid.ensures.word_count) in
-    subst (λ z. Searches pause.fill pause.set.now g pause.after.now w z 0) end c.loop-region.invariant.search
+    let end : suc (start g c.loop-region.region) ≡ suc (length g.words) = ap (λ r. suc (r * g.geometry.w)) last ∙ ap suc (sym (before_valid c.args.pause.now.heaps).word_count) in
+    subst (λ z. Searches pause.fill pause.set.now g pause.heaps.after.now w z 0) end c.loop-region.invariant.search

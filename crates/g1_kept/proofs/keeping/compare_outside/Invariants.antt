@@ -8,6 +8,6 @@ abbrev pub invariant-loop-region : goal.invariant-loop-region
 invariant-loop-region l = record {
   walk : IsWalkIn l.pause l.pairs;
   grown : HasMorePairs l.initial.pairs l.pairs;
-  compared : ComparesOutside l.pause.set.now l.pause.before.now l.pause.after.now l.pairs l.region;
-  search : SearchesIn l.pause l.pairs (suc (start l.pause.before.now l.region)) 0;
+  compared : ComparesOutside l.pause.set.now l.pause.heaps.before.now l.pause.heaps.after.now l.pairs l.region;
+  search : SearchesIn l.pause l.pairs (suc (start l.pause.heaps.before.now l.region)) 0;
 }

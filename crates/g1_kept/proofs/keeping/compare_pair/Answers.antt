@@ -14,8 +14,8 @@ pub returns-in-Some-clause-first : goal.returns-in-Some-clause-first
 returns-in-Some-clause-first c =
     let pause = c.args.pause.now in
     let set = pause.set.now in
-    let g = pause.before.now in
-    let h = pause.after.now in
+    let g = pause.heaps.before.now in
+    let h = pause.heaps.after.now in
     let loss = some_then (λ (l : Lost). IsLoss pause.fill set g h l) c.compare_contents.result c.in-Some.lost c.in-Some.is c.compare_contents.ensures.some in
     let first = some_then (λ (l : Lost). IsFirstOfObjects g h c.args.a c.args.b l) c.compare_contents.result c.in-Some.lost c.in-Some.is c.compare_contents.ensures.first in
     stops_contents pause.fill set g h c.args.pairs.now c.args.a c.args.b c.in-Some.lost loss first
@@ -24,8 +24,8 @@ pub returns-clause-passed : goal.returns-clause-passed
 returns-clause-passed c =
     let pause = c.args.pause.now in
     let set = pause.set.now in
-    let g = pause.before.now in
-    let h = pause.after.now in
+    let g = pause.heaps.before.now in
+    let h = pause.heaps.after.now in
     let w = c.args.pairs.now in
     let v = c.link_slots.new.pairs in
     let alike : AreAlike g h c.args.a c.args.b = none_then (AreAlike g h c.args.a c.args.b) c.compare_contents.result c.in_default.not-Some c.compare_contents.ensures.none in
@@ -36,8 +36,8 @@ pub returns-clause-first : goal.returns-clause-first
 returns-clause-first c =
     let pause = c.args.pause.now in
     let set = pause.set.now in
-    let g = pause.before.now in
-    let h = pause.after.now in
+    let g = pause.heaps.before.now in
+    let h = pause.heaps.after.now in
     let w = c.args.pairs.now in
     let alike : AreAlike g h c.args.a c.args.b = none_then (AreAlike g h c.args.a c.args.b) c.compare_contents.result c.in_default.not-Some c.compare_contents.ensures.none in
     ok_some_map (λ (l : Lost). StopsAtObjects pause.fill set g h w c.args.a c.args.b 1 l)
@@ -59,7 +59,7 @@ link_slots-requires-clause-pair c = c.requires.pair
 pub link_slots-requires-clause-alike : goal.link_slots-requires-clause-alike
 link_slots-requires-clause-alike c =
     let pause = c.args.pause.now in
-    none_then (AreAlike pause.before.now pause.after.now c.args.a c.args.b) c.compare_contents.result c.in_default.not-Some c.compare_contents.ensures.none
+    none_then (AreAlike pause.heaps.before.now pause.heaps.after.now c.args.a c.args.b) c.compare_contents.result c.in_default.not-Some c.compare_contents.ensures.none
 
 pub returns-clause-walk : goal.returns-clause-walk
 returns-clause-walk c = c.link_slots.ensures.walk
@@ -74,8 +74,8 @@ pub returns-clause-compared : goal.returns-clause-compared
 returns-clause-compared c =
     let pause = c.args.pause.now in
     let set = pause.set.now in
-    let g : Heap = pause.before.now in
-    let h : Heap = pause.after.now in
+    let g : Heap = pause.heaps.before.now in
+    let h : Heap = pause.heaps.after.now in
     let v : Pairs = c.link_slots.new.pairs in
     let a : ℕ = c.args.a in
     let b : ℕ = c.args.b in

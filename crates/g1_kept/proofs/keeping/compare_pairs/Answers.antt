@@ -8,12 +8,13 @@ use Rattle.g1_kept.specs.Walk.{IsCompared, HasMorePairs, HasTurn, Searches, Pass
 use Rattle.g1_kept.proofs.Adding.{few_pairs}
 use Rattle.g1_kept.proofs.Growing.{none_then, some_then, grown_same, grown_more, pairs_more}
 use Rattle.g1_kept.proofs.Steps.{as_many_words, pair_read}
+use Rattle.g1_same.proofs.Held.{after_valid, before_valid}
 use Rattle.g1_kept.proofs.keeping.compare_pairs.Goals as goal
 
 pub compare_pair-requires-clause-sizes : goal.compare_pair-requires-clause-sizes
 compare_pair-requires-clause-sizes c =
     let pause = c.args.pause.now in
-    as_many_words pause.fill pause.set.now pause.before.now pause.after.now c.valid.ensures c.valid-2.ensures c.requires.table
+    as_many_words pause.fill pause.set.now pause.heaps.before.now pause.heaps.after.now (before_valid c.args.pause.now.heaps) (after_valid c.args.pause.now.heaps) c.requires.table
 
 pub compare_pair-requires-clause-pair : goal.compare_pair-requires-clause-pair
 compare_pair-requires-clause-pair c =
@@ -23,14 +24,14 @@ compare_pair-requires-clause-pair c =
     let lt : i < length w.before.items = omega (arith, c.loop-place-test.true, c.len.ensures, w.before.ok) in
     let a_is = get_or_read w.before.items i c.index-a.result.now lt c.index-a.ensures 0 in
     let b_is = get_or_read w.after.items i c.index-b.result.now (omega (arith, lt, c.loop-place.invariant.walk.pairs)) c.index-b.ensures 0 in
-    let pair = pair_read pause.fill pause.set.now pause.before.now pause.after.now w i c.index-a.result.now c.index-b.result.now c.loop-place.invariant.walk lt a_is b_is in
+    let pair = pair_read pause.fill pause.set.now pause.heaps.before.now pause.heaps.after.now w i c.index-a.result.now c.index-b.result.now c.loop-place.invariant.walk lt a_is b_is in
     record { before = pair.before_in; after = pair.after_in; matched = pair.matched }
 
 pub loop-place-preserved : goal.loop-place-preserved
 loop-place-preserved c =
     let pause = c.args.pause.now in
-    let g : Heap = pause.before.now in
-    let h : Heap = pause.after.now in
+    let g : Heap = pause.heaps.before.now in
+    let h : Heap = pause.heaps.after.now in
     let w : Pairs = c.loop-place.pairs in
     let v : Pairs = c.compare_pair.new.pairs in
     let i : ℕ = c.loop-place.place in
@@ -58,29 +59,29 @@ returns-in-Some-clause-grown c = grown_more c.args.pairs.now c.loop-place.pairs 
 pub loop-place-smaller : goal.loop-place-smaller
 loop-place-smaller c =
     let pause = c.args.pause.now in
-    let few = few_pairs pause.fill pause.set.now pause.before.now pause.after.now c.loop-place.pairs c.valid.ensures c.loop-place.invariant.walk in
+    let few = few_pairs pause.fill pause.set.now pause.heaps.before.now pause.heaps.after.now c.loop-place.pairs (before_valid c.args.pause.now.heaps) c.loop-place.invariant.walk in
     let lt : c.loop-place.place < length c.loop-place.pairs.before.items = omega (arith, c.loop-place-test.true, c.len.ensures, c.loop-place.pairs.before.ok) in
-    let n : ℕ = length pause.before.now.words in
+    let n : ℕ = length pause.heaps.before.now.words in
     let e : n - (c.loop-place.place + 1) < n - c.loop-place.place = omega (arith, few, lt) in
     e
 
 pub loop-place-init : goal.loop-place-init
 loop-place-init c =
     let pause = c.args.pause.now in
-    let first : suc (length pause.before.now.words) ≡ suc (length pause.before.now.words + 0) = omega arith in
+    let first : suc (length pause.heaps.before.now.words) ≡ suc (length pause.heaps.before.now.words + 0) = omega arith in
     record {
       walk = c.requires.walk;
       grown = grown_same c.args.pairs.now;
       compared = λ i lt. absurd (omega (arith, lt));
       within = omega arith;
-      search = subst (λ z. Searches pause.fill pause.set.now pause.before.now pause.after.now c.args.pairs.now z 0) first c.requires.search;
+      search = subst (λ z. Searches pause.fill pause.set.now pause.heaps.before.now pause.heaps.after.now c.args.pairs.now z 0) first c.requires.search;
     }
 
 pub returns-in-Some-clause-first : goal.returns-in-Some-clause-first
 returns-in-Some-clause-first c =
     let pause = c.args.pause.now in
-    let g : Heap = pause.before.now in
-    let h : Heap = pause.after.now in
+    let g : Heap = pause.heaps.before.now in
+    let h : Heap = pause.heaps.after.now in
     let w : Pairs = c.loop-place.pairs in
     let i : ℕ = c.loop-place.place in
     let a : ℕ = c.index-a.result.now in

@@ -7,10 +7,10 @@ abbrev pub invariant-loop-place : goal.invariant-loop-place
 invariant-loop-place l = record {
   walk : IsWalkIn l.pause l.pairs;
   grown : HasMorePairs l.initial.pairs l.pairs;
-  compared : ComparesPairs l.pause.set.now l.pause.before.now l.pause.after.now l.pairs l.place;
+  compared : ComparesPairs l.pause.set.now l.pause.heaps.before.now l.pause.heaps.after.now l.pairs l.place;
   within : l.place ≤ length l.pairs.before.items;
-  search : SearchesIn l.pause l.pairs (suc (length l.pause.before.now.words + l.place)) 0;
+  search : SearchesIn l.pause l.pairs (suc (length l.pause.heaps.before.now.words + l.place)) 0;
 }
 
 abbrev pub decreases-loop-place : goal.decreases-loop-place
-decreases-loop-place l = length l.pause.before.now.words - l.place
+decreases-loop-place l = length l.pause.heaps.before.now.words - l.place

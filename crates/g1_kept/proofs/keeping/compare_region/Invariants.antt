@@ -8,6 +8,6 @@ abbrev pub invariant-loop-place : goal.invariant-loop-place
 invariant-loop-place l = record {
   walk : IsWalkIn l.pause l.pairs;
   grown : HasMorePairs l.initial.pairs l.pairs;
-  compared : ComparesFirst l.pause.set.now l.pause.before.now l.pause.after.now l.pairs l.starts.items l.place;
-  along : IsAlong l.pause.fill l.pause.set.now l.pause.before.now l.pause.after.now l.pairs l.starts.items l.region l.place;
+  compared : ComparesFirst l.pause.set.now l.pause.heaps.before.now l.pause.heaps.after.now l.pairs l.starts.items l.place;
+  along : IsAlong l.pause.fill l.pause.set.now l.pause.heaps.before.now l.pause.heaps.after.now l.pairs l.starts.items l.region l.place;
 }

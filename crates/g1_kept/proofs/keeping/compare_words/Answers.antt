@@ -8,14 +8,15 @@ use Rattle.g1_kept.specs.Keeps.{Keeps}
 use Rattle.g1_kept.specs.Walk.{IsPairWalk, HasMorePairs, Searches, PairsRoots, ComparesOutside, ComparesPairs}
 use Rattle.g1_kept.proofs.Growing.{none_then, ok_none_then, roots_kept, outside_kept, grown_more, some_then}
 use Rattle.g1_kept.proofs.Renamed.{keeps}
+use Rattle.g1_same.proofs.Held.{after_valid, before_valid}
 use Rattle.g1_kept.proofs.keeping.compare_words.Goals as goal
 
 pub returns-clause-none : goal.returns-clause-none
 returns-clause-none c =
     let pause = c.args.pause.now in
     let set = pause.set.now in
-    let g : Heap = pause.before.now in
-    let h : Heap = pause.after.now in
+    let g : Heap = pause.heaps.before.now in
+    let h : Heap = pause.heaps.after.now in
     let u : Pairs = c.link_roots.new.pairs in
     let w : Pairs = c.compare_outside.new.pairs in
     let v : Pairs = c.compare_pairs.new.pairs in
@@ -23,19 +24,19 @@ returns-clause-none c =
     let others : ComparesOutside set g h w g.geometry.n = none_then (ComparesOutside set g h w g.geometry.n) c.in_ok-lost-2.field-0 c.in_default-2.not-Some c.in_ok-lost-2.ensures.compared in
     ok_none_then (ComparesPairs set g h v (length v.before.items)) (Keeps pause.fill set g h) (IsPairWalk pause.fill set g h v) (HasMorePairs w v) c.compare_pairs.result
     c.compare_pairs.ensures.compared c.compare_pairs.ensures.walk c.compare_pairs.ensures.grown
-    (λ walk grown pairs. keeps pause.fill set g h c.in_ok-pairs.ensures.before c.in_ok-pairs.ensures.after v walk c.requires.table c.requires.roots
+    (λ walk grown pairs. keeps pause.fill set g h (before_valid c.args.pause.now.heaps) (after_valid c.args.pause.now.heaps) v walk c.requires.table c.requires.roots
     (roots_kept set g h u v (grown_more u w v c.in_ok-lost-2.ensures.grown grown) (length g.roots) roots)
     (outside_kept set g h w v grown g.geometry.n others) pairs)
 
 pub compare_outside-requires-clause-search : goal.compare_outside-requires-clause-search
 compare_outside-requires-clause-search c =
     let pause = c.args.pause.now in
-    none_then (Searches pause.fill pause.set.now pause.before.now pause.after.now c.link_roots.new.pairs 1 0) c.in_ok-lost.field-0 c.in_default.not-Some c.in_ok-lost.ensures.searched
+    none_then (Searches pause.fill pause.set.now pause.heaps.before.now pause.heaps.after.now c.link_roots.new.pairs 1 0) c.in_ok-lost.field-0 c.in_default.not-Some c.in_ok-lost.ensures.searched
 
 pub compare_pairs-requires-clause-search : goal.compare_pairs-requires-clause-search
 compare_pairs-requires-clause-search c =
     let pause = c.args.pause.now in
-    none_then (Searches pause.fill pause.set.now pause.before.now pause.after.now c.compare_outside.new.pairs (suc (length pause.before.now.words)) 0)
+    none_then (Searches pause.fill pause.set.now pause.heaps.before.now pause.heaps.after.now c.compare_outside.new.pairs (suc (length pause.heaps.before.now.words)) 0)
     c.in_ok-lost-2.field-0 c.in_default-2.not-Some c.in_ok-lost-2.ensures.searched
 
 pub link_roots-requires-clause-walk : goal.link_roots-requires-clause-walk
@@ -44,7 +45,7 @@ link_roots-requires-clause-walk c = c.in_ok-pairs.ensures.walk
 pub link_roots-requires-clause-sizes : goal.link_roots-requires-clause-sizes
 link_roots-requires-clause-sizes c =
     let pause = c.args.pause.now in
-    as_many_words pause.fill pause.set.now pause.before.now pause.after.now c.in_ok-pairs.ensures.before c.in_ok-pairs.ensures.after c.requires.table
+    as_many_words pause.fill pause.set.now pause.heaps.before.now pause.heaps.after.now (before_valid c.args.pause.now.heaps) (after_valid c.args.pause.now.heaps) c.requires.table
 
 pub link_roots-requires-clause-roots : goal.link_roots-requires-clause-roots
 link_roots-requires-clause-roots c = c.requires.roots

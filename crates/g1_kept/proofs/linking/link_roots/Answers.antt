@@ -10,31 +10,32 @@ use Rattle.g1_kept.specs.declared.lost.Lost.TheVariants as lost
 use Rattle.g1_kept.specs.Walk.{ArePaired, HasWords, PassesWords, StopsAtWords}
 use Rattle.g1_kept.proofs.Growing.{none_then, some_then, roots_more}
 use Rattle.g1_kept.proofs.Search.{search_none, roots_on}
+use Rattle.g1_same.proofs.Held.{after_valid, before_valid}
 use Rattle.g1_kept.proofs.linking.link_roots.Goals as goal
 
 pub link-requires-clause-x : goal.link-requires-clause-x
 link-requires-clause-x c =
     let pause = c.args.pause.now in
-    let lt : c.loop-number.number < length pause.before.now.roots = let k = ap length c.roots-old.ensures in omega (arith, k, c.loop-number-test.true) in
-    subst (λ l. IsReference pause.before.now (slice_index l c.loop-number.number)) (sym c.roots-old.ensures) (root_names pause.before.now c.loop-number.number c.valid.ensures lt)
+    let lt : c.loop-number.number < length pause.heaps.before.now.roots = let k = ap length c.roots-old.ensures in omega (arith, k, c.loop-number-test.true) in
+    subst (λ l. IsReference pause.heaps.before.now (slice_index l c.loop-number.number)) (sym c.roots-old.ensures) (root_names pause.heaps.before.now c.loop-number.number (before_valid c.args.pause.now.heaps) lt)
 
 pub link-requires-clause-y : goal.link-requires-clause-y
 link-requires-clause-y c =
     let pause = c.args.pause.now in
-    let lt : c.loop-number.number < length pause.after.now.roots = let k = ap length c.roots-old.ensures in omega (arith, k, c.requires.roots, c.loop-number-test.true) in
-    subst (λ l. IsReference pause.after.now (slice_index l c.loop-number.number)) (sym c.roots-new.ensures) (root_names pause.after.now c.loop-number.number c.valid-2.ensures lt)
+    let lt : c.loop-number.number < length pause.heaps.after.now.roots = let k = ap length c.roots-old.ensures in omega (arith, k, c.requires.roots, c.loop-number-test.true) in
+    subst (λ l. IsReference pause.heaps.after.now (slice_index l c.loop-number.number)) (sym c.roots-new.ensures) (root_names pause.heaps.after.now c.loop-number.number (after_valid c.args.pause.now.heaps) lt)
 
 pub link-requires-clause-found : goal.link-requires-clause-found
 link-requires-clause-found c = λ a b ex ey of_set.
     let n : ℕ = c.loop-number.number in
-    let lt : n < length c.args.pause.now.before.now.roots = let k = ap length c.roots-old.ensures in omega (arith, k, c.loop-number-test.true) in
+    let lt : n < length c.args.pause.now.heaps.before.now.roots = let k = ap length c.roots-old.ensures in omega (arith, k, c.loop-number-test.true) in
     root n lt (omega (arith, lt, c.requires.roots)) (ap (λ l. slice_index l n) (sym c.roots-old.ensures) ∙ ex) (ap (λ l. slice_index l n) (sym c.roots-new.ensures) ∙ ey) of_set
 
 pub loop-number-preserved : goal.loop-number-preserved
 loop-number-preserved c =
     let pause = c.args.pause.now in
-    let g : Heap = pause.before.now in
-    let h : Heap = pause.after.now in
+    let g : Heap = pause.heaps.before.now in
+    let h : Heap = pause.heaps.after.now in
     let v : Pairs = c.link.new.pairs in
     let n : ℕ = c.loop-number.number in
     let l : ArePaired pause.set.now g v (slice_index c.roots-old.result.now n) (slice_index c.roots-new.result.now n) =
@@ -68,15 +69,15 @@ loop-number-init c =
     record {
       walk = c.requires.walk;
       paired = λ n lt. absurd (omega (arith, lt));
-      search = search_none pause.fill pause.set.now pause.before.now pause.after.now c.args.pairs.now.before.items c.args.pairs.now.after.items (ap length c.requires.none) c.requires.walk.pairs;
+      search = search_none pause.fill pause.set.now pause.heaps.before.now pause.heaps.after.now c.args.pairs.now.before.items c.args.pairs.now.after.items (ap length c.requires.none) c.requires.walk.pairs;
     }
 
 pub returns-in-Some-clause-first : goal.returns-in-Some-clause-first
 returns-in-Some-clause-first c =
     let pause = c.args.pause.now in
     let set = pause.set.now in
-    let g : Heap = pause.before.now in
-    let h : Heap = pause.after.now in
+    let g : Heap = pause.heaps.before.now in
+    let h : Heap = pause.heaps.after.now in
     let w : Pairs = c.loop-number.pairs in
     let n : ℕ = c.loop-number.number in
     let x : ℕ = slice_index c.roots-old.result.now n in
@@ -95,8 +96,8 @@ pub returns-clause-searched : goal.returns-clause-searched
 returns-clause-searched c =
     let pause = c.args.pause.now in
     let w : Pairs = c.loop-number.pairs in
-    let all : length pause.before.now.roots ≤ c.loop-number.number = let k = ap length c.roots-old.ensures in omega (arith, k, c.loop-number-test.false) in
-    roots_on pause.fill pause.set.now pause.before.now pause.after.now w.before.items w.after.items c.loop-number.number all c.loop-number.invariant.search
+    let all : length pause.heaps.before.now.roots ≤ c.loop-number.number = let k = ap length c.roots-old.ensures in omega (arith, k, c.loop-number-test.false) in
+    roots_on pause.fill pause.set.now pause.heaps.before.now pause.heaps.after.now w.before.items w.after.items c.loop-number.number all c.loop-number.invariant.search
 
 pub bounds-new-number : goal.bounds-new-number
 bounds-new-number c =
@@ -110,8 +111,8 @@ link-requires-clause-walk c = c.loop-number.invariant.walk
 pub link-requires-clause-other : goal.link-requires-clause-other
 link-requires-clause-other c = λ differ.
     let pause = c.args.pause.now in
-    let g : Heap = pause.before.now in
-    let h : Heap = pause.after.now in
+    let g : Heap = pause.heaps.before.now in
+    let h : Heap = pause.heaps.after.now in
     let n : ℕ = c.loop-number.number in
     let lt : n < length g.roots = let k = ap length c.roots-old.ensures in omega (arith, k, c.loop-number-test.true) in (
       lt,
@@ -135,12 +136,12 @@ link-requires-clause-sizes c = c.requires.sizes
 pub offset_bounds-old-number : goal.offset_bounds-old-number
 offset_bounds-old-number c =
     let roots = ap length c.roots-old.ensures in
-    record { fits = omega (arith, c.loop-number-test.true, roots, c.valid.ensures.root_count) }
+    record { fits = omega (arith, c.loop-number-test.true, roots, (before_valid c.args.pause.now.heaps).root_count) }
 
 pub offset_bounds-new-number : goal.offset_bounds-new-number
 offset_bounds-new-number c =
     let roots = ap length c.roots-old.ensures in
-    record { fits = omega (arith, c.loop-number-test.true, roots, c.valid.ensures.root_count) }
+    record { fits = omega (arith, c.loop-number-test.true, roots, (before_valid c.args.pause.now.heaps).root_count) }
 
 pub returns-in-Some-clause-paired : goal.returns-in-Some-clause-paired
 returns-in-Some-clause-paired c = tt

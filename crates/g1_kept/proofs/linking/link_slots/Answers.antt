@@ -1,9 +1,7 @@
-use Rattle.std.proofs.Common.{arith, ap, refl, subst, sym, suc, ℕ, ◌≡◌, ◌≤◌, ◌<◌, ◌+◌, ◌∙◌, ◌%◌, ◌^◌, slice_index, Contains}
+use Rattle.std.proofs.Common.{arith, ap, refl, subst, sym, suc, ℕ, ◌≡◌, ◌≤◌, ◌+◌, ◌∙◌, slice_index, Contains}
 use Rattle.g1_words.specs.Heap.{Heap, word, object_at, objects}
 use Rattle.g1_words.specs.declared.object.Object.{Object}
-use Rattle.g1_words.specs.Valid.{IsReference}
-use Rattle.g1_same.proofs.Heaps.{slot_names}
-use Rattle.g1_same.proofs.Steps.{has_slots}
+use Rattle.g1_same.proofs.Steps.{slots_read, within_old, within_new, old_word, new_word, old_names, new_names}
 use Rattle.g1_kept.specs.declared.pairs.Pairs.{Pairs}
 use Rattle.g1_kept.specs.Lost.{Disagree, slot}
 use Rattle.g1_kept.specs.Pause.{IsLossIn}
@@ -17,38 +15,24 @@ use Rattle.g1_kept.proofs.linking.link_slots.Goals as goal
 
 pub link-requires-clause-x : goal.link-requires-clause-x
 link-requires-clause-x c =
-    let g : Heap = c.args.pause.now.before.now in
-    let here = has_slots g c.args.a c.object-old.result g.words c.slots-here.result.now c.object-old.ensures.value refl c.slots-here.ensures.count c.slots-here.ensures.each in
-    let n : ℕ = c.loop-number.number in
-    let lt : n < (object_at g c.args.a).refs = omega (arith, c.loop-number-test.true, here.count) in
-    subst (IsReference g) (sym (here.each n c.loop-number-test.true)) (slot_names g c.args.a n c.valid.ensures c.requires.pair.before lt)
+    let r = slots_read c.args.pause.now.heaps c.args.a c.args.b c.slots-here.result.now c.slots-there.result.now c.requires.pair.before c.requires.pair.after c.requires.alike.header
+    c.object-old.ensures.value c.object-new.ensures.value c.slots-here.ensures.count c.slots-here.ensures.each c.slots-there.ensures.count c.slots-there.ensures.each in
+    old_names r c.loop-number.number c.loop-number-test.true
 
 pub link-requires-clause-y : goal.link-requires-clause-y
 link-requires-clause-y c =
-    let pause = c.args.pause.now in
-    let g : Heap = pause.before.now in
-    let h : Heap = pause.after.now in
-    let here = has_slots g c.args.a c.object-old.result g.words c.slots-here.result.now c.object-old.ensures.value refl c.slots-here.ensures.count c.slots-here.ensures.each in
-    let there = has_slots h c.args.b c.object-new.result h.words c.slots-there.result.now c.object-new.ensures.value refl
-    c.slots-there.ensures.count c.slots-there.ensures.each in
-    let refs : (object_at g c.args.a).refs ≡ (object_at h c.args.b).refs = ap (λ q. q % 2 ^ 32) c.requires.alike.header in
-    let n : ℕ = c.loop-number.number in
-    let lt : n < (object_at h c.args.b).refs = omega (arith, c.loop-number-test.true, here.count, refs) in
-    subst (IsReference h) (sym (there.each n (omega (arith, lt, there.count)))) (slot_names h c.args.b n c.valid-2.ensures c.requires.pair.after lt)
+    let r = slots_read c.args.pause.now.heaps c.args.a c.args.b c.slots-here.result.now c.slots-there.result.now c.requires.pair.before c.requires.pair.after c.requires.alike.header
+    c.object-old.ensures.value c.object-new.ensures.value c.slots-here.ensures.count c.slots-here.ensures.each c.slots-there.ensures.count c.slots-there.ensures.each in
+    new_names r c.loop-number.number c.loop-number-test.true
 
 pub link-requires-clause-found : goal.link-requires-clause-found
 link-requires-clause-found c = λ x y ex ey of_set.
-    let pause = c.args.pause.now in
-    let g : Heap = pause.before.now in
-    let h : Heap = pause.after.now in
-    let here = has_slots g c.args.a c.object-old.result g.words c.slots-here.result.now c.object-old.ensures.value refl c.slots-here.ensures.count c.slots-here.ensures.each in
-    let there = has_slots h c.args.b c.object-new.result h.words c.slots-there.result.now c.object-new.ensures.value refl
-    c.slots-there.ensures.count c.slots-there.ensures.each in
-    let refs : (object_at g c.args.a).refs ≡ (object_at h c.args.b).refs = ap (λ q. q % 2 ^ 32) c.requires.alike.header in
+    let r = slots_read c.args.pause.now.heaps c.args.a c.args.b c.slots-here.result.now c.slots-there.result.now c.requires.pair.before c.requires.pair.after c.requires.alike.header
+    c.object-old.ensures.value c.object-new.ensures.value c.slots-here.ensures.count c.slots-here.ensures.each c.slots-there.ensures.count c.slots-there.ensures.each in
     let n : ℕ = c.loop-number.number in
-    let lt : n < (object_at g c.args.a).refs = omega (arith, c.loop-number-test.true, here.count) in
-    let lt' : n < (object_at h c.args.b).refs = omega (arith, lt, refs) in
-    slot n c.requires.pair.matched lt lt' (sym (here.each n c.loop-number-test.true) ∙ ex) (sym (there.each n (omega (arith, lt', there.count))) ∙ ey) of_set
+    let lt = within_old r n c.loop-number-test.true in
+    let lt' = within_new r n c.loop-number-test.true in
+    slot n c.requires.pair.matched lt lt' (sym (old_word r n c.loop-number-test.true) ∙ ex) (sym (new_word r n c.loop-number-test.true) ∙ ey) of_set
 
 pub returns-in-Some-clause-grown : goal.returns-in-Some-clause-grown
 returns-in-Some-clause-grown c = grown_more c.args.pairs.now c.loop-number.pairs c.link.new.pairs c.loop-number.invariant.grown c.in_ok-lost.ensures.grown
@@ -56,19 +40,17 @@ returns-in-Some-clause-grown c = grown_more c.args.pairs.now c.loop-number.pairs
 pub loop-number-preserved : goal.loop-number-preserved
 loop-number-preserved c =
     let pause = c.args.pause.now in
-    let g : Heap = pause.before.now in
-    let h : Heap = pause.after.now in
-    let here = has_slots g c.args.a c.object-old.result g.words c.slots-here.result.now c.object-old.ensures.value refl c.slots-here.ensures.count c.slots-here.ensures.each in
-    let there = has_slots h c.args.b c.object-new.result h.words c.slots-there.result.now c.object-new.ensures.value refl
-    c.slots-there.ensures.count c.slots-there.ensures.each in
-    let refs : (object_at g c.args.a).refs ≡ (object_at h c.args.b).refs = ap (λ q. q % 2 ^ 32) c.requires.alike.header in
+    let g : Heap = pause.heaps.before.now in
+    let h : Heap = pause.heaps.after.now in
+    let r = slots_read c.args.pause.now.heaps c.args.a c.args.b c.slots-here.result.now c.slots-there.result.now c.requires.pair.before c.requires.pair.after c.requires.alike.header
+    c.object-old.ensures.value c.object-new.ensures.value c.slots-here.ensures.count c.slots-here.ensures.each c.slots-there.ensures.count c.slots-there.ensures.each in
     let n : ℕ = c.loop-number.number in
     let v : Pairs = c.link.new.pairs in
     let x : ℕ = slice_index c.slots-here.result.now n in
     let y : ℕ = slice_index c.slots-there.result.now n in
     let l = none_then (ArePaired pause.set.now g v x y) c.in_ok-lost.field-0 c.in_default.not-Some c.in_ok-lost.ensures.paired in
-    let x_is = here.each n c.loop-number-test.true in
-    let y_is = there.each n (omega (arith, c.loop-number-test.true, here.count, refs, there.count)) in
+    let x_is = old_word r n c.loop-number-test.true in
+    let y_is = new_word r n c.loop-number-test.true in
     let l' : ArePaired pause.set.now g v (word g (c.args.a + 1 + n)) (word h (c.args.b + 1 + n)) =
     subst (λ z. ArePaired pause.set.now g v z (word h (c.args.b + 1 + n))) x_is (subst (λ z. ArePaired pause.set.now g v x z) y_is l) in
     let w : Pairs = c.loop-number.pairs in
@@ -78,7 +60,7 @@ loop-number-preserved c =
       grown = grown_more c.args.pairs.now c.loop-number.pairs v c.loop-number.invariant.grown c.in_ok-lost.ensures.grown;
       search = λ t s turn. passed (suc t) (n + 1) (c.loop-number.invariant.search t s turn)
           (words_at pause.fill pause.set.now g h w t c.args.a c.args.b n x y (turn_more pause.fill pause.set.now g h c.args.pairs.now w t c.args.a c.args.b c.loop-number.invariant.grown turn)
-          (omega (arith, c.loop-number-test.true, here.count)) (omega (arith, c.loop-number-test.true, here.count, refs)) (sym x_is) (sym y_is));
+          (within_old r n c.loop-number-test.true) (within_new r n c.loop-number-test.true) (sym x_is) (sym y_is));
       paired = slots_more pause.set.now g h c.loop-number.pairs v c.in_ok-lost.ensures.grown c.args.a c.args.b n c.loop-number.invariant.paired l';
     }
 
@@ -97,23 +79,21 @@ pub returns-in-Some-clause-first : goal.returns-in-Some-clause-first
 returns-in-Some-clause-first c = λ t s turn.
     let pause = c.args.pause.now in
     let set = pause.set.now in
-    let g : Heap = pause.before.now in
-    let h : Heap = pause.after.now in
-    let here = has_slots g c.args.a c.object-old.result g.words c.slots-here.result.now c.object-old.ensures.value refl c.slots-here.ensures.count c.slots-here.ensures.each in
-    let there = has_slots h c.args.b c.object-new.result h.words c.slots-there.result.now c.object-new.ensures.value refl
-    c.slots-there.ensures.count c.slots-there.ensures.each in
-    let refs : (object_at g c.args.a).refs ≡ (object_at h c.args.b).refs = ap (λ q. q % 2 ^ 32) c.requires.alike.header in
+    let g : Heap = pause.heaps.before.now in
+    let h : Heap = pause.heaps.after.now in
+    let r = slots_read c.args.pause.now.heaps c.args.a c.args.b c.slots-here.result.now c.slots-there.result.now c.requires.pair.before c.requires.pair.after c.requires.alike.header
+    c.object-old.ensures.value c.object-new.ensures.value c.slots-here.ensures.count c.slots-here.ensures.each c.slots-there.ensures.count c.slots-there.ensures.each in
     let w : Pairs = c.loop-number.pairs in
     let n : ℕ = c.loop-number.number in
     let a : ℕ = c.args.a in
     let b : ℕ = c.args.b in
     let x : ℕ = slice_index c.slots-here.result.now n in
     let y : ℕ = slice_index c.slots-there.result.now n in
-    let lt : n < (object_at g a).refs = omega (arith, c.loop-number-test.true, here.count) in
-    let lt' : n < (object_at h b).refs = omega (arith, lt, refs) in
+    let lt = within_old r n c.loop-number-test.true in
+    let lt' = within_new r n c.loop-number-test.true in
     let now : HasTurn set g h w t a b = turn_more pause.fill set g h c.args.pairs.now w t a b c.loop-number.invariant.grown turn in
     let at : HasWords set g h w (suc t) (n + 1) x y =
-    words_at pause.fill set g h w t a b n x y now lt lt' (sym (here.each n c.loop-number-test.true)) (sym (there.each n (omega (arith, lt', there.count)))) in
+    words_at pause.fill set g h w t a b n x y now lt lt' (sym (old_word r n c.loop-number-test.true)) (sym (new_word r n c.loop-number-test.true)) in
     let one : n + 1 ≡ suc n = omega arith in
     let stops = some_then (λ (l : Lost). StopsAtWords pause.fill set g h w x y (lost.Slot a b n) l) c.in_ok-lost.field-0 c.in-Some.lost c.in-Some.is c.in_ok-lost.ensures.first in
     stops (suc t) (n + 1) (c.loop-number.invariant.search t s turn) at (λ clash. (t, refl, one, now, x, y, at, clash))
@@ -122,31 +102,28 @@ pub returns-clause-passed : goal.returns-clause-passed
 returns-clause-passed c = λ t s turn.
     let pause = c.args.pause.now in
     let set = pause.set.now in
-    let g : Heap = pause.before.now in
-    let h : Heap = pause.after.now in
-    let here = has_slots g c.args.a c.object-old.result g.words c.slots-here.result.now c.object-old.ensures.value refl c.slots-here.ensures.count c.slots-here.ensures.each in
+    let g : Heap = pause.heaps.before.now in
+    let h : Heap = pause.heaps.after.now in
+    let r = slots_read c.args.pause.now.heaps c.args.a c.args.b c.slots-here.result.now c.slots-there.result.now c.requires.pair.before c.requires.pair.after c.requires.alike.header
+    c.object-old.ensures.value c.object-new.ensures.value c.slots-here.ensures.count c.slots-here.ensures.each c.slots-there.ensures.count c.slots-there.ensures.each in
     let w : Pairs = c.loop-number.pairs in
-    let few : (object_at g c.args.a).refs ≤ c.loop-number.number = omega (arith, here.count, c.loop-number-test.false) in
+    let few : (object_at g c.args.a).refs ≤ c.loop-number.number = omega (arith, r.here.count, c.loop-number-test.false) in
     slots_on pause.fill set g h w.before.items w.after.items t c.args.a c.args.b c.loop-number.number (c.loop-number.invariant.search t s turn)
     (turn_more pause.fill set g h c.args.pairs.now w t c.args.a c.args.b c.loop-number.invariant.grown turn) few
 
 pub returns-clause-paired : goal.returns-clause-paired
 returns-clause-paired c = λ n lt.
-    let g : Heap = c.args.pause.now.before.now in
-    let here = has_slots g c.args.a c.object-old.result g.words c.slots-here.result.now c.object-old.ensures.value refl c.slots-here.ensures.count c.slots-here.ensures.each in
-    let few : (object_at g c.args.a).refs ≤ c.loop-number.number = omega (arith, here.count, c.loop-number-test.false) in
+    let g : Heap = c.args.pause.now.heaps.before.now in
+    let r = slots_read c.args.pause.now.heaps c.args.a c.args.b c.slots-here.result.now c.slots-there.result.now c.requires.pair.before c.requires.pair.after c.requires.alike.header
+    c.object-old.ensures.value c.object-new.ensures.value c.slots-here.ensures.count c.slots-here.ensures.each c.slots-there.ensures.count c.slots-there.ensures.each in
+    let few : (object_at g c.args.a).refs ≤ c.loop-number.number = omega (arith, r.here.count, c.loop-number-test.false) in
     c.loop-number.invariant.paired n (omega (arith, lt, few))
 
 pub bounds-there-number : goal.bounds-there-number
 bounds-there-number c =
-    let pause = c.args.pause.now in
-    let g : Heap = pause.before.now in
-    let h : Heap = pause.after.now in
-    let here = has_slots g c.args.a c.object-old.result g.words c.slots-here.result.now c.object-old.ensures.value refl c.slots-here.ensures.count c.slots-here.ensures.each in
-    let there = has_slots h c.args.b c.object-new.result h.words c.slots-there.result.now c.object-new.ensures.value refl
-    c.slots-there.ensures.count c.slots-there.ensures.each in
-    let refs : (object_at g c.args.a).refs ≡ (object_at h c.args.b).refs = ap (λ q. q % 2 ^ 32) c.requires.alike.header in
-    omega (arith, c.loop-number-test.true, here.count, there.count, refs)
+    let r = slots_read c.args.pause.now.heaps c.args.a c.args.b c.slots-here.result.now c.slots-there.result.now c.requires.pair.before c.requires.pair.after c.requires.alike.header
+    c.object-old.ensures.value c.object-new.ensures.value c.slots-here.ensures.count c.slots-here.ensures.each c.slots-there.ensures.count c.slots-there.ensures.each in
+    omega (arith, c.loop-number-test.true, r.refs, r.here.count, r.there.count)
 
 pub link-requires-clause-walk : goal.link-requires-clause-walk
 link-requires-clause-walk c = c.loop-number.invariant.walk
@@ -154,16 +131,14 @@ link-requires-clause-walk c = c.loop-number.invariant.walk
 pub link-requires-clause-other : goal.link-requires-clause-other
 link-requires-clause-other c = λ differ.
     let pause = c.args.pause.now in
-    let g : Heap = pause.before.now in
-    let h : Heap = pause.after.now in
-    let here = has_slots g c.args.a c.object-old.result g.words c.slots-here.result.now c.object-old.ensures.value refl c.slots-here.ensures.count c.slots-here.ensures.each in
-    let there = has_slots h c.args.b c.object-new.result h.words c.slots-there.result.now c.object-new.ensures.value refl
-    c.slots-there.ensures.count c.slots-there.ensures.each in
-    let refs : (object_at g c.args.a).refs ≡ (object_at h c.args.b).refs = ap (λ q. q % 2 ^ 32) c.requires.alike.header in
+    let g : Heap = pause.heaps.before.now in
+    let h : Heap = pause.heaps.after.now in
+    let r = slots_read c.args.pause.now.heaps c.args.a c.args.b c.slots-here.result.now c.slots-there.result.now c.requires.pair.before c.requires.pair.after c.requires.alike.header
+    c.object-old.ensures.value c.object-new.ensures.value c.slots-here.ensures.count c.slots-here.ensures.each c.slots-there.ensures.count c.slots-there.ensures.each in
     let n : ℕ = c.loop-number.number in
-    let lt : n < (object_at g c.args.a).refs = omega (arith, c.loop-number-test.true, here.count) in
-    let x_is = here.each n c.loop-number-test.true in
-    let y_is = there.each n (omega (arith, lt, refs, there.count)) in (
+    let lt = within_old r n c.loop-number-test.true in
+    let x_is = old_word r n c.loop-number-test.true in
+    let y_is = new_word r n c.loop-number-test.true in (
       c.requires.pair.matched,
       sym c.requires.alike.header,
       lt,
@@ -195,10 +170,10 @@ offset_bounds-there-number c =
     record { fits = omega (arith, c.loop-number-test.true, refs, few) }
 
 pub slots-here-requires : goal.slots-here-requires
-slots-here-requires c = subst (λ (o : Object). Contains (objects c.args.pause.now.before.now) o) (sym c.object-old.ensures.value) c.requires.pair.before
+slots-here-requires c = subst (λ (o : Object). Contains (objects c.args.pause.now.heaps.before.now) o) (sym c.object-old.ensures.value) c.requires.pair.before
 
 pub slots-there-requires : goal.slots-there-requires
-slots-there-requires c = subst (λ (o : Object). Contains (objects c.args.pause.now.after.now) o) (sym c.object-new.ensures.value) c.requires.pair.after
+slots-there-requires c = subst (λ (o : Object). Contains (objects c.args.pause.now.heaps.after.now) o) (sym c.object-new.ensures.value) c.requires.pair.after
 
 pub returns-in-Some-clause-paired : goal.returns-in-Some-clause-paired
 returns-in-Some-clause-paired c = tt

@@ -102,8 +102,8 @@ pub returns-clause-none : goal.returns-clause-none
 returns-clause-none c =
     let set = c.args.pause.now.set.now in
     let no = has_as set c.args.number c.from.result c.has.result _ c.has.ensures c.from.ensures c.if-has.false in
-    let old : pinned c.args.pause.now.before.now c.args.number ≡ c.region-old.result.pinned = ap (λ (q : Region). q.pinned) (sym c.region-old.ensures) in
-    let new : pinned c.args.pause.now.after.now c.args.number ≡ c.region-new.result.pinned = ap (λ (q : Region). q.pinned) (sym c.region-new.ensures) in
+    let old : pinned c.args.pause.now.heaps.before.now c.args.number ≡ c.region-old.result.pinned = ap (λ (q : Region). q.pinned) (sym c.region-old.ensures) in
+    let new : pinned c.args.pause.now.heaps.after.now c.args.number ≡ c.region-new.result.pinned = ap (λ (q : Region). q.pinned) (sym c.region-new.ensures) in
     record {
       of_set = λ yes. absurd (false≢true (sym no ∙ yes));
       other = λ _. inr (inr record {

@@ -33,8 +33,8 @@ loop-number-init c = λ r lt. absurd (omega (arith, lt))
 pub loop-number-preserved : goal.loop-number-preserved
 loop-number-preserved c =
     let pause = c.args.pause.now in
-    let g : Heap = pause.before.now in
-    let h : Heap = pause.after.now in
+    let g : Heap = pause.heaps.before.now in
+    let h : Heap = pause.heaps.after.now in
     let n : ℕ = c.loop-number.number in
     let here = none_then (KeepsRegion pause.fill pause.set.now g h n) c.compare_entries.result c.in_default.not-Some c.compare_entries.ensures.none in
     below_more (KeepsRegion pause.fill pause.set.now g h) n c.loop-number.invariant here
@@ -62,5 +62,5 @@ returns-in-Some-clause-some c = some_then (λ (l : Lost). IsLossIn c.args.pause.
 pub returns-in-Some-clause-earliest : goal.returns-in-Some-clause-earliest
 returns-in-Some-clause-earliest c =
     let p = c.args.pause.now in
-    some_then (λ (l : Lost). KeepsBefore p.fill p.set.now p.before.now p.after.now c.loop-number.number → IsEarliestIn p l) c.compare_entries.result c.in-Some.lost c.in-Some.is
+    some_then (λ (l : Lost). KeepsBefore p.fill p.set.now p.heaps.before.now p.heaps.after.now c.loop-number.number → IsEarliestIn p l) c.compare_entries.result c.in-Some.lost c.in-Some.is
     c.compare_entries.ensures.earliest (c.have_same_sizes.ensures.0 c.if-not-have_same_sizes.false, c.loop-number.invariant)

@@ -5,15 +5,15 @@ use Rattle.g1_same.proofs.searching.link_pairs.Given as goal
 
 abbrev pub invariant-loop-way : goal.invariant-loop-way
 invariant-loop-way l = record {
-  walk : IsTour l.before l.after l.walk;
+  walk : IsTour l.heaps.before.now l.heaps.after.now l.walk;
   grown : HasGrown l.initial.walk l.walk;
-  alike : FindsAlike l.before l.after l.initial.walk l.walk;
-  linked : LinksBetween l.before l.after l.walk l.fn.first.from l.fn.first.number l.way.from l.way.number;
-  passed : PassesNoStale l.before l.after l.stale l.walk l.fn.first.from l.fn.first.number l.way.from l.way.number;
+  alike : FindsAlike l.heaps.before.now l.heaps.after.now l.initial.walk l.walk;
+  linked : LinksBetween l.heaps.before.now l.heaps.after.now l.walk l.fn.first.from l.fn.first.number l.way.from l.way.number;
+  passed : PassesNoStale l.heaps.before.now l.heaps.after.now l.stale l.walk l.fn.first.from l.fn.first.number l.way.from l.way.number;
   below : IsBelow l.walk l.way.from l.way.number;
   some : 0 < l.way.from;
   on : IsEarlier l.way.from l.way.number l.fn.first.from l.fn.first.number → ⊥;
 }
 
 abbrev pub decreases-loop-way : goal.decreases-loop-way
-decreases-loop-way l = length l.before.words + 1 - l.way.from
+decreases-loop-way l = length l.heaps.before.now.words + 1 - l.way.from

@@ -1,16 +1,14 @@
-use Rattle.std.proofs.Common.{refl, arith, ap, subst, sym, suc, inl, inr, ℕ, zero, ◌≡◌, ◌<◌, ◌+◌, ◌-◌, ◌∙◌, Contains, length, slice_index}
+use Rattle.std.proofs.Common.{arith, ap, subst, sym, suc, inl, inr, ℕ, zero, ◌≡◌, ◌<◌, ◌+◌, ◌-◌, ◌∙◌, Contains, length, slice_index}
 use Rattle.std.proofs.lemmas.List.{get_or_read}
 use Rattle.g1_words.specs.Heap.{Heap, object_at, objects}
 use Rattle.g1_words.specs.declared.object.Object.{Object}
-use Rattle.g1_words.specs.Valid.{IsReference}
 use Rattle.g1_same.specs.declared.walk.Walk.{Walk}
 use Rattle.g1_same.specs.declared.difference.How.{How}
 use Rattle.g1_same.specs.declared.stale.StaleWords.{StaleWords}
 use Rattle.g1_same.specs.Walk.{IsEarlier, IsLinked, IsWay, IsBelow, IsSeen, IsLeast, HasGrown}
 use Rattle.g1_same.specs.Behind.{HasNoneAt, IsFound, IsNext, IsNextStale, IsStaleAt}
-use Rattle.g1_same.proofs.Heaps.{slot_names}
 use Rattle.g1_same.proofs.Adding.{grown_more, grown_same}
-use Rattle.g1_same.proofs.Steps.{none_then, some_then, slot_way, has_slots, pair_read}
+use Rattle.g1_same.proofs.Steps.{none_then, some_then, pair_read, slots_read, old_names, new_names, slots_way}
 use Rattle.g1_same.proofs.Between.{between_none, between_step, between_row, between_kept, alike_none, alike_more, not_before}
 use Rattle.g1_same.proofs.Passing.{IsPlain, passes_none, passes_step, passes_row, passes_kept, plain_slot}
 use Rattle.g1_same.proofs.searching.link_slots.Goals as goal
@@ -23,82 +21,39 @@ pub object-old-requires : goal.object-old-requires
 object-old-requires c =
     let place : c.args.first.from - 1 < length c.args.walk.now.before.items = omega (arith, c.requires.some, c.requires.pair) in
     let a_is = get_or_read c.args.walk.now.before.items (c.args.first.from - 1) c.index.result.now place c.index.ensures 0 in
-    subst (λ z. Contains (objects c.args.before.now) (object_at c.args.before.now z)) (sym a_is) (c.requires.walk.names_before (c.args.first.from - 1) place)
+    subst (λ z. Contains (objects c.args.heaps.before.now) (object_at c.args.heaps.before.now z)) (sym a_is) (c.requires.walk.names_before (c.args.first.from - 1) place)
 
 pub object-new-requires : goal.object-new-requires
 object-new-requires c =
-    let place : c.args.first.from - 1 < length c.args.walk.now.before.items = omega (arith, c.requires.some, c.requires.pair) in
-    let pair = pair_read c.args.before.now c.args.after.now c.args.walk.now (c.args.first.from - 1)
-    c.index.result.now c.index-2.result.now c.requires.walk place c.index.ensures c.index-2.ensures in
-    pair.after_in
+    (pair_read c.args.heaps c.args.walk.now c.args.first.from c.requires.walk c.requires.some c.requires.pair c.index.ensures c.index-2.ensures).after_in
 
 pub bounds-there-number : goal.bounds-there-number
 bounds-there-number c =
-    let place : c.args.first.from - 1 < length c.args.walk.now.before.items = omega (arith, c.requires.some, c.requires.pair) in
-    let pair = pair_read c.args.before.now c.args.after.now c.args.walk.now (c.args.first.from - 1)
-    c.index.result.now c.index-2.result.now c.requires.walk place c.index.ensures c.index-2.ensures in
-    let here = has_slots c.args.before.now c.index.result.now c.object-old.result c.args.before.now.words
-    c.slots-here.result.now c.object-old.ensures.value refl c.slots-here.ensures.count c.slots-here.ensures.each in
-    let there = has_slots c.args.after.now c.index-2.result.now c.object-new.result c.args.after.now.words
-    c.slots-there.result.now c.object-new.ensures.value refl c.slots-there.ensures.count c.slots-there.ensures.each in
-    omega (arith, c.loop-number-test.true, pair.refs, here.count, there.count)
+    let pair = pair_read c.args.heaps c.args.walk.now c.args.first.from c.requires.walk c.requires.some c.requires.pair c.index.ensures c.index-2.ensures in
+    let r = slots_read c.args.heaps c.index.result.now c.index-2.result.now c.slots-here.result.now c.slots-there.result.now pair.before_in pair.after_in pair.header
+    c.object-old.ensures.value c.object-new.ensures.value c.slots-here.ensures.count c.slots-here.ensures.each c.slots-there.ensures.count c.slots-there.ensures.each in
+    omega (arith, c.loop-number-test.true, r.refs, r.here.count, r.there.count)
 
 pub link-requires-clause-x : goal.link-requires-clause-x
 link-requires-clause-x c =
-    let g : Heap = c.args.before.now in
-    let h : Heap = c.args.after.now in
-    let place : c.args.first.from - 1 < length c.args.walk.now.before.items = omega (arith, c.requires.some, c.requires.pair) in
-    let pair = pair_read c.args.before.now c.args.after.now c.args.walk.now (c.args.first.from - 1)
-    c.index.result.now c.index-2.result.now c.requires.walk place c.index.ensures c.index-2.ensures in
-    let here = has_slots c.args.before.now c.index.result.now c.object-old.result c.args.before.now.words
-    c.slots-here.result.now c.object-old.ensures.value refl c.slots-here.ensures.count c.slots-here.ensures.each in
-    let n : ℕ = c.loop-number.number in
-    let lt : n < (object_at g c.index.result.now).refs = omega (arith, c.loop-number-test.true, here.count) in
-    subst (IsReference g) (sym (here.each n c.loop-number-test.true)) (slot_names g c.index.result.now n c.valid.ensures pair.before_in lt)
+    let pair = pair_read c.args.heaps c.args.walk.now c.args.first.from c.requires.walk c.requires.some c.requires.pair c.index.ensures c.index-2.ensures in
+    let r = slots_read c.args.heaps c.index.result.now c.index-2.result.now c.slots-here.result.now c.slots-there.result.now pair.before_in pair.after_in pair.header
+    c.object-old.ensures.value c.object-new.ensures.value c.slots-here.ensures.count c.slots-here.ensures.each c.slots-there.ensures.count c.slots-there.ensures.each in
+    old_names r c.loop-number.number c.loop-number-test.true
 
 pub link-requires-clause-y : goal.link-requires-clause-y
 link-requires-clause-y c =
-    let g : Heap = c.args.before.now in
-    let h : Heap = c.args.after.now in
-    let place : c.args.first.from - 1 < length c.args.walk.now.before.items = omega (arith, c.requires.some, c.requires.pair) in
-    let pair = pair_read c.args.before.now c.args.after.now c.args.walk.now (c.args.first.from - 1)
-    c.index.result.now c.index-2.result.now c.requires.walk place c.index.ensures c.index-2.ensures in
-    let here = has_slots c.args.before.now c.index.result.now c.object-old.result c.args.before.now.words
-    c.slots-here.result.now c.object-old.ensures.value refl c.slots-here.ensures.count c.slots-here.ensures.each in
-    let there = has_slots c.args.after.now c.index-2.result.now c.object-new.result c.args.after.now.words
-    c.slots-there.result.now c.object-new.ensures.value refl c.slots-there.ensures.count c.slots-there.ensures.each in
-    let n : ℕ = c.loop-number.number in
-    let lt : n < (object_at h c.index-2.result.now).refs = omega (arith, c.loop-number-test.true, here.count, pair.refs) in
-    subst (IsReference h) (sym (there.each n (omega (arith, lt, there.count)))) (slot_names h c.index-2.result.now n c.valid-2.ensures pair.after_in lt)
+    let pair = pair_read c.args.heaps c.args.walk.now c.args.first.from c.requires.walk c.requires.some c.requires.pair c.index.ensures c.index-2.ensures in
+    let r = slots_read c.args.heaps c.index.result.now c.index-2.result.now c.slots-here.result.now c.slots-there.result.now pair.before_in pair.after_in pair.header
+    c.object-old.ensures.value c.object-new.ensures.value c.slots-here.ensures.count c.slots-here.ensures.each c.slots-there.ensures.count c.slots-there.ensures.each in
+    new_names r c.loop-number.number c.loop-number-test.true
 
 pub link-requires-clause-way : goal.link-requires-clause-way
 link-requires-clause-way c =
-    let place : c.args.first.from - 1 < length c.args.walk.now.before.items = omega (arith, c.requires.some, c.requires.pair) in
-    let pair = pair_read c.args.before.now c.args.after.now c.args.walk.now (c.args.first.from - 1)
-    c.index.result.now c.index-2.result.now c.requires.walk place c.index.ensures c.index-2.ensures in
-    let here = has_slots c.args.before.now c.index.result.now c.object-old.result c.args.before.now.words
-    c.slots-here.result.now c.object-old.ensures.value refl c.slots-here.ensures.count c.slots-here.ensures.each in
-    let there = has_slots c.args.after.now c.index-2.result.now c.object-new.result c.args.after.now.words
-    c.slots-there.result.now c.object-new.ensures.value refl c.slots-there.ensures.count c.slots-there.ensures.each in
-    let g : Heap = c.args.before.now in
-    let h : Heap = c.args.after.now in
-    let w : Walk = c.loop-number.walk in
-    let f : ℕ = c.args.first.from in
-    let n : ℕ = c.loop-number.number in
-    let a : ℕ = c.index.result.now in
-    let b : ℕ = c.index-2.result.now in
-    let x : ℕ = slice_index c.slots-here.result.now n in
-    let y : ℕ = slice_index c.slots-there.result.now n in
-    let one : f - 1 + 1 ≡ f = omega (arith, c.requires.some) in
-    let n_old : n < (object_at g a).refs = omega (arith, c.loop-number-test.true, here.count) in
-    let n_new : n < (object_at h b).refs = omega (arith, n_old, pair.refs) in
-    let x_is = here.each n c.loop-number-test.true in
-    let y_is = there.each n (omega (arith, n_new, there.count)) in
-    let grown : HasGrown c.args.walk.now w = c.loop-number.invariant.grown in
-    let way : IsWay g h w.before.items w.after.items f n x y = subst (λ z. IsWay g h w.before.items w.after.items z n x y) one
-    (slot_way g h w.before.items w.after.items (f - 1) n a b x y (omega (arith, pair.place, grown.more)) (grown.olds (f - 1) pair.place ∙ pair.before)
-    (grown.news (f - 1) pair.place ∙ pair.after) n_old n_new (sym x_is) (sym y_is)) in
-    way
+    let pair = pair_read c.args.heaps c.args.walk.now c.args.first.from c.requires.walk c.requires.some c.requires.pair c.index.ensures c.index-2.ensures in
+    let r = slots_read c.args.heaps c.index.result.now c.index-2.result.now c.slots-here.result.now c.slots-there.result.now pair.before_in pair.after_in pair.header
+    c.object-old.ensures.value c.object-new.ensures.value c.slots-here.ensures.count c.slots-here.ensures.each c.slots-there.ensures.count c.slots-there.ensures.each in
+    slots_way c.loop-number.walk c.args.first.from c.requires.some pair r c.loop-number.invariant.grown c.loop-number.number c.loop-number-test.true
 
 pub link-requires-clause-below : goal.link-requires-clause-below
 link-requires-clause-below c = c.loop-number.invariant.below
@@ -111,33 +66,21 @@ link-requires-clause-backward c = omega (arith, c.requires.pair, c.loop-number.i
 
 pub loop-number-preserved : goal.loop-number-preserved
 loop-number-preserved c =
-    let place : c.args.first.from - 1 < length c.args.walk.now.before.items = omega (arith, c.requires.some, c.requires.pair) in
-    let pair = pair_read c.args.before.now c.args.after.now c.args.walk.now (c.args.first.from - 1)
-    c.index.result.now c.index-2.result.now c.requires.walk place c.index.ensures c.index-2.ensures in
-    let here = has_slots c.args.before.now c.index.result.now c.object-old.result c.args.before.now.words
-    c.slots-here.result.now c.object-old.ensures.value refl c.slots-here.ensures.count c.slots-here.ensures.each in
-    let there = has_slots c.args.after.now c.index-2.result.now c.object-new.result c.args.after.now.words
-    c.slots-there.result.now c.object-new.ensures.value refl c.slots-there.ensures.count c.slots-there.ensures.each in
-    let g : Heap = c.args.before.now in
-    let h : Heap = c.args.after.now in
+    let pair = pair_read c.args.heaps c.args.walk.now c.args.first.from c.requires.walk c.requires.some c.requires.pair c.index.ensures c.index-2.ensures in
+    let r = slots_read c.args.heaps c.index.result.now c.index-2.result.now c.slots-here.result.now c.slots-there.result.now pair.before_in pair.after_in pair.header
+    c.object-old.ensures.value c.object-new.ensures.value c.slots-here.ensures.count c.slots-here.ensures.each c.slots-there.ensures.count c.slots-there.ensures.each in
+    let g : Heap = c.args.heaps.before.now in
+    let h : Heap = c.args.heaps.after.now in
     let w : Walk = c.loop-number.walk in
     let f : ℕ = c.args.first.from in
     let n : ℕ = c.loop-number.number in
-    let a : ℕ = c.index.result.now in
-    let b : ℕ = c.index-2.result.now in
-    let x : ℕ = slice_index c.slots-here.result.now n in
-    let y : ℕ = slice_index c.slots-there.result.now n in
-    let one : f - 1 + 1 ≡ f = omega (arith, c.requires.some) in
-    let n_old : n < (object_at g a).refs = omega (arith, c.loop-number-test.true, here.count) in
-    let n_new : n < (object_at h b).refs = omega (arith, n_old, pair.refs) in
-    let x_is = here.each n c.loop-number-test.true in
-    let y_is = there.each n (omega (arith, n_new, there.count)) in
     let v : Walk = c.link.new.walk in
     let step : HasGrown w v = c.in_ok-how.ensures.grown in
     let more : HasGrown c.args.walk.now v = grown_more c.args.walk.now w v c.loop-number.invariant.grown step in
-    let way : IsWay g h v.before.items v.after.items f n x y = subst (λ z. IsWay g h v.before.items v.after.items z n x y) one
-    (slot_way g h v.before.items v.after.items (f - 1) n a b x y (omega (arith, pair.place, more.more)) (more.olds (f - 1) pair.place ∙ pair.before)
-    (more.news (f - 1) pair.place ∙ pair.after) n_old n_new (sym x_is) (sym y_is)) in
+    let way = slots_way v f c.requires.some pair r more n c.loop-number-test.true in
+    let b : ℕ = c.index-2.result.now in
+    let x : ℕ = slice_index c.slots-here.result.now n in
+    let y : ℕ = slice_index c.slots-there.result.now n in
     let at : c.object-new.result.at ≡ b = ap (λ o. o.at) c.object-new.ensures.value in
     let none = none_then (HasNoneAt c.args.stale.now.slots.now (c.object-new.result.at + 1 + n) y) c.stale_word.result c.in_default.not-Some c.stale_word.ensures.none in
     let plain : IsPlain c.args.stale.now v f n y = plain_slot c.args.stale.now v f n b y c.requires.some (more.news (f - 1) pair.place ∙ pair.after)
@@ -159,9 +102,9 @@ pub loop-number-init : goal.loop-number-init
 loop-number-init c = record {
   walk = c.requires.walk;
   grown = grown_same c.args.walk.now;
-  alike = alike_none c.args.before.now c.args.after.now c.args.walk.now;
-  linked = between_none c.args.before.now c.args.after.now c.args.walk.now c.args.first.from c.args.first.number;
-  passed = passes_none c.args.before.now c.args.after.now c.args.stale.now c.args.walk.now c.args.first.from c.args.first.number;
+  alike = alike_none c.args.heaps.before.now c.args.heaps.after.now c.args.walk.now;
+  linked = between_none c.args.heaps.before.now c.args.heaps.after.now c.args.walk.now c.args.first.from c.args.first.number;
+  passed = passes_none c.args.heaps.before.now c.args.heaps.after.now c.args.stale.now c.args.walk.now c.args.first.from c.args.first.number;
   below = c.requires.below;
   on = omega arith;
 }
@@ -180,7 +123,7 @@ returns-in-Some-clause-grown c = c.loop-number.invariant.grown
 
 pub returns-in-Some-2-clause-alike : goal.returns-in-Some-2-clause-alike
 returns-in-Some-2-clause-alike c =
-    alike_more c.args.before.now c.args.after.now c.args.walk.now c.loop-number.walk c.link.new.walk c.loop-number.invariant.alike c.in_ok-how.ensures.alike c.in_ok-how.ensures.grown
+    alike_more c.args.heaps.before.now c.args.heaps.after.now c.args.walk.now c.loop-number.walk c.link.new.walk c.loop-number.invariant.alike c.in_ok-how.ensures.alike c.in_ok-how.ensures.grown
 
 pub returns-in-Some-clause-alike : goal.returns-in-Some-clause-alike
 returns-in-Some-clause-alike c = c.loop-number.invariant.alike
@@ -193,15 +136,15 @@ returns-in-Some-clause-below c = λ i lt. earlier_row _ _ c.args.first.from c.lo
 
 pub returns-in-Some-2-clause-until : goal.returns-in-Some-2-clause-until
 returns-in-Some-2-clause-until c =
-    subst (IsNext c.args.before.now c.args.after.now c.link.new.walk c.args.first.from c.args.first.number) (sym c.found_at-in-Some-2.ensures) (
+    subst (IsNext c.args.heaps.before.now c.args.heaps.after.now c.link.new.walk c.args.first.from c.args.first.number) (sym c.found_at-in-Some-2.ensures) (
       not_before c.args.first.from c.args.first.number c.loop-number.number c.loop-number.invariant.on,
-      between_kept c.args.before.now c.args.after.now c.loop-number.walk c.link.new.walk c.args.first.from c.args.first.number c.args.first.from c.loop-number.number
+      between_kept c.args.heaps.before.now c.args.heaps.after.now c.loop-number.walk c.link.new.walk c.args.first.from c.args.first.number c.args.first.from c.loop-number.number
           c.in_ok-how.ensures.grown (omega (arith, c.requires.pair, c.loop-number.invariant.grown.more)) c.loop-number.invariant.linked,
     )
 
 pub returns-in-Some-clause-until : goal.returns-in-Some-clause-until
 returns-in-Some-clause-until c =
-    subst (IsNext c.args.before.now c.args.after.now c.loop-number.walk c.args.first.from c.args.first.number) (sym c.found_at.ensures)
+    subst (IsNext c.args.heaps.before.now c.args.heaps.after.now c.loop-number.walk c.args.first.from c.args.first.number) (sym c.found_at.ensures)
     (not_before c.args.first.from c.args.first.number c.loop-number.number c.loop-number.invariant.on, c.loop-number.invariant.linked)
 
 -- the place of a slot in the list of stale words
@@ -232,15 +175,12 @@ slot_below g h w (suc i) j x y a some is way =
 
 pub returns-clause-linked : goal.returns-clause-linked
 returns-clause-linked c =
-    let place : c.args.first.from - 1 < length c.args.walk.now.before.items = omega (arith, c.requires.some, c.requires.pair) in
-    let pair = pair_read c.args.before.now c.args.after.now c.args.walk.now (c.args.first.from - 1)
-    c.index.result.now c.index-2.result.now c.requires.walk place c.index.ensures c.index-2.ensures in
-    let here = has_slots c.args.before.now c.index.result.now c.object-old.result c.args.before.now.words
-    c.slots-here.result.now c.object-old.ensures.value refl c.slots-here.ensures.count c.slots-here.ensures.each in
-    let grown = c.loop-number.invariant.grown in
-    between_row c.args.before.now c.args.after.now c.loop-number.walk c.args.first.from c.args.first.number c.args.first.from c.loop-number.number c.loop-number.invariant.linked
-    (λ j x y way. let lt = slot_below c.args.before.now c.args.after.now c.loop-number.walk c.args.first.from j x y c.index.result.now c.requires.some
-    (grown.olds (c.args.first.from - 1) pair.place ∙ pair.before) way in omega (arith, lt, c.loop-number-test.false, here.count))
+    let pair = pair_read c.args.heaps c.args.walk.now c.args.first.from c.requires.walk c.requires.some c.requires.pair c.index.ensures c.index-2.ensures in
+    let r = slots_read c.args.heaps c.index.result.now c.index-2.result.now c.slots-here.result.now c.slots-there.result.now pair.before_in pair.after_in pair.header
+    c.object-old.ensures.value c.object-new.ensures.value c.slots-here.ensures.count c.slots-here.ensures.each c.slots-there.ensures.count c.slots-there.ensures.each in
+    between_row c.args.heaps.before.now c.args.heaps.after.now c.loop-number.walk c.args.first.from c.args.first.number c.args.first.from c.loop-number.number c.loop-number.invariant.linked
+    (λ j x y way. let lt = slot_below c.args.heaps.before.now c.args.heaps.after.now c.loop-number.walk c.args.first.from j x y c.index.result.now c.requires.some
+    (c.loop-number.invariant.grown.olds (c.args.first.from - 1) pair.place ∙ pair.before) way in omega (arith, lt, c.loop-number-test.false, r.here.count))
 
 pub index-requires : goal.index-requires
 index-requires c = omega (arith, c.requires.some, c.requires.pair, c.args.walk.now.before.ok)
@@ -274,47 +214,28 @@ overflow_cast-way c =
 
 pub slots-here-requires : goal.slots-here-requires
 slots-here-requires c =
-    let place : c.args.first.from - 1 < length c.args.walk.now.before.items = omega (arith, c.requires.some, c.requires.pair) in
-    let pair = pair_read c.args.before.now c.args.after.now c.args.walk.now (c.args.first.from - 1)
-    c.index.result.now c.index-2.result.now c.requires.walk place c.index.ensures c.index-2.ensures in
-    subst (λ (o : Object). Contains (objects c.args.before.now) o) (sym c.object-old.ensures.value) pair.before_in
+    subst (λ (o : Object). Contains (objects c.args.heaps.before.now) o) (sym c.object-old.ensures.value)
+    (pair_read c.args.heaps c.args.walk.now c.args.first.from c.requires.walk c.requires.some c.requires.pair c.index.ensures c.index-2.ensures).before_in
 
 pub slots-there-requires : goal.slots-there-requires
 slots-there-requires c =
-    let place : c.args.first.from - 1 < length c.args.walk.now.before.items = omega (arith, c.requires.some, c.requires.pair) in
-    let pair = pair_read c.args.before.now c.args.after.now c.args.walk.now (c.args.first.from - 1)
-    c.index.result.now c.index-2.result.now c.requires.walk place c.index.ensures c.index-2.ensures in
-    subst (λ (o : Object). Contains (objects c.args.after.now) o) (sym c.object-new.ensures.value) pair.after_in
+    subst (λ (o : Object). Contains (objects c.args.heaps.after.now) o) (sym c.object-new.ensures.value)
+    (pair_read c.args.heaps c.args.walk.now c.args.first.from c.requires.walk c.requires.some c.requires.pair c.index.ensures c.index-2.ensures).after_in
 
 pub returns-in-Some-clause-found : goal.returns-in-Some-clause-found
 returns-in-Some-clause-found c =
-    let place : c.args.first.from - 1 < length c.args.walk.now.before.items = omega (arith, c.requires.some, c.requires.pair) in
-    let pair = pair_read c.args.before.now c.args.after.now c.args.walk.now (c.args.first.from - 1)
-    c.index.result.now c.index-2.result.now c.requires.walk place c.index.ensures c.index-2.ensures in
-    let here = has_slots c.args.before.now c.index.result.now c.object-old.result c.args.before.now.words
-    c.slots-here.result.now c.object-old.ensures.value refl c.slots-here.ensures.count c.slots-here.ensures.each in
-    let there = has_slots c.args.after.now c.index-2.result.now c.object-new.result c.args.after.now.words
-    c.slots-there.result.now c.object-new.ensures.value refl c.slots-there.ensures.count c.slots-there.ensures.each in
-    let g : Heap = c.args.before.now in
-    let h : Heap = c.args.after.now in
+    let pair = pair_read c.args.heaps c.args.walk.now c.args.first.from c.requires.walk c.requires.some c.requires.pair c.index.ensures c.index-2.ensures in
+    let r = slots_read c.args.heaps c.index.result.now c.index-2.result.now c.slots-here.result.now c.slots-there.result.now pair.before_in pair.after_in pair.header
+    c.object-old.ensures.value c.object-new.ensures.value c.slots-here.ensures.count c.slots-here.ensures.each c.slots-there.ensures.count c.slots-there.ensures.each in
+    let g : Heap = c.args.heaps.before.now in
+    let h : Heap = c.args.heaps.after.now in
     let w : Walk = c.loop-number.walk in
     let f : ℕ = c.args.first.from in
     let n : ℕ = c.loop-number.number in
-    let a : ℕ = c.index.result.now in
     let b : ℕ = c.index-2.result.now in
-    let x : ℕ = slice_index c.slots-here.result.now n in
-    let y : ℕ = slice_index c.slots-there.result.now n in
-    let one : f - 1 + 1 ≡ f = omega (arith, c.requires.some) in
-    let n_old : n < (object_at g a).refs = omega (arith, c.loop-number-test.true, here.count) in
-    let n_new : n < (object_at h b).refs = omega (arith, n_old, pair.refs) in
-    let x_is = here.each n c.loop-number-test.true in
-    let y_is = there.each n (omega (arith, n_new, there.count)) in
-    let way : IsWay g h w.before.items w.after.items f n x y = subst (λ z. IsWay g h w.before.items w.after.items z n x y) one
-    (slot_way g h w.before.items w.after.items (f - 1) n a b x y (omega (arith, pair.place, c.loop-number.invariant.grown.more)) (c.loop-number.invariant.grown.olds (f - 1) pair.place ∙ pair.before)
-    (c.loop-number.invariant.grown.news (f - 1) pair.place ∙ pair.after) n_old n_new (sym x_is) (sym y_is)) in
     let at : c.object-new.result.at ≡ b = ap (λ o. o.at) c.object-new.ensures.value in
     subst (IsFound g h c.args.stale.now w) (sym c.found_at.ensures) (record {
-      way = way;
+      way = slots_way w c.args.first.from c.requires.some pair r c.loop-number.invariant.grown n c.loop-number-test.true;
       below = c.loop-number.invariant.below;
       differs = (
         stale_slot c.args.stale.now w f n b c.in-Some.word c.requires.some (c.loop-number.invariant.grown.news (f - 1) pair.place ∙ pair.after)
@@ -325,34 +246,20 @@ returns-in-Some-clause-found c =
 
 pub returns-in-Some-2-clause-found : goal.returns-in-Some-2-clause-found
 returns-in-Some-2-clause-found c =
-    let place : c.args.first.from - 1 < length c.args.walk.now.before.items = omega (arith, c.requires.some, c.requires.pair) in
-    let pair = pair_read c.args.before.now c.args.after.now c.args.walk.now (c.args.first.from - 1)
-    c.index.result.now c.index-2.result.now c.requires.walk place c.index.ensures c.index-2.ensures in
-    let here = has_slots c.args.before.now c.index.result.now c.object-old.result c.args.before.now.words
-    c.slots-here.result.now c.object-old.ensures.value refl c.slots-here.ensures.count c.slots-here.ensures.each in
-    let there = has_slots c.args.after.now c.index-2.result.now c.object-new.result c.args.after.now.words
-    c.slots-there.result.now c.object-new.ensures.value refl c.slots-there.ensures.count c.slots-there.ensures.each in
-    let g : Heap = c.args.before.now in
-    let h : Heap = c.args.after.now in
+    let pair = pair_read c.args.heaps c.args.walk.now c.args.first.from c.requires.walk c.requires.some c.requires.pair c.index.ensures c.index-2.ensures in
+    let r = slots_read c.args.heaps c.index.result.now c.index-2.result.now c.slots-here.result.now c.slots-there.result.now pair.before_in pair.after_in pair.header
+    c.object-old.ensures.value c.object-new.ensures.value c.slots-here.ensures.count c.slots-here.ensures.each c.slots-there.ensures.count c.slots-there.ensures.each in
+    let g : Heap = c.args.heaps.before.now in
+    let h : Heap = c.args.heaps.after.now in
     let w : Walk = c.loop-number.walk in
     let f : ℕ = c.args.first.from in
     let n : ℕ = c.loop-number.number in
-    let a : ℕ = c.index.result.now in
-    let b : ℕ = c.index-2.result.now in
-    let x : ℕ = slice_index c.slots-here.result.now n in
-    let y : ℕ = slice_index c.slots-there.result.now n in
-    let one : f - 1 + 1 ≡ f = omega (arith, c.requires.some) in
-    let n_old : n < (object_at g a).refs = omega (arith, c.loop-number-test.true, here.count) in
-    let n_new : n < (object_at h b).refs = omega (arith, n_old, pair.refs) in
-    let x_is = here.each n c.loop-number-test.true in
-    let y_is = there.each n (omega (arith, n_new, there.count)) in
     let v : Walk = c.link.new.walk in
     let step : HasGrown w v = c.in_ok-how.ensures.grown in
     let more : HasGrown c.args.walk.now v = grown_more c.args.walk.now w v c.loop-number.invariant.grown step in
-    let way : IsWay g h v.before.items v.after.items f n x y = subst (λ z. IsWay g h v.before.items v.after.items z n x y) one
-    (slot_way g h v.before.items v.after.items (f - 1) n a b x y (omega (arith, pair.place, more.more)) (more.olds (f - 1) pair.place ∙ pair.before)
-    (more.news (f - 1) pair.place ∙ pair.after) n_old n_new (sym x_is) (sym y_is)) in
-    let k = some_then (λ (how : How). IsSeen g h v how x y × IsBelow v f n × IsLeast g h v how x y) c.in_ok-how.field-0 c.in-Some-2.how c.in-Some-2.is c.in_ok-how.ensures.clash in
+    let way = slots_way v f c.requires.some pair r more n c.loop-number-test.true in
+    let k = some_then (λ (how : How). IsSeen g h v how (slice_index c.slots-here.result.now n) (slice_index c.slots-there.result.now n) × IsBelow v f n
+    × IsLeast g h v how (slice_index c.slots-here.result.now n) (slice_index c.slots-there.result.now n)) c.in_ok-how.field-0 c.in-Some-2.how c.in-Some-2.is c.in_ok-how.ensures.clash in
     subst (IsFound g h c.args.stale.now v) (sym c.found_at-in-Some-2.ensures) (record {
       way = way;
       below = k.1;
@@ -361,37 +268,25 @@ returns-in-Some-2-clause-found c =
 
 pub returns-in-Some-clause-no_stale : goal.returns-in-Some-clause-no_stale
 returns-in-Some-clause-no_stale c =
-    subst (IsNextStale c.args.before.now c.args.after.now c.args.stale.now c.loop-number.walk c.args.first.from c.args.first.number) (sym c.found_at.ensures) c.loop-number.invariant.passed
+    subst (IsNextStale c.args.heaps.before.now c.args.heaps.after.now c.args.stale.now c.loop-number.walk c.args.first.from c.args.first.number) (sym c.found_at.ensures) c.loop-number.invariant.passed
 
 pub returns-in-Some-2-clause-no_stale : goal.returns-in-Some-2-clause-no_stale
 returns-in-Some-2-clause-no_stale c =
-    let place : c.args.first.from - 1 < length c.args.walk.now.before.items = omega (arith, c.requires.some, c.requires.pair) in
-    let pair = pair_read c.args.before.now c.args.after.now c.args.walk.now (c.args.first.from - 1)
-    c.index.result.now c.index-2.result.now c.requires.walk place c.index.ensures c.index-2.ensures in
-    let here = has_slots c.args.before.now c.index.result.now c.object-old.result c.args.before.now.words
-    c.slots-here.result.now c.object-old.ensures.value refl c.slots-here.ensures.count c.slots-here.ensures.each in
-    let there = has_slots c.args.after.now c.index-2.result.now c.object-new.result c.args.after.now.words
-    c.slots-there.result.now c.object-new.ensures.value refl c.slots-there.ensures.count c.slots-there.ensures.each in
-    let g : Heap = c.args.before.now in
-    let h : Heap = c.args.after.now in
+    let pair = pair_read c.args.heaps c.args.walk.now c.args.first.from c.requires.walk c.requires.some c.requires.pair c.index.ensures c.index-2.ensures in
+    let r = slots_read c.args.heaps c.index.result.now c.index-2.result.now c.slots-here.result.now c.slots-there.result.now pair.before_in pair.after_in pair.header
+    c.object-old.ensures.value c.object-new.ensures.value c.slots-here.ensures.count c.slots-here.ensures.each c.slots-there.ensures.count c.slots-there.ensures.each in
+    let g : Heap = c.args.heaps.before.now in
+    let h : Heap = c.args.heaps.after.now in
     let w : Walk = c.loop-number.walk in
     let f : ℕ = c.args.first.from in
     let n : ℕ = c.loop-number.number in
-    let a : ℕ = c.index.result.now in
-    let b : ℕ = c.index-2.result.now in
-    let x : ℕ = slice_index c.slots-here.result.now n in
-    let y : ℕ = slice_index c.slots-there.result.now n in
-    let one : f - 1 + 1 ≡ f = omega (arith, c.requires.some) in
-    let n_old : n < (object_at g a).refs = omega (arith, c.loop-number-test.true, here.count) in
-    let n_new : n < (object_at h b).refs = omega (arith, n_old, pair.refs) in
-    let x_is = here.each n c.loop-number-test.true in
-    let y_is = there.each n (omega (arith, n_new, there.count)) in
     let v : Walk = c.link.new.walk in
     let step : HasGrown w v = c.in_ok-how.ensures.grown in
     let more : HasGrown c.args.walk.now v = grown_more c.args.walk.now w v c.loop-number.invariant.grown step in
-    let way : IsWay g h v.before.items v.after.items f n x y = subst (λ z. IsWay g h v.before.items v.after.items z n x y) one
-    (slot_way g h v.before.items v.after.items (f - 1) n a b x y (omega (arith, pair.place, more.more)) (more.olds (f - 1) pair.place ∙ pair.before)
-    (more.news (f - 1) pair.place ∙ pair.after) n_old n_new (sym x_is) (sym y_is)) in
+    let way = slots_way v f c.requires.some pair r more n c.loop-number-test.true in
+    let b : ℕ = c.index-2.result.now in
+    let x : ℕ = slice_index c.slots-here.result.now n in
+    let y : ℕ = slice_index c.slots-there.result.now n in
     let at : c.object-new.result.at ≡ b = ap (λ o. o.at) c.object-new.ensures.value in
     let none = none_then (HasNoneAt c.args.stale.now.slots.now (c.object-new.result.at + 1 + n) y) c.stale_word.result c.in_default.not-Some c.stale_word.ensures.none in
     let plain : IsPlain c.args.stale.now v f n y = plain_slot c.args.stale.now v f n b y c.requires.some (more.news (f - 1) pair.place ∙ pair.after)
@@ -403,12 +298,9 @@ returns-in-Some-2-clause-no_stale c =
 
 pub returns-clause-no_stale_left : goal.returns-clause-no_stale_left
 returns-clause-no_stale_left c =
-    let place : c.args.first.from - 1 < length c.args.walk.now.before.items = omega (arith, c.requires.some, c.requires.pair) in
-    let pair = pair_read c.args.before.now c.args.after.now c.args.walk.now (c.args.first.from - 1)
-    c.index.result.now c.index-2.result.now c.requires.walk place c.index.ensures c.index-2.ensures in
-    let here = has_slots c.args.before.now c.index.result.now c.object-old.result c.args.before.now.words
-    c.slots-here.result.now c.object-old.ensures.value refl c.slots-here.ensures.count c.slots-here.ensures.each in
-    let grown = c.loop-number.invariant.grown in
-    passes_row c.args.before.now c.args.after.now c.args.stale.now c.loop-number.walk c.args.first.from c.args.first.number c.args.first.from c.loop-number.number c.loop-number.invariant.passed
-    (λ j x y way. let lt = slot_below c.args.before.now c.args.after.now c.loop-number.walk c.args.first.from j x y c.index.result.now c.requires.some
-    (grown.olds (c.args.first.from - 1) pair.place ∙ pair.before) way in omega (arith, lt, c.loop-number-test.false, here.count))
+    let pair = pair_read c.args.heaps c.args.walk.now c.args.first.from c.requires.walk c.requires.some c.requires.pair c.index.ensures c.index-2.ensures in
+    let r = slots_read c.args.heaps c.index.result.now c.index-2.result.now c.slots-here.result.now c.slots-there.result.now pair.before_in pair.after_in pair.header
+    c.object-old.ensures.value c.object-new.ensures.value c.slots-here.ensures.count c.slots-here.ensures.each c.slots-there.ensures.count c.slots-there.ensures.each in
+    passes_row c.args.heaps.before.now c.args.heaps.after.now c.args.stale.now c.loop-number.walk c.args.first.from c.args.first.number c.args.first.from c.loop-number.number c.loop-number.invariant.passed
+    (λ j x y way. let lt = slot_below c.args.heaps.before.now c.args.heaps.after.now c.loop-number.walk c.args.first.from j x y c.index.result.now c.requires.some
+    (c.loop-number.invariant.grown.olds (c.args.first.from - 1) pair.place ∙ pair.before) way in omega (arith, lt, c.loop-number-test.false, r.here.count))

@@ -5,11 +5,11 @@ use Rattle.g1_same.proofs.searching.link_slots.Given as goal
 
 abbrev pub invariant-loop-number : goal.invariant-loop-number
 invariant-loop-number l = record {
-  walk : IsTour l.before l.after l.walk;
+  walk : IsTour l.heaps.before.now l.heaps.after.now l.walk;
   grown : HasGrown l.initial.walk l.walk;
-  alike : FindsAlike l.before l.after l.initial.walk l.walk;
-  linked : LinksBetween l.before l.after l.walk l.fn.first.from l.fn.first.number l.fn.first.from l.number;
-  passed : PassesNoStale l.before l.after l.stale l.walk l.fn.first.from l.fn.first.number l.fn.first.from l.number;
+  alike : FindsAlike l.heaps.before.now l.heaps.after.now l.initial.walk l.walk;
+  linked : LinksBetween l.heaps.before.now l.heaps.after.now l.walk l.fn.first.from l.fn.first.number l.fn.first.from l.number;
+  passed : PassesNoStale l.heaps.before.now l.heaps.after.now l.stale l.walk l.fn.first.from l.fn.first.number l.fn.first.from l.number;
   below : IsBelow l.walk l.fn.first.from l.number;
   on : l.fn.first.number ≤ l.number;
 }

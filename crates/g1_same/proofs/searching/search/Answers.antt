@@ -18,8 +18,8 @@ returns-clause-grown c =
 
 pub returns-clause-alike : goal.returns-clause-alike
 returns-clause-alike c =
-    let g : Heap = c.args.before.now in
-    let h : Heap = c.args.after.now in
+    let g : Heap = c.args.heaps.before.now in
+    let h : Heap = c.args.heaps.after.now in
     let w : Walk = c.args.walk.now in
     let u : Walk = c.link_roots.new.walk in
     let v : Walk = c.link_pairs-2.new.walk in
@@ -28,8 +28,8 @@ returns-clause-alike c =
 
 pub returns-clause-linked : goal.returns-clause-linked
 returns-clause-linked c =
-    let g : Heap = c.args.before.now in
-    let h : Heap = c.args.after.now in
+    let g : Heap = c.args.heaps.before.now in
+    let h : Heap = c.args.heaps.after.now in
     let u : Walk = c.link_roots.new.walk in
     let v : Walk = c.link_pairs-2.new.walk in
     let f : ℕ = c.args.first.from in
@@ -44,8 +44,8 @@ returns-clause-linked c =
 
 pub returns-clause-until : goal.returns-clause-until
 returns-clause-until c =
-    let g : Heap = c.args.before.now in
-    let h : Heap = c.args.after.now in
+    let g : Heap = c.args.heaps.before.now in
+    let h : Heap = c.args.heaps.after.now in
     let u : Walk = c.link_roots.new.walk in
     let v : Walk = c.link_pairs-2.new.walk in
     let f : ℕ = c.args.first.from in
@@ -66,8 +66,8 @@ link_roots-requires-clause-below c =
 
 pub returns-clause-no_stale : goal.returns-clause-no_stale
 returns-clause-no_stale c =
-    let g : Heap = c.args.before.now in
-    let h : Heap = c.args.after.now in
+    let g : Heap = c.args.heaps.before.now in
+    let h : Heap = c.args.heaps.after.now in
     let s : StaleWords = c.args.stale.now in
     let u : Walk = c.link_roots.new.walk in
     let v : Walk = c.link_pairs-2.new.walk in
@@ -83,8 +83,8 @@ returns-clause-no_stale c =
 
 pub returns-clause-no_stale_left : goal.returns-clause-no_stale_left
 returns-clause-no_stale_left c =
-    let g : Heap = c.args.before.now in
-    let h : Heap = c.args.after.now in
+    let g : Heap = c.args.heaps.before.now in
+    let h : Heap = c.args.heaps.after.now in
     let s : StaleWords = c.args.stale.now in
     let u : Walk = c.link_roots.new.walk in
     let v : Walk = c.link_pairs-2.new.walk in

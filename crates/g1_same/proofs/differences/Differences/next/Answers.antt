@@ -7,16 +7,17 @@ use Rattle.g1_same.proofs.Steps.{some_then}
 use Rattle.g1_same.proofs.Adding.{pairs_fit}
 use Rattle.g1_same.proofs.Between.{is_there, between_kept, way_within, until_more}
 use Rattle.g1_same.proofs.Passing.{passes_kept}
+use Rattle.g1_same.proofs.Held.{valid_of}
 use Rattle.g1_same.proofs.differences.Differences.next.Goals as goal
 
 pub overflow_cast-from : goal.overflow_cast-from
 overflow_cast-from c =
-    let few = pairs_fit c.args.self.now.before.now c.args.self.now.after.now c.search.new.walk c.valid.ensures c.in_ok-met.ensures.walk in
+    let few = pairs_fit c.args.self.now.before.now c.args.self.now.after.now c.search.new.walk (valid_of c.args.self.now.before.now c.args.self.now.valid_before) c.in_ok-met.ensures.walk in
     record { fits = omega (arith, few, c.len.ensures, c.search.new.walk.before.ok) }
 
 pub overflow_add-from : goal.overflow_add-from
 overflow_add-from c =
-    let few = pairs_fit c.args.self.now.before.now c.args.self.now.after.now c.search.new.walk c.valid.ensures c.in_ok-met.ensures.walk in
+    let few = pairs_fit c.args.self.now.before.now c.args.self.now.after.now c.search.new.walk (valid_of c.args.self.now.before.now c.args.self.now.valid_before) c.in_ok-met.ensures.walk in
     record { fits = omega (arith, few, c.len.ensures, c.search.new.walk.before.ok) }
 
 pub returns-in_ok-self-in-Some-clause-there : goal.returns-in_ok-self-in-Some-clause-there
