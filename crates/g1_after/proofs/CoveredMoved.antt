@@ -1,7 +1,7 @@
 -- The image after is covered.
 use Rattle.std.proofs.Common.{◌≡◌, ℕ, suc, ◌+◌, ◌*◌, ◌/◌, ◌<◌, ◌≤◌, ◌⊎◌, inl, inr, Bool, true, false, cond, not, ◌&&◌, ◌||◌, List, [], ◌∷◌, length, get_or, map, filter, flat_map, refl, sym}
 use Rattle.std.proofs.Common.{◌∙◌, ap, subst, arith, eqb, eq-eqb}
-use Rattle.std.specs.List.{range_with_len, list_any}
+use Rattle.std.specs.List.{range_with_len}
 use Rattle.std.proofs.lemmas.Bool.{cases_Bool, false≢true, or_cases}
 use Rattle.std.proofs.lemmas.List.FromFn.{get_or-map-range_with_len}
 pub use Rattle.std.proofs.lemmas.Bool.{and_from as and_both, or_right, or_left}
@@ -24,13 +24,9 @@ use Rattle.g1_words.specs.Lists.{has}
 use Rattle.g1_words.specs.References.{Ref, named, refs, refs_at}
 use Rattle.g1_words.specs.Survivors.{AllOrdinary, Survivors, in_set}
 use Rattle.g1_words.specs.declared.object.Object.{Object}
+pub use Rattle.g1_words.proofs.Lists.{any_from_in}
 
 -- ---- tests and lists
-
-pub any_from_in : {A : Type 0} (p : A → Bool) (xs : List A) (x : A) → In xs x → p x ≡ true → list_any p xs ≡ true
-any_from_in p [] x h t = absurd h
-any_from_in p (y ∷ ys) x (inl e) t = (λ q. p (e q) || list_any p ys) ∙ (λ q. t q || list_any p ys)
-any_from_in p (y ∷ ys) x (inr h) t = elim (p y) as (λ b. (b || list_any p ys) ≡ true) [ true ↦ refl | false ↦ any_from_in p ys x h t ]
 
 pub none_left : {A : Type 0} (p : A → Bool) (xs : List A) → ((x : A) → In xs x → p x ≡ true) → filter (λ x. not (p x)) xs ≡ []
 none_left p [] f = refl

@@ -1,10 +1,10 @@
 -- On cards and of regions that a pause leaves as they are, what is exact stays.
 use Rattle.std.proofs.Common.{◌≡◌, ℕ, suc, ◌+◌, ◌/◌, ◌<◌, ◌≤◌, inl, inr, Bool, true, false, not, ◌&&◌, List, ◌++◌, length, sym, ◌∙◌, ap, arith, eqb}
 use Rattle.std.proofs.lemmas.Bool.{cases_Bool, false≢true}
-use Rattle.g1_after.proofs.CoveredMoved.{any_from_in, moved_region}
+use Rattle.g1_after.proofs.CoveredMoved.{moved_region}
 use Rattle.g1_after.proofs.ObjectsOf.{kept_outside}
 use Rattle.g1_after.proofs.RefsMoved.{refs_moved}
-use Rattle.g1_after.proofs.RefsOf.{exact_parts, ref_of, region_of_slot, same_test, slot_of}
+use Rattle.g1_after.proofs.RefsOf.{exact_parts, ref_of, region_of_slot, slot_of}
 use Rattle.g1_after.proofs.RulesMoved.{before_kept, ref_moved}
 use Rattle.g1_after.proofs.ValidMoved.{kept_refs, sound_before}
 use Rattle.g1_after.specs.Survived.{ExactStays}
@@ -23,6 +23,8 @@ use Rattle.g1_words.specs.References.{Ref, refs}
 use Rattle.g1_words.specs.Survivors.{AllOrdinary, Survivors, in_set}
 use Rattle.g1_words.specs.declared.object.Object.{Object}
 use Rattle.g1_words.specs.declared.region.Kind.TheVariants.{HumongousFirst, Ordinary}
+use Rattle.g1_words.proofs.Lists.{any_from_in}
+use Rattle.g1_words.proofs.Logic.{same_test}
 
 -- what isn't in two lists isn't in the first
 not_in_first : (xs ys : List ℕ) (x : ℕ) → has (xs ++ ys) x ≡ false → has xs x ≡ false

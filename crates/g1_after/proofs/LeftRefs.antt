@@ -3,7 +3,6 @@ use Rattle.std.proofs.Common.{◌≡◌, ℕ, ◌+◌, ◌-◌, ◌<◌, ◌↔�
 use Rattle.std.specs.Prelude.{IsFalse}
 use Rattle.std.specs.List.{list_any}
 use Rattle.std.proofs.lemmas.Bool.{cases_Bool, false≢true, and_from, or_right, or_left, and_parts}
-use Rattle.g1_after.proofs.CoveredMoved.{any_from_in}
 use Rattle.g1_after.proofs.ObjectsLeft.{IsLeft, heap_is_left, left_cases, object_left, with_parts}
 use Rattle.g1_after.proofs.UnnamedRegions.{unnamed_humongous, unnamed_region, unnamed_there, word_with_header}
 use Rattle.g1_after.specs.Freed.{NothingIntoUnnamed, RefsLeft, heap_left}
@@ -18,6 +17,7 @@ use Rattle.g1_words.specs.References.{Ref, named, refs, refs_at, root_targets}
 use Rattle.g1_words.specs.Survivors.{in_set}
 use Rattle.g1_words.specs.declared.object.Object.{Object}
 use Rattle.g1_words.specs.declared.region.Region.{Region}
+use Rattle.g1_words.proofs.Lists.{any_from_in}
 
 module _ (h : Heap) (valid : IsBuilt h) where
   -- an object has its references within its words

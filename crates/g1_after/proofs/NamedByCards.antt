@@ -5,8 +5,8 @@ use Rattle.std.specs.List.{list_any}
 use Rattle.std.proofs.lemmas.Bool.{and_from, and_parts, cases_lt, false_from_ne_true, false≢true, le-leb, leb-true, lt-ltb, ltb-true, ne_eqb, not-true, or_cases}
 use Rattle.std.proofs.lemmas.Nat.{div-mul-add}
 use Rattle.std.proofs.Math.Nat.{add-mul, mul-le-mul_right}
-use Rattle.g1_after.proofs.CoveredMoved.{any_from_in, covered_each, exact_by}
-use Rattle.g1_after.proofs.RefsOf.{exact_parts, region_of_slot, same_test, slot_of}
+use Rattle.g1_after.proofs.CoveredMoved.{covered_each, exact_by}
+use Rattle.g1_after.proofs.RefsOf.{exact_parts, region_of_slot, slot_of}
 use Rattle.g1_after.specs.Freed.{NamedByCards}
 use Rattle.g1_after.specs.Unnamed.{has_word, is_named, lies_in}
 use Rattle.g1_image.specs.Cards.{Covered, is_exact, leads_into}
@@ -19,6 +19,8 @@ use Rattle.g1_words.specs.Lists.{has}
 use Rattle.g1_words.specs.References.{Ref, refs, root_targets}
 use Rattle.g1_words.specs.declared.object.Object.{Object}
 use Rattle.g1_words.specs.declared.region.Kind.TheVariants.{Continuation, HumongousFirst, Ordinary}
+use Rattle.g1_words.proofs.Lists.{any_from_in}
+use Rattle.g1_words.proofs.Logic.{same_test}
 
 -- an object lies in the region of each of its words
 lies_there : (h : Heap) → 0 < h.geometry.w → (o : Object) (p : ℕ) → o.at ≤ p → p < o.at + o.size → lies_in h (region_of h p) o ≡ true

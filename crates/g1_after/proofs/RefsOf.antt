@@ -1,5 +1,5 @@
 -- A reference is a slot of an object that names another, and each such slot is a reference.
-use Rattle.std.proofs.Common.{◌≡◌, ℕ, suc, ◌+◌, ◌-◌, ◌<◌, ◌≤◌, inl, Bool, true, false, ◌&&◌, not, flat_map, refl, sym, ◌∙◌, ap, subst, arith, eqb, eqb-true}
+use Rattle.std.proofs.Common.{◌≡◌, ℕ, suc, ◌+◌, ◌-◌, ◌<◌, ◌≤◌, inl, true, false, ◌&&◌, not, flat_map, refl, sym, ◌∙◌, ap, subst, arith, eqb, eqb-true}
 use Rattle.std.proofs.lemmas.Bool.{and_parts, not-true}
 use Rattle.g1_after.proofs.RulesMoved.{named_suc}
 use Rattle.g1_image.specs.Cards.{leads_into}
@@ -13,13 +13,6 @@ use Rattle.g1_words.proofs.Standing.{card_positive}
 use Rattle.g1_words.specs.Heap.{Heap, card_of, objects, region_of, slots, word}
 use Rattle.g1_words.specs.References.{Ref, named, refs, refs_at}
 use Rattle.g1_words.specs.declared.object.Object.{Object}
-
--- two tests that imply one another are the same
-pub same_test : (a b : Bool) → (a ≡ true → b ≡ true) → (b ≡ true → a ≡ true) → a ≡ b
-same_test true true f g = refl
-same_test false false f g = refl
-same_test true false f g = sym (f refl)
-same_test false true f g = g refl
 
 -- the reference is slot number m of one of the heap's objects
 pub record SlotOf (h : Heap) (e : Ref) : Type 0 where

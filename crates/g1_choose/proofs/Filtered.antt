@@ -1,21 +1,18 @@
 -- Numbers kept by a test, gathered one by one.
-use Rattle.std.proofs.Common.{◌≡◌, ℕ, zero, suc, ◌+◌, Bool, true, false, cond, List, [], ◌∷◌, ◌++◌, map, filter, IsTrue, sym, ◌∙◌, ap, arith}
+use Rattle.std.proofs.Common.{◌≡◌, ℕ, suc, ◌+◌, Bool, true, false, cond, List, [], ◌∷◌, ◌++◌, map, filter, IsTrue, sym, ◌∙◌, ap, arith}
 use Rattle.std.specs.List.{range_with_len}
 use Rattle.std.proofs.lemmas.List.{map-append, append-nil}
 use Rattle.std.proofs.lemmas.List.Elements.{filter-append}
 use Rattle.std.proofs.lemmas.Bool.{false_from_ne_true}
 use Rattle.g1_choose.specs.declared.candidate.Candidate.{Candidate}
-
-range_more : (a n : ℕ) → range_with_len a (suc n) ≡ range_with_len a n ++ (a + n) ∷ []
-range_more a zero = ap (λ x. x ∷ []) (omega arith)
-range_more a (suc n) = ap (λ t. a ∷ t) (range_more (a + 1) n ∙ ap (λ x. range_with_len (a + 1) n ++ x ∷ []) (omega arith))
+use Rattle.g1_words.proofs.Lists.{range_suc}
 
 filter_range-more : (p : ℕ → Bool) (n : ℕ) (b : Bool) → p n ≡ b → filter p (range_with_len 0 (n + 1)) ≡ filter p (range_with_len 0 n) ++ cond b (n ∷ []) []
 filter_range-more p n b e =
     let m : n + 1 ≡ suc n = omega arith in
     let z : 0 + n ≡ n = omega arith in
     ap (λ k. filter p (range_with_len 0 k)) m
-    ∙ ap (filter p) (range_more 0 n ∙ ap (λ x. range_with_len 0 n ++ x ∷ []) z)
+    ∙ ap (filter p) (range_suc 0 n ∙ ap (λ x. range_with_len 0 n ++ x ∷ []) z)
     ∙ filter-append p (range_with_len 0 n) (n ∷ [])
     ∙ ap (λ b. filter p (range_with_len 0 n) ++ cond b (n ∷ []) []) e
 

@@ -2,7 +2,7 @@
 use Rattle.std.proofs.Common.{◌≡◌, ◌≢◌, ℕ, zero, suc, ◌+◌, ◌<◌, ◌≤◌, ◌⊎◌, inl, inr, Bool, true, false, List, [], ◌∷◌, ◌++◌, take, length, get_or, Contains, IsTrue, IsFalse, refl, sym, ◌∙◌}
 use Rattle.std.proofs.Common.{ap, subst, arith, get_or-set_same, get_or-set_other}
 use Rattle.std.specs.Prelude.{◌↔◌, slice_index, slice_index_or, slice_set}
-use Rattle.std.proofs.lemmas.Bool.{cases_order, cases_lt}
+use Rattle.std.proofs.lemmas.Bool.{cases_order, cases_lt, cases_eq}
 use Rattle.std.proofs.lemmas.List.{take_more, get_or_default, get_or_past}
 use Rattle.std.proofs.lemmas.List.Elements.{Contains-push, Contains-push_cases, Contains-append_left}
 use Rattle.g1_words.specs.declared.region.Kind.{Kind}
@@ -30,19 +30,13 @@ marked_at marks list r q lt m (inr ne) =
       (λ k. subst IsTrue (sym other) (elim (Contains-push_cases list r q k) [ inl i ↦ m.1 i | inr e ↦ absurd (ne e) ])),
     )
 
-same_or_not : (r q : ℕ) → (r ≡ q) ⊎ (r ≢ q)
-same_or_not r q = elim (cases_order r q) [
-  | inl e ↦ inl e
-  | inr o ↦ elim o [ inl lt ↦ inr (λ e. omega arith) | inr gt ↦ inr (λ e. omega arith) ]
-]
-
 -- the next region of the list is marked too
 pub marked_more : (n i : ℕ) (marks : List Bool) (list : List ℕ) → length marks ≡ n → i < length list → slice_index list i < n
     → AreMarked n marks (take i list) → AreMarked n (slice_set marks (slice_index list i) true) (take (i + 1) list)
 marked_more n i marks list count len lt m q below =
     let r : ℕ = slice_index list i in
     subst (λ l. IsTrue (slice_index_or (slice_set marks r true) q false) ↔ Contains l q) (sym (take_more list i 0 len))
-    (marked_at marks (take i list) r q (omega arith) (m q below) (same_or_not r q))
+    (marked_at marks (take i list) r q (omega arith) (m q below) (cases_eq r q))
 
 pub both : {b : Bool} → IsTrue b → IsFalse b → ⊥
 both t f = let clash : true ≡ false = sym t ∙ f in cc
@@ -56,7 +50,7 @@ pub good_more : (h : Heap) (list : List ℕ) (i : ℕ) → ((j : ℕ) → j < i 
     kind h (slice_index list i) ≡ Ordinary → IsFalse (pinned h (slice_index list i))
     → (Contains (take i list) (slice_index list i) → ⊥) → (j : ℕ) → j < i + 1 → IsBadAt h list j → ⊥
 good_more h list i before lt ordinary unpinned new j below bad =
-    elim (same_or_not j i) [
+    elim (cases_eq j i) [
       | inl e ↦ elim (subst (IsBadAt h list) e bad) [
         | inl past ↦ omega arith
         | inr b ↦ elim b [ inl other ↦ other ordinary | inr c ↦ elim c [ inl pin ↦ both pin unpinned | inr again ↦ new again ] ]
@@ -115,7 +109,7 @@ ordinary_or_not Continuation = inr (λ e. cc)
 
 in_or_not : (xs : List ℕ) (r : ℕ) → In xs r ⊎ (In xs r → ⊥)
 in_or_not [] r = inr (λ i. i)
-in_or_not (x ∷ xs) r = elim (same_or_not x r) [
+in_or_not (x ∷ xs) r = elim (cases_eq x r) [
   | inl e ↦ inl (inl e)
   | inr ne ↦ elim (in_or_not xs r) [ inl i ↦ inl (inr i) | inr no_more ↦ inr (λ i. elim i [ inl e ↦ ne e | inr k ↦ no_more k ]) ]
 ]
@@ -150,7 +144,7 @@ good_or_first h list (suc n) le =
       | inr first ↦ inr first
       | inl good ↦ elim (bad_or_good h list n) [
         | inl bad ↦ inr (n, record { within = omega arith; bad = bad; before = good })
-        | inr fine ↦ inl (λ i lt bad. elim (same_or_not i n) [
+        | inr fine ↦ inl (λ i lt bad. elim (cases_eq i n) [
           | inl e ↦ fine (subst (IsBadAt h list) e bad)
           | inr ne ↦ good i (elim (cases_order i n) [ inl e ↦ absurd (ne e) | inr o ↦ elim o [ inl l ↦ l | inr g ↦ absurd (omega arith) ] ]) bad
         ])

@@ -9,11 +9,12 @@ use Rattle.g1_words.specs.Heap.{Heap, kind, pinned, regions, is_ordinary}
 use Rattle.g1_words.specs.Lists.{has}
 use Rattle.g1_words.proofs.Members.{In, In-from_contains, Contains-from_in, In-filter, filter_member, has_from_in, in_from_has}
 use Rattle.g1_words.proofs.Ordered.{Ordered, Ordered-from_pairs, pairs_from_ordered, same_order}
+use Rattle.g1_words.proofs.Indices.{taken_in}
 use Rattle.g1_choose.specs.declared.parameters.Cost.{Cost}
 use Rattle.g1_choose.specs.Choice.{cost_of, garbage, is_candidate, candidates, comes_before, pause_cost, IsOrder, IsLongest, IsChosen}
 use Rattle.g1_choose.proofs.Ratios.{before, is_before-true, before_chain, one_of_two}
 use Rattle.g1_choose.proofs.Insertion.{sorted, sorted_moves, sorted_ordered}
-use Rattle.g1_choose.proofs.Rising.{rising_is, In-take_all, comes_before-one_way, order_apart, order_within}
+use Rattle.g1_choose.proofs.Rising.{rising_is, comes_before-one_way, order_apart, order_within}
 use Rattle.g1_choose.proofs.Sorting.{apart_by_number}
 
 -- what comes before one of the first is one of the first
@@ -123,7 +124,7 @@ module _ (c : Cost) (h : Heap) (remembered : List (List ℕ)) (lives : List ℕ)
       in_from_has (take a.taken a.order) r (filter_member (has (take a.taken a.order)) (regions h) r i).1
 
   pub only_candidates : (d budget : ℕ) (set : List ℕ) (r : ℕ) → IsChosen c h remembered lives d budget set → Contains set r → Candidates r
-  only_candidates d budget set r a k = (a.is_order.all r).0 (Contains-from_in a.order r (In-take_all a.taken a.order r (set_member d budget set r a k)))
+  only_candidates d budget set r a k = (a.is_order.all r).0 (Contains-from_in a.order r (taken_in a.taken a.order r (set_member d budget set r a k)))
 
   pub none_skipped : (d budget : ℕ) (set : List ℕ) (r q : ℕ) → IsChosen c h remembered lives d budget set → Candidates r → First r q → Contains set q → Contains set r
   none_skipped d budget set r q a k b t =

@@ -1,6 +1,6 @@
 -- The order by efficiency, on numbers: a region has a cost, garbage and a number.
 use Rattle.std.proofs.Common.{◌≡◌, ◌≢◌, ℕ, ◌*◌, ◌<◌, ◌≤◌, ◌⊎◌, inl, inr, Bool, true, false, ◌&&◌, ◌||◌, refl, sym, arith, ltb, eqb, ltb-true, lt-ltb, eqb-true, eq-eqb, le_antisymm}
-use Rattle.std.proofs.lemmas.Bool.{cases_order, false_from_ne_true, and_parts, or_cases}
+use Rattle.std.proofs.lemmas.Bool.{cases_order, false_from_ne_true, and_parts, or_cases, both_ways}
 use Rattle.std.proofs.Math.Nat.{mul-le-mul_right, mul-lt-mul_of_pos_right, le_of_mul-le-mul_right, lt_of_mul-lt-mul_right}
 
 -- the first gives more garbage for its cost; of equals it has the lower number
@@ -28,12 +28,9 @@ is_before-true a g r b k q (inr both) =
     rw (eq-eqb (a * k) (b * g) both.0, lt-ltb r q both.1)
     (elim (ltb (a * k) (b * g)) as (λ t. (t || true) ≡ true) [ true ↦ refl | false ↦ refl ])
 
-not_both : (t : Bool) → t ≡ true → t ≡ false → ⊥
-not_both t e f = cc
-
 pub not_before : (a g r b k q : ℕ) → is_before a g r b k q ≡ false → NotBefore a g r b k q
 not_before a g r b k q f =
-    let n : Before a g r b k q → ⊥ = λ t. not_both (is_before a g r b k q) (is_before-true a g r b k q t) f in
+    let n : Before a g r b k q → ⊥ = λ t. both_ways (is_before a g r b k q) f (is_before-true a g r b k q t) in
     elim (cases_order (a * k) (b * g)) [
       | inl e ↦ elim (cases_order r q) [
         | inl s ↦ inr (e, omega arith)

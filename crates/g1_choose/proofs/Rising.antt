@@ -9,6 +9,7 @@ use Rattle.g1_words.specs.Lists.{has}
 use Rattle.g1_words.proofs.Members.{In, In-from_contains, Contains-from_in, In-filter, filter_member, has_from_in, in_from_has}
 use Rattle.g1_words.proofs.Ordered.{Ordered, Ordered-from_pairs, pairs_from_ordered, same_order}
 use Rattle.g1_words.proofs.Rising.{Ordered-filter, Ordered-range}
+use Rattle.g1_words.proofs.Indices.{taken_in}
 use Rattle.g1_choose.specs.declared.parameters.Cost.{Cost}
 use Rattle.g1_choose.specs.Choice.{cost_of, garbage, candidates, is_candidate, comes_before, IsOrder}
 use Rattle.g1_choose.proofs.Ratios.{before, one_way}
@@ -39,16 +40,10 @@ risen h xs ys p s apart within =
       | inr o ↦ elim o [ inl l ↦ l | inr g ↦ absurd (omega arith) ]
     ]
 
-pub In-take_all : {A : Type 0} (m : ℕ) (xs : List A) (x : A) → In (take m xs) x → In xs x
-In-take_all zero xs x i = absurd i
-In-take_all (suc m) [] x i = absurd i
-In-take_all (suc m) (y ∷ xs) x (inl e) = inl e
-In-take_all (suc m) (y ∷ xs) x (inr i) = inr (In-take_all m xs x i)
-
 pub Ordered-take : {A : Type 0} (R : A → A → Type 0) (m : ℕ) (xs : List A) → Ordered R xs → Ordered R (take m xs)
 Ordered-take R zero xs o = tt
 Ordered-take R (suc m) [] o = tt
-Ordered-take R (suc m) (x ∷ xs) o = ((λ y i. o.0 y (In-take_all m xs y i)), Ordered-take R m xs o.1)
+Ordered-take R (suc m) (x ∷ xs) o = ((λ y i. o.0 y (taken_in m xs y i)), Ordered-take R m xs o.1)
 
 module _ (c : Cost) (h : Heap) (remembered : List (List ℕ)) (lives : List ℕ) where
   -- of two regions one at most comes before the other
@@ -69,4 +64,4 @@ module _ (c : Cost) (h : Heap) (remembered : List (List ℕ)) (lives : List ℕ)
 
   pub order_within : (order : List ℕ) (m r : ℕ) → IsOrder c h remembered lives order → In (take m order) r → In (regions h) r
   order_within order m r o i =
-      (filter_member (is_candidate c h remembered lives) (regions h) r (In-from_contains (candidates c h remembered lives) r ((o.all r).0 (Contains-from_in order r (In-take_all m order r i))))).0
+      (filter_member (is_candidate c h remembered lives) (regions h) r (In-from_contains (candidates c h remembered lives) r ((o.all r).0 (Contains-from_in order r (taken_in m order r i))))).0

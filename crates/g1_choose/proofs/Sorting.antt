@@ -11,9 +11,9 @@ use Rattle.std.proofs.lemmas.Map.Keys.{IsDistinct-IsPermutation}
 use Rattle.std.proofs.lemmas.Map.Made.{AllPairs-from_IsDistinct, IsDistinct-from_AllPairs}
 use Rattle.std.proofs.lemmas.Bool.{false_from_ne_true}
 use Rattle.g1_words.specs.Heap.{Heap}
-use Rattle.g1_words.proofs.Members.{In, Contains-from_in}
 use Rattle.g1_words.proofs.Ordered.{Ordered, Ordered-from_pairs, pairs_from_ordered}
 use Rattle.g1_words.proofs.Rising.{Ordered-filter, Ordered-map, Ordered-range}
+use Rattle.g1_words.proofs.Lists.{all_in}
 use Rattle.g1_choose.specs.declared.candidate.Candidate.{Candidate}
 use Rattle.g1_choose.specs.declared.parameters.Cost.{Cost}
 use Rattle.g1_choose.specs.Choice.{is_candidate, candidates, comes_before}
@@ -45,9 +45,6 @@ strictly xs s apart i j d lt len =
       | inl b ↦ is_before-true x.cost x.garbage x.region y.cost y.garbage y.region b
       | inr b ↦ let t = is_before-true y.cost y.garbage y.region x.cost x.garbage x.region b in absurd (cc (t, back))
     ]
-
-all_in : {A : Type 0} (P : A → Type 0) (xs : List A) (x : A) → All P xs → In xs x → P x
-all_in P xs x all i = let k = Contains-from_in xs x i in subst P k.2 (all k.0 x k.1)
 
 -- numbers kept by a test stand apart
 pub apart_by_number : (p : ℕ → Bool) (n : ℕ) → AllPairs (λ r q. r ≢ q) (filter p (range_with_len 0 n))

@@ -1,7 +1,7 @@
 -- The history of a table, and what each step adds to it.
-use Rattle.std.proofs.Common.{◌≡◌, ◌≢◌, ℕ, zero, suc, ◌+◌, ◌<◌, ◌≤◌, Bool, cond, ◌&&◌, eqb, ltb, min, List, [], ◌∷◌, ◌++◌, length, get_or, set, replicate, sym, refl, ap, ◌∙◌, subst}
+use Rattle.std.proofs.Common.{◌≡◌, ◌≢◌, ℕ, zero, suc, ◌+◌, ◌<◌, ◌≤◌, Bool, cond, ◌&&◌, eqb, ltb, min, List, [], ◌∷◌, ◌++◌, length, get_or, set, sym, refl, ap, ◌∙◌, subst}
 use Rattle.std.proofs.Common.{⊎_elim, arith, eq-eqb, ne_eqb, length-set, get_or-set_same, get_or-set_other}
-use Rattle.std.proofs.lemmas.List.{length-replicate, map-append, append-nil, append_assoc}
+use Rattle.std.proofs.lemmas.List.{length-replicate, map-append, append-nil, append_assoc, get_or-replicate}
 use mathlib.Core.Logic.{dite}
 use mathlib.Core.Option.{some, some-injective, some-ne-none}
 use native.Mathlib.Decide.{ℕ_discrete}
@@ -72,11 +72,6 @@ pub record IsTold (n : ℕ) (words : List ℕ) (hands : List Hand) (log : Histor
   pub least : (p : ℕ) → p < n → get_or words p 0 ≡ least_in p log
   pub all : (p r : ℕ) → hands_total (λ v. times_in p r (bids v.offers)) hands ≡ times_in p r log
 
-get_or_replicate : (n p : ℕ) → p < n → get_or (replicate n empty) p 0 ≡ empty
-get_or_replicate zero p h = absurd (omega arith)
-get_or_replicate (suc n) zero h = refl
-get_or_replicate (suc n) (suc p) h = get_or_replicate n p (omega arith)
-
 -- a hand that changes and has the same offers
 same_made : (hands : List Hand) (k : ℕ) (v w : Hand) (p r : ℕ) → get_elem? hands k ≡ some v → w.offers ≡ v.offers
     → hands_total (λ u. times_in p r (bids u.offers)) (set hands k w) ≡ hands_total (λ u. times_in p r (bids u.offers)) hands
@@ -114,7 +109,7 @@ still_told : (n : ℕ) (words : List ℕ) (hands after : List Hand) (log : Histo
 still_told n words hands after log told same = record { long = told.long; least = told.least; all = (λ p r. same p r ∙ told.all p r) }
 
 pub leads_told : (n : ℕ) (words : List ℕ) (hands : List Hand) (log : History) → Leads n words hands log → IsTold n words hands log
-leads_told n _ _ _ begin = record { long = length-replicate n empty; least = (λ p lt. get_or_replicate n p lt); all = (λ p r. refl) }
+leads_told n _ _ _ begin = record { long = length-replicate n empty; least = (λ p lt. get_or-replicate n p empty 0 lt); all = (λ p r. refl) }
 leads_told n _ _ _ (place_offer words hands log k p r v before at some_share place small) = offer_told n words hands log k p r v (leads_told n words hands log before) at place
 leads_told n _ _ _ (see words hands log k p v before at some_share place) =
     still_told n words hands (set hands k (after_sight v p (get_or words p 0))) log (leads_told n words hands log before) (λ q r. same_made hands k v (after_sight v p (get_or words p 0)) q r at refl)

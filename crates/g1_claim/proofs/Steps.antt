@@ -1,7 +1,7 @@
 -- Each step of a claim table keeps its rule.
 use Rattle.std.proofs.Common.{◌≡◌, ◌≢◌, ℕ, zero, suc, ◌+◌, ◌<◌, ◌≤◌, Bool, true, false, cond, ◌&&◌, eqb, ltb, min, ◌^◌, List, [], ◌∷◌, ◌++◌, length, get_or, set, sym, refl, ap, ◌∙◌, subst}
 use Rattle.std.proofs.Common.{⊎_elim, inl, inr, ◌⊎◌, arith, eq-eqb, ne_eqb, lt-ltb, le-ltb, length-set, get_or-set_same, get_or-set_other, replicate}
-use Rattle.std.proofs.lemmas.List.{length-replicate, map-append}
+use Rattle.std.proofs.lemmas.List.{length-replicate, map-append, get_or-replicate}
 use mathlib.Core.Logic.{dite}
 use mathlib.Core.Option.{none, some, some-injective, some-ne-none}
 use native.Mathlib.Decide.{ℕ_discrete, dec_lt}
@@ -282,11 +282,6 @@ module _ (words : List ℕ) (vs : List Hand) (id : ℕ) (v : Hand) (other : ℕ)
 
 -- the table at the start
 
-get_or_replicate : (n p : ℕ) → p < n → get_or (replicate n empty) p 0 ≡ empty
-get_or_replicate zero p h = absurd (omega arith)
-get_or_replicate (suc n) zero h = refl
-get_or_replicate (suc n) (suc p) h = get_or_replicate n p (omega arith)
-
 only : (F : Hand → Type 0) (one : Hand) → F one → AllAt F (one ∷ [])
 only F one f zero u e = subst F (some-injective one u e) f
 only F one f (suc k) u e = absurd (some-ne-none u (sym e))
@@ -294,7 +289,7 @@ only F one f (suc k) u e = absurd (some-ne-none u (sym e))
 pub begins : (words : List ℕ) (n : ℕ) → words ≡ replicate n empty → Claiming words (hand 64 [] [] [] ∷ [])
 begins words n is = let one : Hand = hand 64 [] [] [] in
     let start : (p : ℕ) → p < length words → get_or words p 0 ≡ empty = λ p lt. ap (λ (l : List ℕ). get_or l p 0) is
-    ∙ get_or_replicate n p (let a : length words ≡ n = ap length is ∙ length-replicate n empty in omega arith) in record {
+    ∙ get_or-replicate n p empty 0 (let a : length words ≡ n = ap length is ∙ length-replicate n empty in omega arith) in record {
       shares = refl;
       idle = only Idle one (λ none_left. (refl, refl));
       words_least = λ p lt. let e = start p lt in (e, inl (e, refl));

@@ -3,7 +3,7 @@ use Rattle.std.proofs.Common.{◌≡◌, ◌≢◌, ◌∙◌, ◌<◌, ◌≤�
 use Rattle.std.specs.Prelude.{Result, Ok, Err, IfErr, unwrap_or, flat_map}
 use Rattle.std.specs.Borrow.{Bor}
 use Rattle.std.specs.List.{All, AllZip, IsDistinct, concat, join_with_byte, range_with_len}
-use Rattle.std.specs.Str.Parse.{AllDigits, digits_value}
+use Rattle.std.specs.Str.Parse.{AllDigits}
 use Rattle.std.proofs.Math.ListN.{get_or-append}
 use Rattle.std.proofs.Math.Seq.{get_or-append_seam}
 use Rattle.std.proofs.lemmas.Bool.{false≢true}
@@ -11,7 +11,7 @@ use Rattle.std.proofs.lemmas.List.{append-nil, append_assoc, length-append, take
 use Rattle.std.proofs.lemmas.List.Folds.{Any-from_list_any}
 use Rattle.std.proofs.lemmas.List.Splits.{slice_split_none, slice_split_at, length-slice_split, join_with_byte-slice_split}
 use Rattle.std.proofs.lemmas.Map.Keys.{apart_from_distinct, IsDistinct-from_apart}
-use Rattle.std.proofs.lemmas.Str.Parse.{IsNumeralModel, not_in_digits, numerals_by_value, tells_digits}
+use Rattle.std.proofs.lemmas.Str.Parse.{not_in_digits}
 use Rattle.std.proofs.lemmas.Str.Pattern.{IsSplitOnceResult, split_parts}
 use Rattle.g1_words.specs.Lists.{has}
 use Rattle.clap.specs.Words.{Text}
@@ -19,6 +19,7 @@ use Rattle.g1_command.specs.declared.values.Misuse.{Misuse}
 use Rattle.g1_command.specs.declared.values.Misuse.TheVariants as misuse
 use Rattle.g1_command.specs.Values.{Because, IsBelow}
 use Rattle.g1_command.specs.Lists.{HasTwice, IsRegionOfImage, AreBetween, AreRegionsOfPart, AreRegionsIn, AddsParts, AddNone, ends_of, parts_of, rising}
+use Rattle.g1_command.proofs.Numerals.{by_value}
 
 -- a text without a dash is its own only end
 no_dash : (bs : Text) → ((i : ℕ) → i < length bs → get_or bs i 0 ≢ 45) → All (λ b. eqb b 45 ≡ false) bs
@@ -28,9 +29,6 @@ no_dash bs lacks k d lt = ne_eqb _ 45 (λ e. lacks k lt (same bs k d lt ∙ e))
     same [] k d lt = absurd (omega (arith, lt))
     same (x ∷ xs) zero d lt = refl
     same (x ∷ xs) (suc k) d lt = same xs k d (omega (arith, lt))
-
-by_value : IsNumeralModel (AllDigits 10) (digits_value 10)
-by_value = numerals_by_value (AllDigits 10) tells_digits
 
 digits_alone : (ds : Text) → AllDigits 10 ds → ends_of ds ≡ ds ∷ []
 digits_alone ds h = slice_split_none (λ b. eqb b 45) ds (no_dash ds (not_in_digits by_value ds 45 h (λ q. let low = q.0 in omega (arith, low))))

@@ -6,7 +6,7 @@ use Rattle.std.specs.Str.Parse.{AllDigits, IsNumeral, ParsesUnsigned, digits_val
 use Rattle.std.proofs.lemmas.Str.Parse.{IsNumeralModel, numerals_by_value, tells_digits, parse_plain, not_in_digits}
 use Rattle.g1_command.specs.Values.{IsBelow, IsNumber}
 
-by_value : IsNumeralModel (AllDigits 10) (digits_value 10)
+pub by_value : IsNumeralModel (AllDigits 10) (digits_value 10)
 by_value = numerals_by_value (AllDigits 10) tells_digits
 
 -- digits have no plus among them

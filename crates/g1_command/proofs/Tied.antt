@@ -1,14 +1,13 @@
 -- How the values of `--set` are tied to it.
-use Rattle.std.proofs.Common.{◌≡◌, ◌≢◌, ◌∙◌, ◌<◌, ◌≤◌, ◌+◌, ◌++◌, ◌&&◌, ℕ, zero, suc, List, [], ◌∷◌, length, get_or, take, drop, map, Bool, true, false, refl, sym, ap, subst, codes, arith}
-use Rattle.std.specs.Prelude.{IfOk, IfSome, OnOk, Option, Some, Result, Ok, Err}
-use Rattle.std.specs.List.{All, list_all}
-use Rattle.std.specs.Char.{is_ascii_digit}
+use Rattle.std.proofs.Common.{◌≡◌, ◌≢◌, ◌∙◌, ◌<◌, ◌≤◌, ◌+◌, ◌++◌, ◌&&◌, ℕ, List, [], ◌∷◌, length, get_or, drop, map, Bool, true, false, refl, sym, ap, subst, codes}
+use Rattle.std.specs.Prelude.{IfOk, OnOk, Result, Ok, Err}
+use Rattle.std.specs.List.{All}
 use Rattle.std.proofs.lemmas.List.{append-nil, append_assoc, drop_all, drop_more}
 use Rattle.std.proofs.lemmas.List.Elements.{All-nil, All-cons}
 use Rattle.clap.specs.Words.{Text}
 use Rattle.g1_command.specs.declared.lists.Follows.{Follows}
 use Rattle.g1_command.specs.declared.lists.Follows.TheVariants.{Word, Region, File}
-use Rattle.g1_command.specs.Tied.{AddsTied, AreTied, GoOn, TiesWord, first_word, is_list, is_list_byte, set, tied_to_set}
+use Rattle.g1_command.specs.Tied.{AddsTied, AreTied, GoOn, TiesWord, first_word, is_list, set, tied_to_set}
 use Rattle.g1_command.specs.Tied.AreTied.{none, values, other, files}
 
 -- no words are left
@@ -86,6 +85,3 @@ one_more words tied new follows then i word next lt is comes (added, pushed, tie
 
 pub all_tied : (words tied : List Text) (follows : Follows) (i : ℕ) → length words ≤ i → SoFar words tied follows (drop i words) → AreTied words tied
 all_tied words tied follows i le so_far = subst (AreTied words) (append-nil tied) (so_far [] (subst (λ left. GoOn follows left []) (sym (drop_all i words le)) (at_end follows)))
-
-pub some_then : {X : Type 0} (P : X → Type 0) (o : Option X) (x : X) → o ≡ Some x → IfSome o P → P x
-some_then P o x e h = subst (λ o. IfSome o P) e h

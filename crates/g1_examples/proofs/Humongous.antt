@@ -8,10 +8,11 @@ use Rattle.g1_words.specs.Heap.{top, start, word, objects, object_at}
 use Rattle.g1_words.specs.Valid.{MayBePinned, IsObject, IsFirst, HasObject, IsSlotOf, IsReference, IsWholeRun, IsShaped, IsShapedBy, IsValid}
 use Rattle.g1_words.proofs.Members.{In, In-from_contains}
 use Rattle.g1_words.proofs.Computed.{has_contains}
+use Rattle.g1_words.proofs.Lists.{all_from_in}
 use Rattle.g1_examples.specs.Examples.{humongous_owner}
 use Rattle.g1_examples.proofs.Sorted.{all_members}
 use Rattle.g1_examples.proofs.Closed.{each_member, each_below}
-use Rattle.g1_examples.proofs.Inhabited.{All-from_in, or_else}
+use Rattle.g1_examples.proofs.Inhabited.{or_else}
 
 object0 : IsObject humongous_owner.words (object_at humongous_owner 0)
 object0 = record { header = refl; refs_fit = lit< tt; size_fits = lit< tt }
@@ -43,7 +44,7 @@ shape3 = (
   lit≤ tt,
   object_at humongous_owner 48 ∷ [],
   (refl, object48, refl),
-  All-from_in (λ (o : Object). 4 * o.size ≤ 3 * 16)
+  all_from_in (λ (o : Object). 4 * o.size ≤ 3 * 16)
       (object_at humongous_owner 48 ∷ []) (each_member (λ (o : Object). 4 * o.size ≤ 3 * 16) (object_at humongous_owner 48 ∷ []) (lit≤ tt, tt)),
 )
 
@@ -129,13 +130,13 @@ humongous_owner_is_valid = record {
     words_most = lit≤ tt;
   };
   word_count = refl;
-  word_fits = All-from_in (λ x. x < 2 ^ 64) humongous_owner.words (λ x i. ltb-true x (2 ^ 64) (all_members (λ x. ltb x (2 ^ 64)) humongous_owner.words refl x i));
+  word_fits = all_from_in (λ x. x < 2 ^ 64) humongous_owner.words (λ x i. ltb-true x (2 ^ 64) (all_members (λ x. ltb x (2 ^ 64)) humongous_owner.words refl x i));
   region_count = refl;
   root_count = lit≤ tt;
   shaped = shaped9;
   pins = λ r lt. pins9 r;
   zero_above = zero9;
-  roots = All-from_in (IsReference humongous_owner) (1 ∷ []) (each_member (IsReference humongous_owner) (1 ∷ []) (inr (object_at humongous_owner 0, has0, refl), tt));
+  roots = all_from_in (IsReference humongous_owner) (1 ∷ []) (each_member (IsReference humongous_owner) (1 ∷ []) (inr (object_at humongous_owner 0, has0, refl), tt));
   slots = slots9;
   current_in = tt;
 }

@@ -1,22 +1,18 @@
 -- A small image keeps all rules, so that the laws' premises are met by something.
-use Rattle.std.proofs.Common.{◌≡◌, ◌≢◌, ℕ, zero, suc, ◌+◌, ◌*◌, ◌^◌, ◌<◌, ◌≤◌, inl, inr, Bool, true, false, ◌||◌, List, [], ◌∷◌, slice_index_or, refl, sym, ap, subst, arith, lit<, lit≤, ltb}
+use Rattle.std.proofs.Common.{◌≡◌, ◌≢◌, ℕ, zero, suc, ◌+◌, ◌*◌, ◌^◌, ◌<◌, ◌≤◌, inl, inr, Bool, true, false, ◌||◌, [], ◌∷◌, refl, sym, ap, subst, arith, lit<, lit≤, ltb}
 use Rattle.std.proofs.Common.{eqb, eqb-true, ltb-true, le-ltb}
-use Rattle.std.specs.Prelude.{All}
 use Rattle.std.specs.List.{list_all, range_with_len}
-use Rattle.std.proofs.lemmas.List.{get_or_default}
 use Rattle.g1_words.specs.declared.object.Object.{Object}
 use Rattle.g1_words.specs.declared.region.Kind.TheVariants.{Ordinary}
 use Rattle.g1_words.specs.Heap.{top, start, word, objects, object_at}
 use Rattle.g1_words.specs.Valid.{MayBePinned, IsObject, HasObject, IsSlotOf, IsReference, IsShaped, IsShapedBy, IsValid}
 use Rattle.g1_words.proofs.Members.{In, In-from_contains}
 use Rattle.g1_words.proofs.Computed.{has_contains}
+use Rattle.g1_words.proofs.Lists.{all_from_in}
 use Rattle.g1_image.specs.Image.{IsUsedCard, IsRememberedSet, IsImage, remembered_of, region_of_card}
 use Rattle.g1_examples.specs.Examples.{dead_owner, dead_owner_image}
 use Rattle.g1_examples.proofs.Sorted.{all_members}
 use Rattle.g1_examples.proofs.Closed.{each_member, each_below}
-
-pub All-from_in : {A : Type 0} (P : A → Type 0) (xs : List A) → ((x : A) → In xs x → P x) → All P xs
-All-from_in P xs f k d lt = f (slice_index_or xs k d) (In-from_contains xs (slice_index_or xs k d) (k, lt, get_or_default xs k (slice_index_or xs k d) d lt))
 
 object0 : IsObject dead_owner.words (object_at dead_owner 0)
 object0 = record { header = refl; refs_fit = lit< tt; size_fits = lit< tt }
@@ -30,7 +26,7 @@ shape0 = (
   lit≤ tt,
   object_at dead_owner 0 ∷ [],
   (refl, object0, refl),
-  All-from_in (λ (o : Object). 4 * o.size ≤ 3 * 16)
+  all_from_in (λ (o : Object). 4 * o.size ≤ 3 * 16)
       (object_at dead_owner 0 ∷ []) (each_member (λ (o : Object). 4 * o.size ≤ 3 * 16) (object_at dead_owner 0 ∷ []) (lit≤ tt, tt)),
 )
 
@@ -40,7 +36,7 @@ shape1 = (
   lit≤ tt,
   object_at dead_owner 16 ∷ [],
   (refl, object16, refl),
-  All-from_in (λ (o : Object). 4 * o.size ≤ 3 * 16)
+  all_from_in (λ (o : Object). 4 * o.size ≤ 3 * 16)
       (object_at dead_owner 16 ∷ []) (each_member (λ (o : Object). 4 * o.size ≤ 3 * 16) (object_at dead_owner 16 ∷ []) (lit≤ tt, tt)),
 )
 
@@ -111,7 +107,7 @@ dead_owner_is_valid = record {
     words_most = lit≤ tt;
   };
   word_count = refl;
-  word_fits = All-from_in (λ x. x < 2 ^ 64) dead_owner.words (λ x i. ltb-true x (2 ^ 64) (all_members (λ x. ltb x (2 ^ 64)) dead_owner.words refl x i));
+  word_fits = all_from_in (λ x. x < 2 ^ 64) dead_owner.words (λ x i. ltb-true x (2 ^ 64) (all_members (λ x. ltb x (2 ^ 64)) dead_owner.words refl x i));
   region_count = refl;
   root_count = lit≤ tt;
   shaped = shaped5;
@@ -127,7 +123,7 @@ sets5 zero lt = record { rising = λ k lt. absurd (omega arith); elsewhere = λ 
 sets5 (suc zero) lt =
     record {
       rising = λ k lt. absurd (omega arith);
-      elsewhere = All-from_in (λ c. IsUsedCard dead_owner c × (region_of_card dead_owner c ≢ 1)) (0 ∷ [])
+      elsewhere = all_from_in (λ c. IsUsedCard dead_owner c × (region_of_card dead_owner c ≢ 1)) (0 ∷ [])
           (each_member (λ c. IsUsedCard dead_owner c × (region_of_card dead_owner c ≢ 1)) (0 ∷ []) ((record { in_heap = lit< tt; used = λ e. cc }, λ e. cc), tt));
       count = lit< tt;
       owner = λ lt. tt;

@@ -1,8 +1,7 @@
 -- The slots on some cards have those references of the slots outside a set that are looked for, if these all lie on them.
-use Rattle.std.proofs.Common.{◌≡◌, ◌<◌, ℕ, zero, suc, ◌*◌, ◌/◌, inl, Bool, true, false, not, cond, ◌&&◌, List, [], ◌∷◌, ◌++◌, map, filter, flat_map, Contains, arith, refl}
+use Rattle.std.proofs.Common.{◌≡◌, ◌<◌, ℕ, zero, suc, ◌*◌, ◌/◌, inl, Bool, true, false, not, cond, ◌&&◌, List, [], ◌∷◌, map, filter, flat_map, Contains, arith, refl}
 use Rattle.std.proofs.Common.{sym, ap, subst, ◌∙◌, eqb, eqb-true, eq-eqb}
 use Rattle.std.proofs.lemmas.Bool.{false≢true}
-use Rattle.std.proofs.lemmas.Grind.{flat_map-append}
 use Rattle.std.proofs.lemmas.List.Kept.{AllPairs-from_increasing}
 use Rattle.g1_words.specs.Heap.{Heap, word, card_of, objects}
 use Rattle.g1_words.specs.Lists.{has}
@@ -14,12 +13,12 @@ use Rattle.g1_words.proofs.Firsts.{filter_twice}
 use Rattle.g1_words.proofs.Members.{In, In-from_contains, Contains-from_in, In-map, In-flat_map, In-filter, filter_member, flat_map_cases, has_from_in, in_from_has}
 use Rattle.g1_words.proofs.Ordered.{Ordered, Ordered-from_pairs, same_order}
 use Rattle.g1_words.proofs.Rising.{Ordered-flat_map, Ordered-filter}
+use Rattle.g1_words.proofs.Lists.{flat_of_flat, flat_of_filter, all_from_in}
 use Rattle.g1_rem.specs.Slots.{all_slots, slots_on}
 use Rattle.g1_rem.specs.Starts.{card_count}
 use Rattle.g1_rem.proofs.Bare.{flat_twice}
 use Rattle.g1_rem.proofs.Rising.{Rises-increasing}
 use Rattle.g1_frontier.specs.Window.{AreCards, AreOutside}
-use Rattle.g1_frontier.proofs.Scopes.{all_from_in}
 use Rattle.g1_frontier.proofs.Seeds.{filter_flat, map_flat, flat_same, slots_ordered, apart}
 use Rattle.g1_explain.specs.declared.finder.Finder.TheVariants.{Card}
 use Rattle.g1_explain.specs.Finders.{Lead, lead, slot_leads}
@@ -27,16 +26,6 @@ use Rattle.g1_explain.specs.Searched.{card_leads}
 
 no_cards : (h : Heap) → AreCards h []
 no_cards h = record { rise = Rises-increasing 0 [] tt; below = all_from_in (λ x. x < card_count h) [] (λ x k. absurd k) }
-
-flat_of_flat : {A B C : Type 0} (f : B → List C) (g : A → List B) (xs : List A) → flat_map (λ x. flat_map f (g x)) xs ≡ flat_map f (flat_map g xs)
-flat_of_flat f g [] = refl
-flat_of_flat f g (x ∷ xs) = ap (λ l. flat_map f (g x) ++ l) (flat_of_flat f g xs) ∙ sym (flat_map-append f (g x) (flat_map g xs))
-
-pub flat_of_filter : {A B : Type 0} (f : A → List B) (p : A → Bool) (xs : List A) → flat_map f (filter p xs) ≡ flat_map (λ x. cond (p x) (f x) []) xs
-flat_of_filter f p [] = refl
-flat_of_filter {A} f p (x ∷ xs) =
-    let more : flat_map f (filter p xs) ≡ flat_map (λ x. cond (p x) (f x) []) xs = flat_of_filter f p xs in
-    elim (p x) as (λ b. flat_map f (cond b (x ∷ filter p xs) (filter p xs)) ≡ cond b (f x) [] ++ flat_map (λ x. cond (p x) (f x) []) xs) [ true ↦ ap (λ l. f x ++ l) more | false ↦ more ]
 
 module _ (h : Heap) (window cards : List ℕ) (to : ℕ → Bool) (valid : IsValid h) (rising : AreCards h cards) (outside : AreOutside h window cards)
     (there : (e : Ref) → Contains (refs h) e → to e.target ≡ true → in_set h window e.slot ≡ false → Contains cards (card_of h e.slot)) where

@@ -23,15 +23,15 @@ use Rattle.g1_words.proofs.Indices.{get_or-In}
 use Rattle.g1_words.proofs.Members.{In, In-from_contains, Contains-from_in, In-flat_map, In-filter, filter_member, flat_map_cases, has_from_in, in_from_has}
 use Rattle.g1_words.proofs.Rising.{told_ref}
 use Rattle.g1_words.proofs.Sound.{sound, object_in}
+use Rattle.g1_words.proofs.Lists.{filter_same_in, all_in, all_from_in}
+use Rattle.g1_words.proofs.Logic.{same_test}
 use Rattle.g1_image.specs.Image.{Image, card_in, region_of_card}
 use Rattle.g1_image.specs.Cards.{refined, is_refined, cards_where, IsTracked}
 use Rattle.g1_image.proofs.Covers.{card_region}
 use Rattle.g1_rem.specs.Starts.{card_count}
-use Rattle.g1_rem.proofs.EntryCards.{filter_same_in}
 use Rattle.g1_rem.proofs.Rising.{Rises-filter, Rises-range, Rises-increasing}
 use Rattle.g1_frontier.specs.Window.{AreCards, AreOutside, LeadIn}
 use Rattle.g1_frontier.proofs.Leading.{refined_leads_in}
-use Rattle.g1_frontier.proofs.Scopes.{all_in, all_from_in}
 use Rattle.g1_copy.proofs.UnnamedFirsts.{first_by_test}
 use Rattle.g1_explain.specs.declared.humongous.Keeper.{Keeper}
 use Rattle.g1_explain.specs.declared.humongous.Keeper.TheVariants.{NoObject, Nothing}
@@ -40,7 +40,7 @@ use Rattle.g1_explain.specs.Humongous.{run, run_end}
 use Rattle.g1_explain.specs.Keepers.{AreKept, leads_in, leads_at, leads_on, leads_by_cards, all_leads, leads_to, first_keeper, keeper_at, keeper_of, keepers_of, or_first, is_apart}
 use Rattle.g1_explain.specs.Searched.{AreObjects}
 use Rattle.g1_explain.proofs.CardLeads.{by_cards}
-use Rattle.g1_explain.proofs.Keepers.{kept_then, own_is, same_test}
+use Rattle.g1_explain.proofs.Keepers.{kept_then, own_is}
 use Rattle.g1_explain.proofs.LeadOrder.{root_tells, found_tells}
 
 turned : (a b : Bool) → (not a && not b) ≡ not (b || a)

@@ -3,14 +3,14 @@ use Rattle.std.proofs.Common.{◌≡◌, ℕ, ◌<◌, inl, inr, Bool, true, fal
 use Rattle.std.proofs.Common.{refl, sym, ◌∙◌, ap, subst, arith, append_assoc, append-nil, eqb, eqb-true, eq-eqb, lt-ltb, ltb-true, nat_lt}
 use Rattle.std.specs.Prelude.{if◌then◌else◌}
 use Rattle.std.proofs.lemmas.Bool.{false≢true, and_parts}
-use Rattle.std.proofs.lemmas.List.{length-map, length-append}
+use Rattle.std.proofs.lemmas.List.{length-map, length-append, map-append}
 use Rattle.std.proofs.lemmas.List.Elements.{filter-append}
 use Rattle.g1_words.specs.Lists.{has}
 use Rattle.g1_words.specs.Survivors.{firsts}
 use Rattle.g1_words.proofs.Members.{In, In-filter, filter_member, in_from_has}
 use Rattle.g1_words.proofs.Firsts.{Distinct, Distinct-firsts, Distinct-apart, In-firsts}
 use Rattle.g1_words.proofs.Indices.{get_or-In}
-use Rattle.g1_frontier.proofs.Seeds.{map_append}
+use Rattle.g1_words.proofs.Logic.{eqb_sym}
 use Rattle.g1_explain.specs.declared.finder.Finder.{Finder}
 use Rattle.g1_explain.specs.Finders.{Lead, first_leads}
 use Rattle.g1_explain.specs.Searched.{is_next, met}
@@ -20,15 +20,6 @@ targets_of ls = map (λ l. l.target) ls
 
 abbrev pub finders_of : List Lead → List Finder
 finders_of ls = map (λ l. l.finder) ls
-
-pub eqb_sym : (a b : ℕ) → eqb a b ≡ eqb b a
-eqb_sym a b = same (eqb a b) (eqb b a) refl refl
-  where
-    same : (c d : Bool) → eqb a b ≡ c → eqb b a ≡ d → eqb a b ≡ eqb b a
-    same true true e f = e ∙ sym f
-    same false false e f = e ∙ sym f
-    same true false e f = e ∙ sym (eq-eqb b a (sym (eqb-true a b e)))
-    same false true e f = eq-eqb a b (sym (eqb-true b a f)) ∙ sym f
 
 pub map_filter : (p : ℕ → Bool) (ls : List Lead) → targets_of (filter (λ l. p l.target) ls) ≡ filter p (targets_of ls)
 map_filter p [] = refl
@@ -120,7 +111,7 @@ module _ (found : List ℕ) where
           → (if is_next found (length (finders_of (first_leads past))) l.target then finders_of (first_leads past) ++ l.finder ∷ [] else finders_of (first_leads past)) ≡ finders_of (first_leads (past ++ l ∷ []))
       by true h =
           let p = prefix past (l ∷ rest) in
-          let whole : found ≡ targets_of (first_leads past) ++ targets_of p.0 = e ∙ ap targets_of p.1 ∙ map_append (λ (l : Lead). l.target) (first_leads past) p.0 in
+          let whole : found ≡ targets_of (first_leads past) ++ targets_of p.0 = e ∙ ap targets_of p.1 ∙ map-append (λ (l : Lead). l.target) (first_leads past) p.0 in
           let once : Distinct (targets_of (first_leads past) ++ targets_of p.0) =
           subst Distinct (sym (first_targets (past ++ l ∷ rest)) ∙ sym e ∙ whole) (Distinct-firsts (targets_of (past ++ l ∷ rest))) in
           let there : In (targets_of (first_leads past)) l.target =
@@ -137,14 +128,14 @@ module _ (found : List ℕ) where
           let snoc : first_leads (past ++ l ∷ []) ≡ first_leads past ++ l ∷ [] = first_snoc past l ∙ ap (λ b. first_leads past ++ cond b [] (l ∷ [])) h in
           let whole : found ≡ targets_of (first_leads past) ++ l.target ∷ targets_of p.0 =
           e ∙ ap (λ xs. targets_of (first_leads xs)) (sym (append_assoc past (l ∷ []) rest)) ∙ ap targets_of (p.1 ∙ ap (λ xs. xs ++ p.0) snoc ∙ append_assoc (first_leads past) (l ∷ []) p.0)
-          ∙ map_append (λ (l : Lead). l.target) (first_leads past) (l ∷ p.0) in
+          ∙ map-append (λ (l : Lead). l.target) (first_leads past) (l ∷ p.0) in
           let more : length (targets_of (first_leads past)) < length found =
           omega (arith, ap length whole, length-append (targets_of (first_leads past)) (l.target ∷ targets_of p.0)) in
           let at : slice_index found (length (finders_of (first_leads past))) ≡ l.target =
           ap (slice_index found) count ∙ ap (λ xs. slice_index xs (length (targets_of (first_leads past)))) whole ∙ at_end (targets_of (first_leads past)) l.target (targets_of p.0) in
           let next : is_next found (length (finders_of (first_leads past))) l.target ≡ true = next_true found (length (finders_of (first_leads past))) l.target (omega (arith, more, count)) at in
           ap (λ b. if b then finders_of (first_leads past) ++ l.finder ∷ [] else finders_of (first_leads past)) next
-          ∙ sym (ap finders_of snoc ∙ map_append (λ (l : Lead). l.finder) (first_leads past) (l ∷ []))
+          ∙ sym (ap finders_of snoc ∙ map-append (λ (l : Lead). l.finder) (first_leads past) (l ∷ []))
 
   -- what a search meets are the first ones
   pub met_is : (past rest : List Lead) → found ≡ targets_of (first_leads (past ++ rest)) → met found (finders_of (first_leads past)) rest ≡ finders_of (first_leads (past ++ rest))

@@ -1,7 +1,7 @@
 -- The route of an object by the first references is its first path.
 use Rattle.std.proofs.Common.{◌≡◌, ℕ, zero, suc, ◌+◌, ◌<◌, ◌≤◌, ◌⊎◌, inl, inr, true, false, List, [], ◌∷◌, ◌++◌, length, map, slice_index, refl, sym, ◌∙◌, ap, subst, arith}
 use Rattle.std.specs.List.{range_with_len}
-use Rattle.std.proofs.lemmas.List.{length_push, length-map}
+use Rattle.std.proofs.lemmas.List.{length_push, length-map, map-append}
 use Rattle.g1_words.specs.Heap.{Heap, word, object_at}
 use Rattle.g1_words.specs.References.{Ref, refs}
 use Rattle.g1_words.specs.Survivors.{in_set}
@@ -10,7 +10,6 @@ use Rattle.g1_words.proofs.Firsts.{Distinct, Distinct-firsts}
 use Rattle.g1_words.proofs.Indices.{get_or-In}
 use Rattle.g1_words.proofs.Members.{In, In-append_left, In-append_right, In-filter, In-flat_map}
 use Rattle.g1_words.proofs.Ordered.{Ordered}
-use Rattle.g1_frontier.proofs.Seeds.{map_append}
 use Rattle.g1_same.specs.Path.{Lower, Before}
 use Rattle.g1_same.proofs.Routes.{before_push, before_last}
 use Rattle.g1_explain.specs.declared.finder.Finder.{Finder}
@@ -123,7 +122,7 @@ module _ (h : Heap) (set found : List ℕ) (base : ℕ) (searched : found ≡ ta
   extend j legs lt r = leg j legs (omega (arith, lt, fs_count)) lt r
 
   codes_push : (legs : List Leg) (j : ℕ) → codes base (legs ++ leg_of j ∷ []) ≡ codes base legs ++ code base (at j) ∷ []
-  codes_push legs j = map_append (λ (l : Leg). code base l.finder) legs (leg_of j ∷ [])
+  codes_push legs j = map-append (λ (l : Leg). code base l.finder) legs (leg_of j ∷ [])
 
   pub earlier : (i j : ℕ) → i < j → j < length found → Earlier (at i) (at j)
   earlier i j lt le = places_in_order (first_leads (leads h set found)) (first_in_order (leads h set found) ordered) i j lt (omega (arith, le, count_is h set found searched))

@@ -17,6 +17,7 @@ use Rattle.g1_words.specs.Lists.{has}
 use Rattle.g1_words.proofs.Members.{In, In-from_contains, Contains-from_in, In-map, map_cases, In-filter, filter_member, In-flat_map, flat_map_cases, has_from_in, in_from_has}
 use Rattle.g1_words.proofs.Ordered.{Ordered, Ordered-from_pairs, pairs_from_ordered, same_order}
 use Rattle.g1_words.proofs.Rising.{Ordered-filter, Ordered-flat_map, Ordered-range}
+use Rattle.g1_words.proofs.Lists.{range_more}
 use Rattle.std.specs.Prelude.{min, decimal}
 use Rattle.std.proofs.lemmas.List.{length-map, map-append, take_more, append_assoc}
 use Rattle.std.proofs.lemmas.List.Concat.{flat_map-append}
@@ -26,7 +27,6 @@ use Rattle.g1_text.proofs.Printed.{take_all, further_words}
 use Rattle.g1_explain.specs.Cards.{number_words}
 use Rattle.g1_explain.specs.Remembered.{joined, gaining}
 use Rattle.g1_explain.proofs.Candidates.{get_items}
-use Rattle.g1_explain.proofs.Meets.{range_more}
 
 -- the cards that the set of a region gains, with its number
 abbrev pub pairs_of : List (List ℕ) → List (List ℕ) → ℕ → List (ℕ × ℕ)

@@ -4,12 +4,12 @@ use Rattle.std.specs.Prelude.{codes, decimal}
 use Rattle.std.specs.List.{range_with_len}
 use Rattle.std.proofs.lemmas.List.{flat_map_more}
 use Rattle.g1_words.specs.Heap.{Heap}
+use Rattle.g1_words.proofs.Lists.{range_more}
 use Rattle.g1_text.specs.Lines.{further, text_of, line_text}
 use Rattle.g1_text.proofs.Printed.{further_words}
 use Rattle.g1_explain.specs.declared.finder.Finder.{Finder}
 use Rattle.g1_explain.specs.Lines.{finder_words}
 use Rattle.g1_explain.specs.Humongous.{run_end, kept_line, freed_line}
-use Rattle.g1_explain.proofs.Meets.{range_more}
 
 pub kept_end : (at : ℕ) (f : Finder) (old mid new : List ℕ) → mid ≡ old ++ (codes "humongous " ++ (decimal at ++ codes " kept")) → new ≡ mid ++ further (codes "by" ∷ finder_words f) → new ≡ old ++ text_of (kept_line at f ∷ [])
 kept_end at f old mid new p q =

@@ -12,6 +12,8 @@ use Rattle.g1_words.specs.Lists.{has}
 use Rattle.g1_words.proofs.Computed.{In-range}
 use Rattle.g1_words.proofs.Indices.{range_bounds}
 use Rattle.g1_words.proofs.Members.{has_from_in, in_from_has}
+use Rattle.g1_words.proofs.Logic.{same_test}
+use Rattle.g1_words.proofs.Lists.{flat_of_filter}
 use Rattle.g1_rem.specs.Slots.{slots_on}
 use Rattle.g1_frontier.proofs.Seeds.{filter_flat}
 use Rattle.g1_explain.specs.declared.finder.Finder.{Finder}
@@ -19,15 +21,8 @@ use Rattle.g1_explain.specs.declared.finder.Finder.TheVariants.{Card}
 use Rattle.g1_explain.specs.declared.humongous.Keeper.{Keeper}
 use Rattle.g1_explain.specs.declared.humongous.Keeper.TheVariants.{NoObject, Nothing, By}
 use Rattle.g1_explain.specs.Finders.{Lead, lead}
-use Rattle.g1_explain.proofs.CardLeads.{flat_of_filter}
 use Rattle.g1_explain.proofs.Meets.{flat_more}
 use Rattle.g1_explain.specs.Keepers.{first_keeper, is_nothing, keeper_at, or_first, leads_in, leads_at, leads_on, is_apart, AreKept}
-
-pub same_test : (a b : Bool) → (a ≡ true → b ≡ true) → (b ≡ true → a ≡ true) → a ≡ b
-same_test true true f g = refl
-same_test false false f g = refl
-same_test true false f g = sym (f refl)
-same_test false true f g = g refl
 
 pub or_none : (k : Keeper) → or_first k [] ≡ k
 or_none NoObject = refl

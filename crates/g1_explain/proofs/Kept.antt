@@ -1,6 +1,7 @@
 -- The paths of what keeps an object are first ones.
-use Rattle.std.proofs.Common.{◌≡◌, ◌≢◌, ℕ, zero, suc, ◌+◌, ◌<◌, ◌≤◌, ◌⊎◌, inl, inr, true, false, List, [], ◌∷◌, ◌++◌, length, map, slice_index, Contains, refl, sym, ◌∙◌, ap, subst, arith, append_assoc, append-nil}
+use Rattle.std.proofs.Common.{◌≡◌, ◌≢◌, ℕ, zero, suc, ◌+◌, ◌<◌, ◌⊎◌, inl, inr, true, false, List, [], ◌∷◌, ◌++◌, length, slice_index, refl, sym, ◌∙◌, ap, subst, arith, append_assoc, append-nil}
 use Rattle.std.proofs.lemmas.Bool.{false≢true}
+use Rattle.std.proofs.lemmas.List.{map-append}
 use Rattle.g1_words.specs.Heap.{Heap, word, card_of, region_of, object_at, objects}
 use Rattle.g1_words.specs.References.{Ref, refs, named, root_targets, targets, refs_at}
 use Rattle.g1_words.specs.Live.{seed, child, Live}
@@ -12,7 +13,6 @@ use Rattle.g1_words.proofs.Sound.{sound}
 use Rattle.g1_rem.specs.Slots.{all_slots}
 use Rattle.g1_rem.proofs.Bare.{flat_twice}
 use Rattle.g1_frontier.specs.Window.{AreCards, AreOutside, LeadIn}
-use Rattle.g1_frontier.proofs.Seeds.{map_append}
 use Rattle.g1_mark.specs.Marked.{used}
 use Rattle.g1_mark.proofs.Reaching.{reached_from_live}
 use Rattle.g1_mark.proofs.Used.{object_used, slot_used}
@@ -55,7 +55,7 @@ pub live_slot : (h : Heap) (b s a : ℕ) → Live h b → s < (object_at h b).re
 live_slot h b s a live fit w = child live (Contains-from_in (targets h b) a (slot_target h b s a fit w))
 
 path_push : (legs : List Leg) (l : Leg) → path_of (legs ++ l ∷ []) ≡ path_of legs ++ Rattle.g1_explain.specs.Keeping.number l.finder ∷ []
-path_push legs l = map_append (λ (l : Leg). Rattle.g1_explain.specs.Keeping.number l.finder) legs (l ∷ [])
+path_push legs l = map-append (λ (l : Leg). Rattle.g1_explain.specs.Keeping.number l.finder) legs (l ∷ [])
 
 codes_zero : (legs : List Leg) → codes 0 legs ≡ path_of legs
 codes_zero [] = refl
@@ -249,6 +249,6 @@ module _ (h : Heap) (valid : IsValid h) (r : ℕ) where
       entered_more : (ls : List Leg) (m b n c : ℕ) → IsEntered ls b → region_of h b ≡ r → n < (object_at h b).refs → word h (b + 1 + n) ≡ suc c → IsEntered (ls ++ leg h (Slot m b n) c ∷ []) c
       entered_more ls m b n c u at fit w = record {
         into = subst (λ q. LeadsInto h r q (suc c)) (sym (path_push ls (leg h (Slot m b n) c))) (into_push h r (path_of ls) b n (suc c) u.into at fit w);
-        shifted = map_append (λ (l : Leg). code (length h.roots) l.finder) ls (leg h (Slot m b n) c ∷ []) ∙ ap (λ l. l ++ n ∷ []) u.shifted
+        shifted = map-append (λ (l : Leg). code (length h.roots) l.finder) ls (leg h (Slot m b n) c ∷ []) ∙ ap (λ l. l ++ n ∷ []) u.shifted
             ∙ sym (shift_push (length h.roots) (path_of ls) n (into_some h r (path_of ls) (suc b) u.into)) ∙ ap (shift (length h.roots)) (sym (path_push ls (leg h (Slot m b n) c)));
       }

@@ -1,5 +1,5 @@
 -- The marks of a set of regions, and the lines of the cards that lead into it.
-use Rattle.std.proofs.Common.{◌≡◌, ℕ, zero, suc, ◌<◌, ◌≤◌, inl, inr, Bool, false, ◌||◌, List, [], ◌∷◌, ◌++◌, length, get_or, map, All, refl, sym, ◌∙◌, ap, arith, append_assoc}
+use Rattle.std.proofs.Common.{◌≡◌, ℕ, zero, suc, ◌<◌, inl, inr, Bool, false, ◌||◌, List, [], ◌∷◌, ◌++◌, length, get_or, map, All, refl, sym, ◌∙◌, ap, arith, append_assoc}
 use Rattle.std.specs.Prelude.{replicate, codes, decimal}
 use Rattle.std.proofs.lemmas.Bool.{cases_lt}
 use Rattle.std.proofs.lemmas.List.{length-replicate, get_or_past}
@@ -7,7 +7,7 @@ use Rattle.g1_words.specs.Heap.{Heap}
 use Rattle.g1_words.specs.Lists.{has}
 use Rattle.g1_words.specs.Marks.{AreMarked}
 use Rattle.g1_words.proofs.Indices.{not_has}
-use Rattle.g1_rem.proofs.Entering.{in_all}
+use Rattle.g1_words.proofs.Lists.{all_in}
 use Rattle.g1_text.specs.Lines.{line_text, further, text_of}
 use Rattle.g1_explain.specs.Cards.{number_words, set_line, slots_to, entry_line, set_lines}
 use Rattle.g1_explain.proofs.Texts.{line_then}
@@ -25,7 +25,7 @@ marks_are n set none marks e are below r =
       | inl lt ↦ are.each r (omega (arith, lt, many)) ∙ ap (λ (xs : List Bool). get_or xs r false || has set r) e ∙ ap (λ b. b || has set r) (none_set n r)
       | inr ge ↦
           get_or_past marks r false (omega (arith, ge, many, are.one_each))
-          ∙ sym (not_has set r (λ i. let lt : r < n = in_all (λ x. x < n) set r below i in absurd (omega (arith, ge, lt))))
+          ∙ sym (not_has set r (λ i. let lt : r < n = all_in (λ x. x < n) set r below i in absurd (omega (arith, ge, lt))))
     ]
 
 -- the line of a set, and those of the cards

@@ -12,11 +12,11 @@ use Rattle.g1_words.specs.Valid.{IsValid}
 use Rattle.g1_words.proofs.Members.{In-from_contains, Contains-from_in}
 use Rattle.g1_words.proofs.OneToOne.{reached_object}
 use Rattle.g1_words.proofs.Sound.{sound}
+use Rattle.g1_words.proofs.Lists.{all_from_in}
 use Rattle.g1_image.specs.Image.{Image}
 use Rattle.g1_rem.specs.Entries.{uncovered_into, IsEntryFault}
 use Rattle.g1_rem.specs.Starts.{card_count}
 use Rattle.g1_rem.proofs.Rising.{Rises-increasing}
-use Rattle.g1_frontier.proofs.Scopes.{all_from_in}
 use Rattle.g1_mark.specs.Marked.{used}
 use Rattle.g1_mark.proofs.Reaching.{reached_from_live}
 use Rattle.g1_mark.proofs.Used.{slot_used}

@@ -7,13 +7,13 @@ use Rattle.g1_words.specs.Lists.{has}
 use Rattle.g1_words.specs.Valid.{IsValid}
 use Rattle.g1_words.proofs.Computed.{range_below}
 use Rattle.g1_words.proofs.Members.{In, In-from_contains, Contains-from_in, filter_member, in_from_has, has_from_in}
+use Rattle.g1_words.proofs.Lists.{all_from_in}
 use Rattle.g1_image.specs.Image.{region_of_card}
 use Rattle.g1_image.specs.Cards.{is_exact, exact}
 use Rattle.g1_image.proofs.Covers.{card_region, exact_tells}
 use Rattle.g1_rem.specs.Starts.{card_count}
 use Rattle.g1_rem.proofs.Rising.{Rises-filter, Rises-range, Rises-increasing}
 use Rattle.g1_frontier.specs.Window.{AreCards, AreOutside, LeadIn}
-use Rattle.g1_frontier.proofs.Scopes.{all_from_in}
 
 module _ (h : Heap) (valid : IsValid h) (r : ℕ) where
   -- no card of the exact set lies in the region

@@ -1,12 +1,13 @@
 -- The references of a search lead to what the search finds.
-use Rattle.std.proofs.Common.{◌≡◌, ℕ, zero, suc, ◌+◌, ◌<◌, inl, inr, Bool, true, false, not, ◌&&◌, List, [], ◌∷◌, ◌++◌, length, map, filter, flat_map, slice_index, refl, sym, ◌∙◌, ap, arith}
+use Rattle.std.proofs.Common.{◌≡◌, ℕ, zero, suc, ◌+◌, ◌<◌, Bool, true, false, not, ◌&&◌, List, [], ◌∷◌, ◌++◌, length, map, filter, flat_map, slice_index, refl, sym, ◌∙◌, ap, arith}
 use Rattle.std.specs.List.{range_with_len}
 use Rattle.std.proofs.lemmas.List.Elements.{filter-append}
+use Rattle.std.proofs.lemmas.List.{map-append}
 use Rattle.g1_words.specs.Heap.{Heap, word, object_at, card_of}
 use Rattle.g1_words.specs.References.{Ref, named, refs, root_targets, targets}
 use Rattle.g1_words.specs.Survivors.{in_set, seeds, children, firsts, Survivors}
 use Rattle.g1_words.proofs.Firsts.{filter_twice, filter-same}
-use Rattle.g1_frontier.proofs.Seeds.{filter_flat, map_append, map_flat, flat_same}
+use Rattle.g1_frontier.proofs.Seeds.{filter_flat, map_flat, flat_same}
 use Rattle.g1_explain.specs.declared.finder.Finder.{Finder}
 use Rattle.g1_explain.specs.declared.finder.Finder.TheVariants.{Root, Card, Object as Slot}
 use Rattle.g1_explain.specs.Finders.{Lead, lead, root_leads, slot_leads, object_leads, found_leads, leads, first_leads}
@@ -97,7 +98,7 @@ module _ (h : Heap) (set : List ℕ) where
       let ss : List Lead = slot_leads h set in
       let os : List Lead = found_leads h found (length found) in
       map_filter into (rs ++ (ss ++ os))
-      ∙ ap (filter into) (map_append (λ (l : Lead). l.target) rs (ss ++ os) ∙ ap (λ l. targets_of rs ++ l) (map_append (λ (l : Lead). l.target) ss os))
+      ∙ ap (filter into) (map-append (λ (l : Lead). l.target) rs (ss ++ os) ∙ ap (λ l. targets_of rs ++ l) (map-append (λ (l : Lead). l.target) ss os))
       ∙ filter-append into (targets_of rs) (targets_of ss ++ targets_of os)
       ∙ ap (λ l. filter into (targets_of rs) ++ l) (filter-append into (targets_of ss) (targets_of os))
       ∙ sym (Rattle.std.proofs.Common.append_assoc (filter into (targets_of rs)) (filter into (targets_of ss)) (filter into (targets_of os)))

@@ -3,10 +3,7 @@ use Rattle.std.proofs.Common.{◌≡◌, ℕ, List, ◌++◌, ◌∙◌, ap, app
 use Rattle.std.specs.Prelude.{codes, decimal}
 use Rattle.g1_text.specs.Lines.{line_text, further}
 use Rattle.g1_explain.specs.Totals.{totals_line}
-
--- a number, a word and a number, and what is behind them
-behind : (x word y rest : List ℕ) → (x ++ (word ++ y)) ++ rest ≡ x ++ (word ++ (y ++ rest))
-behind x word y rest = append_assoc x (word ++ y) rest ∙ ap (λ l. x ++ l) (append_assoc word y rest)
+use Rattle.g1_words.proofs.Lists.{in_front}
 
 pub totals_end : (old a b c : List ℕ) (set humongous objects bytes : ℕ) (counts : List (List ℕ)) → a ≡ old ++ (codes "pause regions " ++ (decimal set ++ (codes " humongous " ++ decimal humongous)))
     → b ≡ a ++ (codes " objects " ++ (decimal objects ++ (codes " bytes " ++ decimal bytes))) → c ≡ b ++ further counts → c ≡ old ++ line_text (totals_line set humongous objects bytes counts)
@@ -16,5 +13,5 @@ totals_end old a b c set humongous objects bytes counts p q r =
     let rest : List ℕ = codes " objects " ++ (y ++ further counts) in
     r ∙ ap (λ l. l ++ further counts) (q ∙ ap (λ l. l ++ (codes " objects " ++ y)) p)
     ∙ append_assoc (old ++ (codes "pause regions " ++ x)) (codes " objects " ++ y) (further counts) ∙ append_assoc old (codes "pause regions " ++ x) rest
-    ∙ ap (λ l. old ++ (codes "pause regions " ++ l)) (behind (decimal set) (codes " humongous ") (decimal humongous) rest)
-    ∙ ap (λ l. old ++ (codes "pause regions " ++ (decimal set ++ (codes " humongous " ++ (decimal humongous ++ (codes " objects " ++ l)))))) (behind (decimal objects) (codes " bytes ") (decimal bytes) (further counts))
+    ∙ ap (λ l. old ++ (codes "pause regions " ++ l)) (in_front (decimal set) (codes " humongous ") (decimal humongous) rest)
+    ∙ ap (λ l. old ++ (codes "pause regions " ++ (decimal set ++ (codes " humongous " ++ (decimal humongous ++ (codes " objects " ++ l)))))) (in_front (decimal objects) (codes " bytes ") (decimal bytes) (further counts))

@@ -4,8 +4,6 @@ use Rattle.std.specs.Int.{div_ceil}
 use Rattle.std.specs.List.{list_any}
 use Rattle.std.proofs.lemmas.Bool.{cases_lt, false≢true, or_parts, or_from as either, and_from, false_from_ne_true, and_parts, or_cases}
 use Rattle.std.proofs.lemmas.Grind.{div_ceil_times}
-use Rattle.std.proofs.lemmas.List.{map-append}
-use Rattle.std.proofs.lemmas.List.Elements.{filter-append}
 use Rattle.std.proofs.lemmas.List.Folds.{list_any-append}
 use Rattle.std.proofs.Math.Nat.{add-mul, mul-le-mul_right}
 use Rattle.g1_words.specs.declared.object.Object.{Object}
@@ -22,13 +20,14 @@ use Rattle.g1_words.proofs.OneToOne.{kept_cases, outside_stays, survivor_to_free
 use Rattle.g1_words.proofs.Shapes.{IsBuilt, built}
 use Rattle.g1_words.proofs.Sound.{IsSound}
 use Rattle.g1_words.proofs.Standing.{InHumongous, Stands, built_is_sound, home, home_region, ordinary_word, run_word, w_pos, word_in_ordinary, word_used}
+use Rattle.g1_words.proofs.Lists.{none_passes, by_number, any_from_in}
+use Rattle.g1_words.proofs.Logic.{same_test}
 use Rattle.g1_image.specs.Image.{Image}
 use Rattle.g1_image.specs.Cards.{IsTracked}
 use Rattle.g1_after.specs.Made.{heap_moved, image_moved}
 use Rattle.g1_after.specs.Moved.{IsMoved}
 use Rattle.g1_after.specs.Survived.{IsMovedRef}
 use Rattle.g1_after.specs.Unnamed.{has_word, humongous, is_named, lies_in, unnamed}
-use Rattle.g1_after.proofs.CoveredMoved.{any_from_in}
 use Rattle.g1_after.proofs.Existence.{made_is_moved}
 use Rattle.g1_after.proofs.ObjectsOf.{kept_outside, survivor_region}
 use Rattle.g1_after.proofs.RefsMoved.{refs_moved}
@@ -49,29 +48,9 @@ use Rattle.g1_explain.specs.Humongous.{run, run_end}
 use Rattle.g1_explain.specs.Keepers.{is_nothing, first_keeper, leads_to, keeper_of}
 use Rattle.g1_explain.specs.Unkept.{unkept, FreesUnkept}
 use Rattle.g1_explain.proofs.FirstKeepers.{stands, start_there}
-use Rattle.g1_explain.proofs.Keepers.{same_test}
 use Rattle.g1_explain.proofs.LeadOrder.{slot_tells, found_tells}
 use Rattle.g1_explain.proofs.FirstLeads.{targets_of}
 use Rattle.g1_explain.proofs.Targets.{root_part, found_targets}
-
--- what passes two tests, number by number
-by_number : {A : Type 0} (g : A → ℕ) (p q : A → Bool) (f : ℕ → List A) (t : ℕ → Bool) (xs : List ℕ)
-    → ((x : ℕ) → In xs x → map g (filter p (filter q (f x))) ≡ cond (t x) (x ∷ []) []) → map g (filter p (filter q (flat_map f xs))) ≡ filter t xs
-by_number g p q f t [] each = refl
-by_number g p q f t (x ∷ xs) each =
-    ap (λ ys. map g (filter p ys)) (filter-append q (f x) (flat_map f xs))
-    ∙ ap (map g) (filter-append p (filter q (f x)) (filter q (flat_map f xs)))
-    ∙ map-append g (filter p (filter q (f x))) (filter p (filter q (flat_map f xs)))
-    ∙ (λ i. each x (inl refl) i ++ by_number g p q f t xs (λ y k. each y (inr k)) i)
-    ∙ one (t x)
-  where
-    one : (b : Bool) → cond b (x ∷ []) [] ++ filter t xs ≡ cond b (x ∷ filter t xs) (filter t xs)
-    one true = refl
-    one false = refl
-
-none_passes : {A : Type 0} (p : A → Bool) (xs : List A) → ((x : A) → In xs x → p x ≡ false) → filter p xs ≡ []
-none_passes p [] f = refl
-none_passes p (x ∷ xs) f = let rest = none_passes p xs (λ y k. f y (inr k)) in λ t. cond (f x (inl refl) t) (x ∷ rest t) (rest t)
 
 -- a reference is there if there is a first one
 some_lead : (ls : List Lead) → not (is_nothing (first_keeper ls)) ≡ true → (l : Lead) × In ls l

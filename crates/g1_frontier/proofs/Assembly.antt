@@ -7,19 +7,20 @@ use Rattle.std.proofs.lemmas.List.Concat.{flat_map-append}
 use Rattle.std.proofs.lemmas.List.Sums.{sum_by-cons}
 use Rattle.std.proofs.lemmas.List.Elements.{All-append, All-cons, All-nil, filter-append}
 use Rattle.std.proofs.lemmas.List.Sorted.{IsPermutation-trans, IsPermutation-append_comm}
+use Rattle.std.proofs.lemmas.List.Folds.{flat_map-map}
 use Rattle.itertools.proofs.KMergeLemmas.{flat-permutation}
 use Rattle.g1_work.specs.Each.{Ran, EachRan, IsEachRun, joined, RisesBelow, chunks_of}
 use Rattle.g1_claim.specs.Claims.{TableView, SeatView, IsSeatOf}
 use Rattle.g1_words.proofs.Members.{In}
 use Rattle.g1_words.proofs.Ordered.{Ordered, pairs_from_ordered}
+use Rattle.g1_words.proofs.Lists.{all_in}
 use Rattle.g1_frontier.specs.declared.offering.Holder.{Holder}
 use Rattle.g1_frontier.specs.Offering.{Try, pair_of, answered_true, offer_of, HasTried}
 use Rattle.g1_work.specs.Regions.{slice_of}
 use Rattle.g1_frontier.specs.Round.{IsFreshHolder, IsGivenOut, HasTaken, HasOffered, Rises}
 use Rattle.g1_frontier.proofs.Offerings.{tried_none, tried_append}
 use Rattle.g1_frontier.proofs.Pieces.{all_pieces, some_pieces}
-use Rattle.g1_frontier.proofs.Scopes.{all_in, all_map}
-use Rattle.g1_frontier.proofs.Seeds.{flat_of_map}
+use Rattle.g1_frontier.proofs.Scopes.{all_map}
 
 abbrev pub RankLess : ℕ × ℕ → ℕ × ℕ → Type 0
 RankLess q r = q.0 < r.0
@@ -29,7 +30,7 @@ in_kept_at m ms ks q f true (inl e) = inl e
 in_kept_at m ms ks q f true (inr k) = inr (f k)
 in_kept_at m ms ks q f false k = inr (f k)
 
-in_kept : (ms : List Try) (q : ℕ × ℕ) → In (map pair_of (filter answered_true ms)) q → In (map pair_of ms) q
+pub in_kept : (ms : List Try) (q : ℕ × ℕ) → In (map pair_of (filter answered_true ms)) q → In (map pair_of ms) q
 in_kept [] q i = i
 in_kept (m ∷ ms) q i = in_kept_at m ms (filter answered_true ms) q (in_kept ms q) m.1 i
 
@@ -192,7 +193,7 @@ module _ {A : Type 0} (t : TableView) (place : ℕ → ℕ) (f : A → List (ℕ
         kept =
             ap (flat_map (λ (l : List (ℕ × ℕ)). l)) k.kept
             ∙ (λ i. (one.kept ∙ ap (λ ks. ks ++ map pair_of (filter answered_true one.made)) g.none_kept) i
-            ++ (flat_of_map (λ (l : List (ℕ × ℕ)). l) (λ (h : Holder). h.kept.items) k.others ∙ rest.kept) i)
+            ++ (flat_map-map (λ (l : List (ℕ × ℕ)). l) (λ (h : Holder). h.kept.items) k.others ∙ rest.kept) i)
             ∙ sym (ap (map pair_of) (filter-append answered_true one.made rest.made) ∙ map-append pair_of (filter answered_true one.made) (filter answered_true rest.made));
         rise = subst (All Rises) (sym k.kept) (All-cons Rises k.last.kept.items (map (λ (h : Holder). h.kept.items) k.others)
             (pairs_from_ordered RankLess k.last.kept.items (one_rises place P runs says n t ordered g.last l.last k.last l.ran_last l.rises g.none_kept))

@@ -1,5 +1,5 @@
 -- What one round of claims gives.
-use Rattle.std.proofs.Common.{◌≡◌, ◌≢◌, ℕ, ◌+◌, ◌-◌, ◌<◌, ◌≤◌, ◌^◌, length, Bool, true, false, cond, eqb, eq-eqb, eqb-true, List, [], ◌∷◌, map, filter, sym, refl, ap, ◌∙◌, subst, inl, inr, arith}
+use Rattle.std.proofs.Common.{◌≡◌, ◌≢◌, ℕ, ◌+◌, ◌-◌, ◌<◌, ◌≤◌, ◌^◌, length, true, false, cond, eqb, List, [], ◌∷◌, map, filter, sym, refl, ap, ◌∙◌, subst, inl, inr, arith}
 use Rattle.std.proofs.Common.{Contains, IsPermutation, All, AllPairs, Vec, Global}
 use Rattle.std.specs.List.{flat_map}
 use Rattle.std.proofs.lemmas.List.Sorted.{IsPermutation-sym, IsPermutation-map}
@@ -16,6 +16,8 @@ use Rattle.g1_words.specs.Survivors.{in_set}
 use Rattle.g1_words.proofs.Members.{In, In-map, map_cases, flat_map_cases, filter_member}
 use Rattle.g1_words.proofs.Ordered.{Ordered, Ordered-from_pairs, pairs_from_ordered}
 use Rattle.g1_words.proofs.Rising.{Ordered-map}
+use Rattle.g1_words.proofs.Logic.{eqb_sym}
+use Rattle.g1_words.proofs.Lists.{Ordered-unmap, all_in, all_from_in}
 use Rattle.g1_rem.specs.Slots.{slots_on}
 use Rattle.g1_frontier.specs.declared.item.Item.{Item}
 use Rattle.g1_frontier.specs.declared.item.Item.TheVariants.{Root, Card, Object}
@@ -24,10 +26,9 @@ use Rattle.g1_frontier.specs.Numbers.{BeginsIn}
 use Rattle.g1_frontier.proofs.Names.{root_reference, card_reference, object_reference}
 use Rattle.g1_frontier.specs.Offering.{Try, pair_of, answered_true, offer_of}
 use Rattle.g1_frontier.specs.Round.{Rises, AreAbove, bid_of, bid, AddsOffers, winners, HasOffered, IsByRank}
-use Rattle.g1_frontier.proofs.Assembly.{RankLess}
+use Rattle.g1_frontier.proofs.Assembly.{RankLess, in_kept}
 use Rattle.g1_frontier.proofs.Winning.{RanksDiffer, in_permuted, merged_won}
 use Rattle.g1_frontier.proofs.Merges.{rises_strictly}
-use Rattle.g1_frontier.proofs.Scopes.{all_in, all_from_in}
 
 pub lists_rise : (vs : List (Vec (ℕ × ℕ) Global)) → All Rises (map (λ v. v.items) vs) → All (λ v. Rises v.items) vs
 lists_rise vs h = all_from_in (λ v. Rises v.items) vs (λ v i. all_in Rises (map (λ v. v.items) vs) v.items h (In-map (λ v. v.items) vs v i))
@@ -73,19 +74,6 @@ all_begin h window items q valid ok i =
 
 -- ---- ranks that differ
 
-eqb_flips : (x y : ℕ) → eqb x y ≡ eqb y x
-eqb_flips x y = same (eqb x y) (eqb y x) (λ e. eq-eqb y x (sym (eqb-true x y e))) (λ e. eq-eqb x y (sym (eqb-true y x e)))
-  where
-    same : (a b : Bool) → (a ≡ true → b ≡ true) → (b ≡ true → a ≡ true) → a ≡ b
-    same true true f g = refl
-    same false false f g = refl
-    same true false f g = sym (f refl)
-    same false true f g = g refl
-
-Ordered-unmap : {A B : Type 0} (R : B → B → Type 0) (f : A → B) (xs : List A) → Ordered R (map f xs) → Ordered (λ x y. R (f x) (f y)) xs
-Ordered-unmap R f [] o = tt
-Ordered-unmap R f (x ∷ xs) o = ((λ y i. o.0 (f y) (In-map f xs y i)), Ordered-unmap R f xs o.1)
-
 weaken : {A : Type 0} (R S : A → A → Type 0) (xs : List A) → ((x y : A) → R x y → S x y) → Ordered R xs → Ordered S xs
 weaken R S [] h o = tt
 weaken R S (x ∷ xs) h o = ((λ y i. h x y (o.0 y i)), weaken R S xs h o.1)
@@ -99,7 +87,7 @@ unfolding rank_of
 differ_permuted ps qs p o =
     let before : AllPairs (λ x y. x ≢ y) (map rank_of ps) = pairs_from_ordered (λ x y. x ≢ y) (map rank_of ps) (Ordered-map (λ x y. x ≢ y) rank_of ps o) in
     let after : AllPairs (λ x y. x ≢ y) (map rank_of qs) =
-    AllPairs-from_IsDistinct Decides-eqb (map rank_of qs) (IsDistinct-IsPermutation eqb eqb_flips (map rank_of ps) (map rank_of qs)
+    AllPairs-from_IsDistinct Decides-eqb (map rank_of qs) (IsDistinct-IsPermutation eqb eqb_sym (map rank_of ps) (map rank_of qs)
     (IsPermutation-map rank_of ps qs p) (IsDistinct-from_AllPairs Decides-eqb (map rank_of ps) before)) in
     Ordered-unmap (λ x y. x ≢ y) rank_of qs (Ordered-from_pairs (λ x y. x ≢ y) (map rank_of qs) after)
 
@@ -107,20 +95,11 @@ pub rises_differ : (ps : List (ℕ × ℕ)) → Ordered RankLess ps → Ordered 
 rises_differ ps o = weaken RankLess RanksDiffer ps (λ x y lt e. omega (arith, lt, e)) o
 
 -- some of what differs differs
-in_some_at : (m : Try) (ms ks : List Try) (q : ℕ × ℕ) → (In (map pair_of ks) q → In (map pair_of ms) q) → (b : Bool) → In (map pair_of (cond b (m ∷ ks) ks)) q → In (map pair_of (m ∷ ms)) q
-in_some_at m ms ks q f true (inl e) = inl e
-in_some_at m ms ks q f true (inr k) = inr (f k)
-in_some_at m ms ks q f false k = inr (f k)
-
-pub in_some : (ms : List Try) (q : ℕ × ℕ) → In (map pair_of (filter answered_true ms)) q → In (map pair_of ms) q
-in_some [] q i = i
-in_some (m ∷ ms) q i = in_some_at m ms (filter answered_true ms) q (in_some ms q) m.1 i
-
 some_differ : (ms : List Try) → Ordered RanksDiffer (map pair_of ms) → Ordered RanksDiffer (map pair_of (filter answered_true ms))
 some_differ [] o = tt
 some_differ (m ∷ ms) o =
     elim m.1 as (λ b. Ordered RanksDiffer (map pair_of (cond b (m ∷ filter answered_true ms) (filter answered_true ms)))) [
-      | true ↦ ((λ q i. o.0 q (in_some ms q i)), some_differ ms o.1)
+      | true ↦ ((λ q i. o.0 q (in_kept ms q i)), some_differ ms o.1)
       | false ↦ some_differ ms o.1
     ]
 
@@ -151,7 +130,7 @@ module _ (t : TableView) (place : ℕ → ℕ) (ps : List (ℕ × ℕ)) (before 
     kept_all = subst (λ l. IsPermutation l merged) o.kept perm
 
     pub merged_from : (q : ℕ × ℕ) → In merged q → In ps q
-    merged_from q i = in_permuted (map pair_of o.made) ps q o.each (in_some o.made q
+    merged_from q i = in_permuted (map pair_of o.made) ps q o.each (in_kept o.made q
         (in_permuted merged (map pair_of (filter answered_true o.made)) q (IsPermutation-sym (map pair_of (filter answered_true o.made)) merged kept_all) i))
 
     made_differ : Ordered RankLess ps → Ordered RanksDiffer (map pair_of o.made)

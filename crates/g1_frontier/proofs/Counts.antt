@@ -1,6 +1,6 @@
 -- How many marks stand before a word: block by block, and from word to word.
 use Rattle.std.proofs.Common.{◌≡◌, ◌<◌, ◌≤◌, ℕ, zero, suc, ◌+◌, ◌*◌, ◌/◌, ◌%◌, ◌^◌, ◌==◌, inl, inr, Bool, true, false, List, [], ◌∷◌, ◌++◌, map, take, length}
-use Rattle.std.proofs.Common.{get_or, slice_index, refl, sym, ap, ◌∙◌, arith, cond}
+use Rattle.std.proofs.Common.{get_or, slice_index, refl, sym, ap, ◌∙◌, arith, cond, take-take}
 use Rattle.std.proofs.lemmas.Bool.{cases_lt, cases_eq}
 use Rattle.std.proofs.lemmas.List.{get_or-map}
 use Rattle.std.proofs.lemmas.List.Sums.{count_by_more_yes, count_by_more_no, sum_by-take-le}
@@ -16,18 +16,11 @@ use Rattle.g1_frontier.specs.Numbers.{number_at, starts_of, AreCounted, counted_
 
 -- ---- marks one by one
 
-take_of_take : (xs : List Bool) (p q : ℕ) → p ≤ q → take p (take q xs) ≡ take p xs
-take_of_take xs zero q le = refl
-take_of_take [] (suc p) zero le = refl
-take_of_take [] (suc p) (suc q) le = refl
-take_of_take (x ∷ xs) (suc p) zero le = absurd (omega (arith, le))
-take_of_take (x ∷ xs) (suc p) (suc q) le = ap (λ l. x ∷ l) (take_of_take xs p q (omega (arith, le)))
-
 -- no fewer stand before a later word
 pub number_grows : (starts : List Bool) (p q : ℕ) → p ≤ q → number_at starts p ≤ number_at starts q
 number_grows starts p q le =
     let k = sum_by-take-le (λ (b : Bool). cond b 1 0) (take q starts) p in
-    let e = ap (count_by (λ b. b)) (take_of_take starts p q le) in omega (arith, k, e)
+    let e = ap (count_by (λ b. b)) (take-take p q starts le) in omega (arith, k, e)
 
 -- one more stands before a word behind a marked one
 pub number_rises : (starts : List Bool) (p q : ℕ) → p < q → p < length starts → get_or starts p false ≡ true → number_at starts p < number_at starts q

@@ -12,12 +12,13 @@ use Rattle.g1_words.specs.Survivors.{firsts}
 use Rattle.g1_words.proofs.Members.{In, In-map, map_cases, In-append_left, In-append_right, In-append_cases, has_from_in, in_from_has, filter_member}
 use Rattle.g1_words.proofs.Firsts.{In-firsts, firsts_member, firsts-append}
 use Rattle.g1_words.proofs.Ordered.{Ordered}
+use Rattle.g1_words.proofs.Lists.{filter_same_in, all_in, all_from_in}
 use Rattle.g1_frontier.specs.Round.{bid_of, bid, AddsOffers, is_least, winners}
 use Rattle.g1_frontier.specs.Search.{places_of}
 use Rattle.g1_frontier.proofs.Assembly.{RankLess}
 use Rattle.g1_frontier.proofs.Links.{place_of, Each, Climbs, won_are_firsts}
-use Rattle.g1_frontier.proofs.Scopes.{all_in, all_from_in}
 use Rattle.g1_frontier.proofs.Winning.{in_permuted}
+use mathlib.Core.List.{map-map}
 
 -- ---- maps and tests
 
@@ -28,14 +29,6 @@ filter_map {A} {B} p f (x ∷ xs) = at (p (f x)) (filter p (map f xs)) (filter (
     at : (b : Bool) (ys : List B) (zs : List A) → ys ≡ map f zs → cond b (f x ∷ ys) ys ≡ map f (cond b (x ∷ zs) zs)
     at true ys zs e = ap (λ l. f x ∷ l) e
     at false ys zs e = e
-
-filter_members : {A : Type 0} (p q : A → Bool) (xs : List A) → ((x : A) → In xs x → p x ≡ q x) → filter p xs ≡ filter q xs
-filter_members p q [] h = refl
-filter_members {A} p q (x ∷ xs) h = λ i. cond (h x (inl refl) i) (x ∷ filter_members p q xs (λ y k. h y (inr k)) i) (filter_members p q xs (λ y k. h y (inr k)) i)
-
-map_map : {A B C : Type 0} (f : B → C) (g : A → B) (xs : List A) → map f (map g xs) ≡ map (λ x. f (g x)) xs
-map_map f g [] = refl
-map_map f g (x ∷ xs) = ap (λ l. f (g x) ∷ l) (map_map f g xs)
 
 module _ (place : ℕ → ℕ) (Inside : ℕ → Type 0) (apart : (a b : ℕ) → Inside a → Inside b → place b ≡ place a → b ≡ a) where
   pub same_test : (a b : ℕ) → Inside a → Inside b → eqb (place a) (place b) ≡ eqb a b
@@ -52,7 +45,7 @@ module _ (place : ℕ → ℕ) (Inside : ℕ → Type 0) (apart : (a b : ℕ) �
       ap (λ l. place x ∷ l)
       (ap (filter (λ y. not (eqb (place x) y))) (firsts_places xs (λ a i. h a (inr i)))
       ∙ filter_map (λ y. not (eqb (place x) y)) place (firsts xs)
-      ∙ ap (map place) (filter_members (λ y. not (eqb (place x) (place y))) (λ y. not (eqb x y)) (firsts xs) (λ y i. ap not (same_test x y (h x (inl refl)) (h y (inr (firsts_member xs y i)))))))
+      ∙ ap (map place) (filter_same_in (λ y. not (eqb (place x) (place y))) (λ y. not (eqb x y)) (firsts xs) (λ y i. ap not (same_test x y (h x (inl refl)) (h y (inr (firsts_member xs y i)))))))
 
   map_apart : (xs ys : List ℕ) → ((a : ℕ) → In xs a → Inside a) → ((a : ℕ) → In ys a → Inside a) → map place xs ≡ map place ys → xs ≡ ys
   map_apart [] [] h k e = refl
@@ -85,7 +78,7 @@ module _ (place : ℕ → ℕ) (Inside : ℕ → Type 0) (apart : (a b : ℕ) �
     climbs (q ∷ qs) o = (each_all (λ (j : ℕ × ℕ). q.0 < j.1) (map (bid place) qs) (λ j i. let m = map_cases (bid place) qs j i in subst (λ (j : ℕ × ℕ). q.0 < j.1) m.2 (o.0 m.0 m.1)), climbs qs o.1)
 
     places_bids : (os : List Offer) → map place_of (map bid_of os) ≡ places_of os
-    places_bids os = map_map place_of bid_of os
+    places_bids os = map-map place_of bid_of os
 
     in_addresses : (a : ℕ) → In (map (λ (q : ℕ × ℕ). q.1) ps) a → Inside a
     in_addresses a i = let m = map_cases (λ (q : ℕ × ℕ). q.1) ps a i in subst Inside m.2 (within m.0 m.1)
@@ -106,15 +99,15 @@ module _ (place : ℕ → ℕ) (Inside : ℕ → Type 0) (apart : (a b : ℕ) �
         let ek : o.0.rank ≡ k.1 = ap (λ (x : ℕ × ℕ). x.1) o.2 in omega (arith, lt, le, ej, ek)))) in
         let left : map place_of (filter (λ j. eqb (least_rank j.0 (before ++ adds.0)) j.1) (map (bid place) ps)) ≡ map place (map (λ (q : ℕ × ℕ). q.1) (winners place after ps)) =
         ap (map place_of) (filter_map (λ (j : ℕ × ℕ). eqb (least_rank j.0 (before ++ adds.0)) j.1) (bid place) ps)
-        ∙ map_map place_of (bid place) (filter (λ (q : ℕ × ℕ). eqb (least_rank (place q.1) (before ++ adds.0)) q.0) ps)
+        ∙ map-map place_of (bid place) (filter (λ (q : ℕ × ℕ). eqb (least_rank (place q.1) (before ++ adds.0)) q.0) ps)
         ∙ ap (λ (os : List Offer). map (λ (q : ℕ × ℕ). place q.1) (filter (is_least place os) ps)) (sym adds.2)
-        ∙ sym (map_map place (λ (q : ℕ × ℕ). q.1) (winners place after ps)) in
-        let places : map place_of (map (bid place) ps) ≡ map place xs = map_map place_of (bid place) ps ∙ sym (map_map place (λ (q : ℕ × ℕ). q.1) ps) in
+        ∙ sym (map-map place (λ (q : ℕ × ℕ). q.1) (winners place after ps)) in
+        let places : map place_of (map (bid place) ps) ≡ map place xs = map-map place_of (bid place) ps ∙ sym (map-map place (λ (q : ℕ × ℕ). q.1) ps) in
         let right : filter (λ p. not (has (map place_of (map bid_of before)) p)) (firsts (map place_of (map (bid place) ps))) ≡ map place (filter (λ a. not (has found a)) (firsts xs)) =
         (λ i. filter (λ p. not (has (places_bids before i) p)) (firsts (places i)))
         ∙ ap (filter (λ p. not (has (places_of before) p))) (firsts_places xs in_addresses)
         ∙ filter_map (λ p. not (has (places_of before) p)) place (firsts xs)
-        ∙ ap (map place) (filter_members (λ a. not (has (places_of before) (place a))) (λ a. not (has found a)) (firsts xs) (λ a i. ap not (claimed a (in_addresses a (firsts_member xs a i))))) in
+        ∙ ap (map place) (filter_same_in (λ a. not (has (places_of before) (place a))) (λ a. not (has found a)) (firsts xs) (λ a i. ap not (claimed a (in_addresses a (firsts_member xs a i))))) in
         map_apart (map (λ (q : ℕ × ℕ). q.1) (winners place after ps)) (filter (λ a. not (has found a)) (firsts xs))
         (λ a i. let m = map_cases (λ (q : ℕ × ℕ). q.1) (winners place after ps) a i in subst Inside m.2 (within m.0 (filter_member (is_least place after) ps m.0 m.1).0))
         (λ a i. in_addresses a (firsts_member xs a (filter_member (λ a. not (has found a)) (firsts xs) a i).0))

@@ -3,7 +3,6 @@ use Rattle.std.proofs.lemmas.List.{length-map}
 use Rattle.std.proofs.lemmas.List.FromFn.{length-range_with_len, get_or-range_with_len}
 use Rattle.std.proofs.Common.{zero, suc, ◌+◌, length, map, get_or, ◌≡◌, ◌≢◌, ◌<◌, ℕ, ◌*◌, ◌/◌, inl, inr, false, List, [], ◌∷◌, Contains, arith, refl, sym, ap, subst, ◌∙◌}
 use Rattle.std.proofs.lemmas.Bool.{false≢true, false_from_ne_true}
-use Rattle.std.specs.List.{All}
 use Rattle.g1_words.specs.Heap.{Heap, card_of, region_of, regions}
 use Rattle.g1_words.specs.Lists.{has}
 use Rattle.g1_words.specs.References.{Ref, refs}
@@ -11,13 +10,13 @@ use Rattle.g1_words.specs.Survivors.{in_set}
 use Rattle.g1_words.proofs.Bounds.{cards_in_region, card_in_region}
 use Rattle.g1_words.proofs.Computed.{range_below}
 use Rattle.g1_words.proofs.Members.{In, In-from_contains, Contains-from_in, filter_member, in_from_has}
+use Rattle.g1_words.proofs.Lists.{all_in, all_from_in}
 use Rattle.g1_image.specs.Image.{Image, IsImage, remembered_of, region_of_card}
 use Rattle.g1_image.specs.Cards.{refined, is_refined, Covered}
 use Rattle.g1_image.proofs.Covers.{cards_rise, exact_tells, refined_tells, covered_tells}
 use Rattle.g1_rem.specs.Starts.{card_count}
 use Rattle.g1_frontier.specs.Laws.{AreRefinedOf, RefinedLeadIn, RefinedLeadsIn}
 use Rattle.g1_frontier.specs.Window.{AreCards, AreOutside, LeadIn}
-use Rattle.g1_frontier.proofs.Scopes.{all_in, all_from_in}
 
 module _ (i : Image) (good : IsImage i) where
   -- a card of a slot lies in the slot's region

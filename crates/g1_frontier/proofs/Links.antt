@@ -1,5 +1,5 @@
 -- From the least rank at each place to first occurrences.
-use Rattle.std.proofs.Common.{◌≡◌, ℕ, suc, ◌<◌, ◌≤◌, inl, inr, Bool, true, false, cond, not, ◌&&◌, ◌||◌, min, List, [], ◌∷◌, ◌++◌, map, filter, refl, sym, ◌∙◌, ap, arith, eqb, eqb-true}
+use Rattle.std.proofs.Common.{◌≡◌, ℕ, suc, ◌<◌, ◌≤◌, inl, inr, Bool, true, false, cond, not, ◌&&◌, ◌||◌, min, List, [], ◌∷◌, ◌++◌, map, filter, refl, sym, ◌∙◌, ap, arith, eqb}
 use Rattle.std.proofs.Common.{eq-eqb, ne_eqb, append_assoc, true≢false, IsPermutation}
 use Rattle.std.specs.List.{All}
 use Rattle.std.proofs.lemmas.List.Elements.{All-cons, All-nil}
@@ -10,6 +10,8 @@ use Rattle.g1_words.specs.Lists.{has}
 use Rattle.g1_words.specs.Survivors.{firsts}
 use Rattle.g1_words.proofs.Members.{In, has_from_in, in_from_has}
 use Rattle.g1_words.proofs.Firsts.{filter_twice, filter-same}
+use Rattle.g1_words.proofs.Logic.{eqb_sym}
+use Rattle.g1_words.proofs.Lists.{has_more}
 use Rattle.g1_frontier.specs.Round.{bid_of}
 
 -- of a place and a rank the place
@@ -72,34 +74,13 @@ high_there p m (i ∷ is) lt h = let r = high_there p m is lt h.1 in let l = h.0
     at true r l = omega arith
     at false r l = omega arith
 
-pub has_snoc : (xs : List ℕ) (p y : ℕ) → has (xs ++ p ∷ []) y ≡ (has xs y || eqb y p)
-has_snoc [] p y = at (eqb y p)
-  where
-    at : (b : Bool) → (b || false) ≡ (false || b)
-    at true = refl
-    at false = refl
-has_snoc (x ∷ xs) p y = at (eqb y x) (has (xs ++ p ∷ []) y) (has xs y) (eqb y p) (has_snoc xs p y)
-  where
-    at : (a h k b : Bool) → h ≡ (k || b) → (a || h) ≡ ((a || k) || b)
-    at true h k b e = refl
-    at false h k b e = e
-
-flip_eqb : (x y : ℕ) → eqb x y ≡ eqb y x
-flip_eqb x y = at (eqb x y) (eqb y x) refl refl
-  where
-    at : (a b : Bool) → eqb x y ≡ a → eqb y x ≡ b → a ≡ b
-    at true true e f = refl
-    at false false e f = refl
-    at true false e f = sym (eq-eqb y x (sym (eqb-true x y e))) ∙ f
-    at false true e f = sym e ∙ eq-eqb x y (sym (eqb-true y x f))
-
 map_snoc : (pre : List (ℕ × ℕ)) (i : ℕ × ℕ) → map place_of (pre ++ i ∷ []) ≡ map place_of pre ++ i.0 ∷ []
 map_snoc [] i = refl
 map_snoc (j ∷ pre) i = ap (λ l. j.0 ∷ l) (map_snoc pre i)
 
 next_test : (pre : List (ℕ × ℕ)) (i : ℕ × ℕ) (y : ℕ) → (not (eqb i.0 y) && not (has (map place_of pre) y)) ≡ not (has (map place_of (pre ++ i ∷ [])) y)
-next_test pre i y = ap (λ b. not b && not (has (map place_of pre) y)) (flip_eqb i.0 y) ∙ at (eqb y i.0) (has (map place_of pre) y)
-    ∙ sym (ap not (ap (λ l. has l y) (map_snoc pre i) ∙ has_snoc (map place_of pre) i.0 y))
+next_test pre i y = ap (λ b. not b && not (has (map place_of pre) y)) (eqb_sym i.0 y) ∙ at (eqb y i.0) (has (map place_of pre) y)
+    ∙ sym (ap not (ap (λ l. has l y) (map_snoc pre i) ∙ has_more (map place_of pre) i.0 y))
   where
     at : (a b : Bool) → (not a && not b) ≡ not (b || a)
     at true true = refl

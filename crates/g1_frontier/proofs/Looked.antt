@@ -12,13 +12,13 @@ use Rattle.g1_work.specs.Each.{IsEachRun, joined}
 use Rattle.g1_work.specs.Regions.{slice_of}
 use Rattle.g1_words.proofs.Members.{In, In-append_cases, In-append_left, In-append_right, In-flat_map}
 use Rattle.g1_words.proofs.Ordered.{Ordered}
+use Rattle.g1_words.proofs.Lists.{all_in}
 use Rattle.g1_frontier.specs.declared.offering.Holder.{Holder}
 use Rattle.g1_frontier.specs.Offering.{Try, pair_of, offer_of, HasTried}
 use Rattle.g1_frontier.specs.Looking.{HasLooked}
 use Rattle.g1_frontier.specs.Round.{IsGivenOut, HasTaken, is_least, winners}
 use Rattle.g1_frontier.proofs.Assembly.{RankLess, whole_round}
 use Rattle.g1_frontier.proofs.Looks.{IsWon, won_in, each_won, chunks_pass}
-use Rattle.g1_frontier.proofs.Scopes.{all_in}
 use Rattle.g1_frontier.proofs.Winning.{in_permuted}
 
 -- a look offers nothing

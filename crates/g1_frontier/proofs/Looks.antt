@@ -13,11 +13,11 @@ use Rattle.g1_claim.proofs.Seen.{word_is_least, begins_trans}
 use Rattle.g1_work.specs.Each.{Ran, EachRan, joined}
 use Rattle.g1_work.specs.Regions.{slice_of}
 use Rattle.g1_words.proofs.Members.{In, In-append_cases, In-append_left, In-append_right, In-map}
+use Rattle.g1_words.proofs.Lists.{all_in}
 use Rattle.g1_frontier.specs.declared.offering.Holder.{Holder}
 use Rattle.g1_frontier.specs.Looking.{Look, looked_at, is_there, sight_of, HasLooked}
 use Rattle.g1_frontier.specs.Round.{winners}
 use Rattle.g1_frontier.proofs.Pieces.{all_pieces}
-use Rattle.g1_frontier.proofs.Scopes.{all_in}
 
 -- the value is empty, or an offer of it has won
 abbrev pub IsWon : List Offer → Sight → Type 0

@@ -14,10 +14,11 @@ use Rattle.std.specs.Iterator.Runs.{Run, YieldsRun}
 use Rattle.std.specs.Vec.Iter.{into_iter_items, into_iter_len, into_iter_steps}
 use Rattle.std.specs.declared.vec.IntoIter.{IntoIter}
 use Rattle.std.proofs.lemmas.Iterator.Adapters.{YieldsList-from_vec}
+use Rattle.std.proofs.lemmas.List.Folds.{flat_map-map}
 use Rattle.itertools.specs.KMerge.{SourcesGive, joined_lists}
-use Rattle.g1_frontier.proofs.Scopes.{all_in, all_map}
-use Rattle.g1_frontier.proofs.Seeds.{flat_of_map}
+use Rattle.g1_frontier.proofs.Scopes.{all_map}
 use Rattle.g1_words.proofs.Ordered.{Ordered, pairs_from_ordered}
+use Rattle.g1_words.proofs.Lists.{all_in}
 
 -- the order of pairs
 abbrev pub pair_cmp : ℕ × ℕ → ℕ × ℕ → Option Ordering
@@ -130,7 +131,7 @@ pub all_given : (merged : List (ℕ × ℕ)) (vs : List (Vec (ℕ × ℕ) Global
     IsPermutation (joined_lists (map (λ v. v.items) vs)) (got ++ rest) → rest ≡ [] → merged ≡ got → IsPermutation (flat_map (λ v. v.items) vs) merged
 all_given merged vs got rest p e f =
     subst (λ (q : List (ℕ × ℕ) × List (ℕ × ℕ)). IsPermutation q.0 q.1) (λ i.
-    (flat_of_map (λ (l : List (ℕ × ℕ)). l) (λ (v : Vec (ℕ × ℕ) Global). v.items) vs i, (ap (λ l. got ++ l) e ∙ append-nil got ∙ sym f) i)) p
+    (flat_map-map (λ (l : List (ℕ × ℕ)). l) (λ (v : Vec (ℕ × ℕ) Global). v.items) vs i, (ap (λ l. got ++ l) e ∙ append-nil got ∙ sym f) i)) p
 
 pub all_sorted : (vs : List (Vec (ℕ × ℕ) Global)) → All (λ v. AllPairs (λ q r. q.0 < r.0) v.items) vs → All (IsSortedBy (partial_lt pair_cmp)) (map (λ v. v.items) vs)
 all_sorted vs h = all_map (IsSortedBy (partial_lt pair_cmp)) (λ v. v.items) vs (λ v i. sorted_from_rising v.items (all_in (λ v. AllPairs (λ q r. q.0 < r.0) v.items) vs v h i))

@@ -1,7 +1,6 @@
 -- What items name, slot by slot.
-use Rattle.std.proofs.Common.{◌≡◌, ◌≤◌, ◌<◌, ℕ, zero, suc, ◌+◌, ◌-◌, ◌*◌, ◌%◌, ◌^◌, inl, inr, Bool, true, false, cond, List, [], ◌∷◌, ◌++◌, length, get_or, take, filter, flat_map, Contains}
-use Rattle.std.proofs.Common.{arith, refl, sym, ap, subst, ◌∙◌, append_assoc, append-nil}
-use Rattle.std.specs.List.{range_with_len}
+use Rattle.std.proofs.Common.{◌≤◌, ◌<◌, ℕ, ◌+◌, ◌-◌, ◌%◌, ◌^◌, length, get_or, Contains}
+use Rattle.std.proofs.Common.{arith}
 use Rattle.g1_words.specs.Heap.{Heap, word, objects, object_at, slots}
 use Rattle.g1_words.specs.Valid.{IsValid, IsReference}
 use Rattle.g1_words.specs.declared.object.Object.{Object}
@@ -10,18 +9,6 @@ use Rattle.g1_words.proofs.Computed.{contains_has, range_above, range_below}
 use Rattle.g1_words.proofs.Members.{In, In-from_contains, Contains-from_in, filter_member, flat_map_cases}
 use Rattle.g1_words.proofs.Sound.{sound}
 use Rattle.g1_rem.specs.Slots.{all_slots, slots_on}
-
-pub range_push : (a n : ℕ) → range_with_len a n ++ (a + n) ∷ [] ≡ range_with_len a (suc n)
-range_push a zero = let e : a + 0 ≡ a = omega arith in ap (λ x. x ∷ []) e
-range_push a (suc n) =
-    let e : a + suc n ≡ a + 1 + n = omega arith in
-    ap (λ x. a ∷ (range_with_len (a + 1) n ++ x ∷ [])) e ∙ ap (λ l. a ∷ l) (range_push (a + 1) n)
-
-pub range_more : (a p : ℕ) → a ≤ p → range_with_len a (p - a) ++ p ∷ [] ≡ range_with_len a (p + 1 - a)
-range_more a p le =
-    let e : p ≡ a + (p - a) = omega (arith, le) in
-    let f : suc (p - a) ≡ p + 1 - a = omega (arith, le) in
-    ap (λ x. range_with_len a (p - a) ++ x ∷ []) e ∙ range_push a (p - a) ∙ ap (range_with_len a) f
 
 module _ (h : Heap) (valid : IsValid h) where
   -- an object's slots are among the words

@@ -8,6 +8,7 @@ use Rattle.g1_words.specs.Survivors.{firsts}
 use Rattle.g1_words.specs.Valid.{IsValid}
 use Rattle.g1_words.proofs.Members.{In}
 use Rattle.g1_words.proofs.Ordered.{Ordered, Ordered-from_pairs}
+use Rattle.g1_words.proofs.Lists.{all_in, all_from_in}
 use Rattle.g1_frontier.specs.declared.item.Item.{Item}
 use Rattle.g1_frontier.specs.Items.{all_pairs}
 use Rattle.g1_frontier.specs.Laws.{IsNextRound, Rounds, none, round, referenced, survivors_of, RoundFindsNew, WordsNumber, ObjectsNumber}
@@ -19,7 +20,6 @@ use Rattle.g1_frontier.proofs.Claimed.{all_begin}
 use Rattle.g1_frontier.proofs.Finding.{new_found, found_on, claimed_on, ranks_on}
 use Rattle.g1_frontier.proofs.Marks.{firsts_again}
 use Rattle.g1_frontier.proofs.Numberings.{numbered_by_word, numbered_by_object}
-use Rattle.g1_frontier.proofs.Scopes.{all_in, all_from_in}
 
 -- a rank that is above all offered before, and no greater than those of a round
 record Parts (before : List Offer) (ps : List (ℕ × ℕ)) : Type 0 where

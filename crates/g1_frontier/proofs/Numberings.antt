@@ -13,6 +13,8 @@ use Rattle.g1_words.proofs.Members.{In, In-from_contains, Contains-from_in, In-m
 use Rattle.g1_words.proofs.Sound.{sound, has_is}
 use Rattle.g1_frontier.specs.Numbers.{BeginsIn, IsNumbering, AreStarts, number_at, and_marked, places_from}
 use Rattle.g1_words.specs.Geometry.{most_words}
+use Rattle.g1_words.proofs.Lists.{range_push, same_there, all_in}
+use Rattle.g1_words.proofs.Indices.{get_or-In}
 use Rattle.g1_rem.specs.Starts.{IsStartsOf}
 use Rattle.g1_frontier.specs.declared.scope.Numbering.{Numbering}
 use Rattle.g1_frontier.specs.declared.scope.Numbering.TheVariants.{Words, Objects}
@@ -21,10 +23,8 @@ use Rattle.g1_frontier.specs.Scope.{IsScope, Covers, count_by_numbering, place_b
 use Rattle.g1_frontier.specs.Window.{AreRegions, AreWindowPositions, place, position}
 use Rattle.g1_frontier.proofs.Begins.{length-marked, listed_mark, mark_listed, marked_append}
 use Rattle.g1_frontier.proofs.Counts.{number_rises, number_apart}
-use Rattle.g1_frontier.proofs.Names.{range_push}
 use Rattle.g1_frontier.proofs.Places.{stands, read_at, place_below, place_apart}
-use Rattle.g1_frontier.proofs.Positions.{offset_is, same_there}
-use Rattle.g1_frontier.proofs.Scopes.{all_in, In-get}
+use Rattle.g1_frontier.proofs.Positions.{offset_is}
 
 -- where the objects of the window begin among its words, for the first so many of its regions
 abbrev pub places_to : Heap → List ℕ → ℕ → List ℕ
@@ -81,7 +81,7 @@ module _ (h : Heap) (window : List ℕ) (valid : IsValid h) (rising : AreRegions
       let o : Object = q.0 in
       let c = Contains-from_in (objects_in h r) o q.1 in
       let home : o.at / w ≡ r = (sound h valid).in_region r o c in
-      let low : r < h.geometry.n = all_in (λ x. x < h.geometry.n) window r rising.below (In-get window n 0 lt) in
+      let low : r < h.geometry.n = all_in (λ x. x < h.geometry.n) window r rising.below (get_or-In window n 0 lt) in
       let has_it = in_region_has h r o valid.shaped low c in
       let at = read_at window r n rising.rise lt refl in
       let spot : place h window o.at ≡ f o =

@@ -7,11 +7,11 @@ use Rattle.std.proofs.lemmas.Nat.{div-add-mod'}
 use Rattle.std.proofs.Math.Nat.{mod-lt, mul-le-mul_right, mul-le-mul_left}
 use native.Mathlib.Decide.{dec_le}
 use Rattle.g1_work.specs.Each.{RisesBelow, chunks_of}
-use Rattle.g1_words.proofs.Members.{In, In-append_cases, In-flat_map, flat_map_cases}
+use Rattle.g1_words.proofs.Members.{In, In-flat_map, flat_map_cases}
 use Rattle.g1_words.proofs.Ordered.{Ordered}
 use Rattle.g1_words.proofs.Rising.{Ordered-flat_map}
+use Rattle.g1_words.proofs.Indices.{taken_in}
 use Rattle.g1_work.specs.Regions.{slice_of}
-use Rattle.g1_frontier.proofs.Scopes.{In-take}
 
 drop_all : {A : Type 0} (ys : List A) (n : ℕ) → length ys ≤ n → drop n ys ≡ []
 drop_all [] zero l = refl
@@ -140,7 +140,7 @@ module _ {A B : Type 0} (R : B → B → Type 0) (f : A → List B) (size : ℕ)
       let p = flat_map_cases f (slice_of size j xs) x a in
       let q = flat_map_cases f (slice_of size k xs) y b in
       (cut (k * size)).2 x y (In-flat_map f (take (k * size) xs) p.0 x (early size (j * size) (k * size) xs p.0 (omega (arith, m)) p.1) p.2)
-      (In-flat_map f (drop (k * size) xs) q.0 y (In-take size (drop (k * size) xs) q.0 q.1) q.2)
+      (In-flat_map f (drop (k * size) xs) q.0 y (taken_in size (drop (k * size) xs) q.0 q.1) q.2)
 
   -- chunks that rise have pieces in order
   pub some_pieces : {O : Type 0} (n : ℕ) (cs : List (ℕ × O)) → RisesBelow n (chunks_of cs) → Ordered R (flat_map (λ c. flat_map f (slice_of size c.0 xs)) cs)

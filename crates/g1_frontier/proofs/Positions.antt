@@ -1,5 +1,5 @@
 -- The table that tells where each region stands in the window.
-use Rattle.std.proofs.Common.{◌≡◌, ◌≢◌, ℕ, zero, suc, ◌+◌, ◌-◌, ◌*◌, ◌/◌, ◌%◌, ◌<◌, ◌≤◌, inl, inr, Bool, true, false, cond, List, length, get_or, set, replicate, refl, sym, ◌∙◌, ap, subst}
+use Rattle.std.proofs.Common.{◌≡◌, ◌≢◌, ℕ, ◌+◌, ◌-◌, ◌*◌, ◌/◌, ◌%◌, ◌<◌, ◌≤◌, inl, inr, Bool, true, false, cond, List, length, get_or, set, replicate, refl, sym, ◌∙◌, ap, subst}
 use Rattle.std.proofs.Common.{arith, div-add-mod'}
 use Rattle.std.proofs.lemmas.Bool.{cases_lt}
 use Rattle.std.proofs.lemmas.List.{get_or-set_same, get_or-set_other}
@@ -7,20 +7,15 @@ use Rattle.std.proofs.lemmas.List.Kept.{AllPairs-from_increasing}
 use Rattle.std.specs.List.Sorted.{IsStrictlyIncreasing}
 use Rattle.g1_words.specs.Lists.{has}
 use Rattle.g1_words.proofs.Members.{In, has_from_in, in_from_has}
+use Rattle.g1_words.proofs.Lists.{same_there}
+use Rattle.g1_words.proofs.Indices.{get_or-In}
 use Rattle.g1_frontier.specs.Window.{AreWindowPositions, position}
 use Rattle.g1_frontier.proofs.Places.{stands}
-use Rattle.g1_frontier.proofs.Scopes.{In-get}
 
 -- the first n regions of the window are noted
 pub record Noted (window : List ℕ) (n : ℕ) (positions : List ℕ) : Type 0 where
   pub noted : (p : ℕ) → p < n → get_or positions (get_or window p 0) 0 ≡ p + 1
   pub other : (r : ℕ) → ((p : ℕ) → p < n → get_or window p 0 ≢ r) → get_or positions r 0 ≡ 0
-
--- a list of one value has it everywhere, and past its end
-pub same_there : {A : Type 0} (d : A) (n r : ℕ) → get_or (replicate n d) r d ≡ d
-same_there d zero r = refl
-same_there d (suc n) zero = refl
-same_there d (suc n) (suc r) = same_there d n r
 
 pub Noted-start : (window : List ℕ) (n : ℕ) (positions : List ℕ) → positions ≡ replicate n 0 → Noted window 0 positions
 Noted-start window n positions e = record {
@@ -50,7 +45,7 @@ Noted-end window n positions e k r = at (has window r) refl
         let s = stands window r (in_from_has window r t) in
         ap (λ x. get_or positions x 0) (sym s.1) ∙ k.noted (position window r) (omega (arith, s.0, e)) ∙ ap (λ b. cond b (position window r + 1) 0) (sym t)
     at false f =
-        k.other r (λ p below same. not_both (sym (has_from_in window r (subst (In window) same (In-get window p 0 (omega (arith, below, e))))) ∙ f))
+        k.other r (λ p below same. not_both (sym (has_from_in window r (subst (In window) same (get_or-In window p 0 (omega (arith, below, e))))) ∙ f))
         ∙ ap (λ b. cond b (position window r + 1) 0) (sym f)
       where
         not_both : true ≡ false → ⊥

@@ -19,6 +19,7 @@ use Rattle.g1_words.proofs.Firsts.{Distinct, Distinct-firsts, firsts_member, fir
 use Rattle.g1_words.proofs.Members.{In, In-from_contains, Contains-from_in, In-append_cases, flat_map_cases}
 use Rattle.g1_words.proofs.OneToOne.{reached_object}
 use Rattle.g1_words.proofs.Sound.{sound}
+use Rattle.g1_words.proofs.Lists.{has_more, same_there, all_from_in}
 use Rattle.g1_rem.specs.Slots.{slots_on}
 use Rattle.g1_frontier.specs.declared.queue.Queue.{Queue}
 use Rattle.g1_frontier.specs.declared.scope.Scope.{Scope}
@@ -28,15 +29,14 @@ use Rattle.g1_frontier.specs.Scope.{IsScope, inside, names_in, place_in, place_c
 use Rattle.g1_frontier.specs.Found.{slots_into}
 use Rattle.g1_frontier.specs.Queue.{card_leads, card_names, object_names, HasFound, HasNoted, IsUnderWay}
 use Rattle.g1_frontier.proofs.Finding.{same_test}
-use Rattle.g1_frontier.proofs.Links.{has_snoc}
 use Rattle.g1_frontier.proofs.Marks.{firsts_again, firsts_more}
 use Rattle.g1_frontier.proofs.Places.{past_regions}
-use Rattle.g1_frontier.proofs.Positions.{same_there}
 use Rattle.g1_frontier.proofs.Names.{size_small}
-use Rattle.g1_frontier.proofs.Scopes.{apart, below, some_words, all_from_in, all_of_map}
+use Rattle.g1_frontier.proofs.Scopes.{apart, below, some_words, all_of_map}
 use Rattle.g1_frontier.proofs.Searching.{distinct_few}
 use Rattle.g1_frontier.proofs.Seeds.{filter_flat, flat_same, leads_named, seeds_named}
 use Rattle.g1_frontier.proofs.Turns.{take_longer, take_parts, in_front, in_rest, ends}
+use mathlib.Core.List.{map-map}
 
 -- ---- first occurrences
 
@@ -51,10 +51,6 @@ firsts_new : (found : List ℕ) (a : ℕ) → found ≡ firsts found → has fou
 firsts_new found a once e = sym (firsts_one found a once ∙ ap (λ b. found ++ cond (not b) (a ∷ []) []) e)
 
 -- ---- lists
-
-map_of_map : {A B C : Type 0} (f : B → C) (g : A → B) (xs : List A) → map f (map g xs) ≡ map (λ x. f (g x)) xs
-map_of_map f g [] = refl
-map_of_map f g (x ∷ xs) = ap (λ l. f (g x) ∷ l) (map_of_map f g xs)
 
 -- what one member more lists
 pub listed_more : {A B : Type 0} (f : A → List B) (xs : List A) (n : ℕ) (d : A) (old before after : List B) → n < length xs → before ≡ old ++ flat_map f (take n xs)
@@ -127,7 +123,7 @@ module _ (s : Scope) (ok : IsScope s) where
               ap (λ l. get_or l (place_in s c) false) marks
               ∙ mark_more a.marks (place_in s x) (place_in s c) (omega (arith, room, f.places))
               ∙ (λ k. f.marked c j k || same_test (place_in s) (BeginsIn s.heap.now s.window.now) (λ x y u v e. apart s ok x u y v e) c x j i k)
-              ∙ sym (ap (λ l. has l c) found ∙ has_snoc a.found.items x c);
+              ∙ sym (ap (λ l. has l c) found ∙ has_more a.found.items x c);
           once = all_of ∙ sym (ap firsts all_of ∙ firsts_again (a.found.items ++ x ∷ []));
           within =
               subst (All (λ a. inside s a ≡ true)) (sym found)
@@ -231,7 +227,7 @@ module _ (s : Scope) (ok : IsScope s) where
         → (old new : List ℕ) (ahead : List Object) → old ≡ sizes_of s.heap.now (take from a.found.items) → ahead ≡ map (object_at s.heap.now) (take n (drop from a.found.items))
         → new ≡ old ++ map (λ o. o.size) ahead → new ≡ sizes_of s.heap.now (take to b.found.items)
     batch_sized to sum b le x old new ahead o h e =
-        e ∙ (λ i. o i ++ map (λ o. o.size) (h i)) ∙ ap (λ l. sizes_of s.heap.now (take from a.found.items) ++ l) (map_of_map (λ o. o.size) (object_at s.heap.now) batch)
+        e ∙ (λ i. o i ++ map (λ o. o.size) (h i)) ∙ ap (λ l. sizes_of s.heap.now (take from a.found.items) ++ l) (map-map (λ o. o.size) (object_at s.heap.now) batch)
         ∙ sym (map-append (λ c. (object_at s.heap.now c).size) (take from a.found.items) batch) ∙ ap (sizes_of s.heap.now) (sym (batch_behind to sum b le x))
 
     -- they fit 32 bits

@@ -5,6 +5,8 @@ use Rattle.std.specs.List.{range_with_len}
 use Rattle.std.proofs.lemmas.List.Sums.{sum_by-cons}
 use Rattle.std.proofs.lemmas.Grind.{flat_map-append}
 use Rattle.std.proofs.lemmas.List.Kept.{AllPairs-from_increasing}
+use Rattle.std.proofs.lemmas.List.Folds.{flat_map-map}
+use Rattle.std.proofs.lemmas.List.{map-append}
 use Rattle.g1_words.specs.Heap.{Heap, word, slots, object_at, card_of}
 use Rattle.g1_words.specs.References.{named}
 use Rattle.g1_words.specs.Survivors.{in_set, children, seeds}
@@ -20,7 +22,7 @@ use Rattle.g1_frontier.specs.Window.{AreCards, AreOutside, LeadIn}
 use Rattle.g1_frontier.specs.Items.{aims, pairs, all_pairs, root_items, first_items, object_items, slot_count}
 use Rattle.g1_frontier.proofs.Assembly.{RankLess}
 use Rattle.g1_frontier.proofs.Names.{slot_in_words}
-use Rattle.g1_frontier.proofs.Seeds.{filter_flat, map_flat, flat_of_map, map_append, seeds_named, slots_ordered, apart}
+use Rattle.g1_frontier.proofs.Seeds.{filter_flat, map_flat, seeds_named, slots_ordered, apart}
 
 module _ (h : Heap) (window : List ℕ) where
   -- ---- one word
@@ -99,7 +101,7 @@ module _ (h : Heap) (window : List ℕ) where
   pub objects_name : (base : ℕ) (all_of : List ℕ) → map (λ (q : ℕ × ℕ). q.1) (all_pairs h window (object_items h base all_of)) ≡ flat_map (children h window) all_of
   objects_name base [] = refl
   objects_name base (a ∷ rest) =
-      map_append (λ (q : ℕ × ℕ). q.1) (pairs h window (Object a base)) (all_pairs h window (object_items h (base + slot_count h a) rest))
+      map-append (λ (q : ℕ × ℕ). q.1) (pairs h window (Object a base)) (all_pairs h window (object_items h (base + slot_count h a) rest))
       ∙ (λ i. aimed_names (λ p. base + (p - (a + 1))) (word h) (slots (object_at h a)) i ++ objects_name (base + slot_count h a) rest i)
 
   pub objects_some : (base : ℕ) (all_of : List ℕ) (i : Item) → In (object_items h base all_of) i → (a : ℕ) × (b : ℕ) × In all_of a × (Object a b ≡ i)
@@ -114,7 +116,7 @@ module _ (h : Heap) (window : List ℕ) where
   -- ---- roots
 
   roots_pairs : (ns : List ℕ) → all_pairs h window (map Root ns) ≡ flat_map (λ n. aims h window n (get_or h.roots n 0)) ns
-  roots_pairs ns = flat_of_map (pairs h window) Root ns
+  roots_pairs ns = flat_map-map (pairs h window) Root ns
 
   read_range : (f : ℕ → List ℕ) (pre xs : List ℕ) → flat_map (λ n. f (get_or (pre ++ xs) n 0)) (range_with_len (length pre) (length xs)) ≡ flat_map f xs
   read_range f pre [] = refl
@@ -145,7 +147,7 @@ module _ (h : Heap) (window : List ℕ) where
 
   module _ (valid : IsValid h) (cards : List ℕ) (rising : AreCards h cards) (outside : AreOutside h window cards) (lead_in : LeadIn h window cards) (base : ℕ) where
     cards_pairs : all_pairs h window (map (λ c. Card c base) cards) ≡ flat_map (λ c. flat_map (λ p. aims h window (base + p) (word h p)) (slots_on h c)) cards
-    cards_pairs = flat_of_map (pairs h window) (λ c. Card c base) cards
+    cards_pairs = flat_map-map (pairs h window) (λ c. Card c base) cards
 
     card_rank : (c : ℕ) (q : ℕ × ℕ) → In (flat_map (λ p. aims h window (base + p) (word h p)) (slots_on h c)) q → (p : ℕ) × In (slots_on h c) p × (q.0 ≡ base + p)
     card_rank c q i = aimed_rank (λ p. base + p) (word h) (slots_on h c) q i
@@ -204,6 +206,6 @@ module _ (h : Heap) (window : List ℕ) where
     pub first_name : map (λ (q : ℕ × ℕ). q.1) (all_pairs h window (first_items (length h.roots) cards)) ≡ seeds h window
     first_name =
         ap (map (λ (q : ℕ × ℕ). q.1)) split
-        ∙ map_append (λ (q : ℕ × ℕ). q.1) (all_pairs h window (root_items (length h.roots))) (all_pairs h window (map (λ c. Card c (length h.roots)) cards))
+        ∙ map-append (λ (q : ℕ × ℕ). q.1) (all_pairs h window (root_items (length h.roots))) (all_pairs h window (map (λ c. Card c (length h.roots)) cards))
         ∙ (λ i. roots_name i ++ cards_name valid cards rising outside lead_in (length h.roots) i)
         ∙ seeds_named h window cards valid rising outside lead_in

@@ -2,15 +2,16 @@
 use Rattle.std.proofs.Common.{◌≡◌, ◌≤◌, ◌<◌, ℕ, zero, suc, ◌+◌, ◌*◌, inl, inr, Bool, true, false, cond, List, [], ◌∷◌, length, get_or, take, drop, map, flat_map, arith, refl, sym, ap, subst, ◌∙◌}
 use Rattle.std.specs.List.{All}
 use Rattle.std.proofs.lemmas.List.Kept.{AllPairs-from_increasing}
-use Rattle.std.proofs.lemmas.List.{take_all}
+use Rattle.std.proofs.lemmas.List.{take_all, get_or_default}
 use Rattle.std.proofs.lemmas.List.Sums.{count_by-le-length}
 use Rattle.std.proofs.Math.Nat.{mul-le-mul_right}
 use Rattle.g1_words.specs.Geometry.{most_words}
 use Rattle.g1_words.specs.References.{named}
 use Rattle.g1_words.specs.Valid.{IsReference}
 use Rattle.g1_words.proofs.Sound.{reference_named}
-use Rattle.g1_words.proofs.Members.{In, In-from_contains, Contains-from_in, In-flat_map, flat_map_cases, filter_member}
+use Rattle.g1_words.proofs.Members.{In, In-flat_map, flat_map_cases}
 use Rattle.g1_words.proofs.Ordered.{Ordered, Ordered-from_pairs}
+use Rattle.g1_words.proofs.Lists.{all_in, all_from_in}
 use Rattle.g1_frontier.specs.declared.scope.Scope.{Scope}
 use Rattle.g1_frontier.specs.declared.scope.Numbering.{Numbering}
 use Rattle.g1_frontier.specs.declared.scope.Numbering.TheVariants.{Words, Objects}
@@ -31,23 +32,9 @@ names_inside s x a e t = let f : x ≡ suc a = omega (arith, e) in ap (names_in 
 
 -- ---- reading lists
 
-pub get_any : {A : Type 0} (xs : List A) (n : ℕ) (d e : A) → n < length xs → get_or xs n d ≡ get_or xs n e
-get_any [] n d e lt = absurd (omega (arith, lt))
-get_any (x ∷ xs) zero d e lt = refl
-get_any (x ∷ xs) (suc n) d e lt = get_any xs n d e (omega (arith, lt))
-
 -- what was read at an index is what stands there
 pub read : {A : Type 0} (xs : List A) (i j : ℕ) (o v d : A) → i ≡ j → j < length xs → o ≡ get_or xs i o → o ≡ v → get_or xs j d ≡ v
-read xs i j o v d same lt e f = get_any xs j d o lt ∙ ap (λ k. get_or xs k o) (sym same) ∙ sym e ∙ f
-
-pub In-get : {A : Type 0} (xs : List A) (i : ℕ) (d : A) → i < length xs → In xs (get_or xs i d)
-In-get xs i d lt = In-from_contains xs (get_or xs i d) (i, lt, get_any xs i (get_or xs i d) d lt)
-
-pub all_in : {A : Type 0} (P : A → Type 0) (xs : List A) (x : A) → All P xs → In xs x → P x
-all_in P xs x h i = let c = Contains-from_in xs x i in subst P c.2 (h c.0 x c.1)
-
-pub all_from_in : {A : Type 0} (P : A → Type 0) (xs : List A) → ((x : A) → In xs x → P x) → All P xs
-all_from_in P xs h = λ k d lt. h (get_or xs k d) (In-get xs k d lt)
+read xs i j o v d same lt e f = get_or_default xs j d o lt ∙ ap (λ k. get_or xs k o) (sym same) ∙ sym e ∙ f
 
 pub all_map : {A B : Type 0} (P : B → Type 0) (f : A → B) (xs : List A) → ((x : A) → In xs x → P (f x)) → All P (map f xs)
 all_map P f xs h = all_from_in P (map f xs) (λ y i. let m = Rattle.g1_words.proofs.Members.map_cases f xs y i in subst P m.2 (h m.0 m.1))
@@ -65,12 +52,6 @@ all_part P f xs x h i = all_from_in P (f x) (λ y j. all_in P (flat_map f xs) y 
 
 pub all_some : {A B : Type 0} (P : B → Type 0) (f : A → List B) (xs ys : List A) → ((x : A) → In ys x → In xs x) → All P (flat_map f xs) → All P (flat_map f ys)
 all_some P f xs ys s h = all_from_in P (flat_map f ys) (λ y j. let m = flat_map_cases f ys y j in all_in P (flat_map f xs) y h (In-flat_map f xs m.0 y (s m.0 m.1) m.2))
-
-pub In-take : {A : Type 0} (n : ℕ) (xs : List A) (x : A) → In (take n xs) x → In xs x
-In-take zero xs x i = absurd i
-In-take (suc n) [] x i = i
-In-take (suc n) (y ∷ ys) x (inl e) = inl e
-In-take (suc n) (y ∷ ys) x (inr i) = inr (In-take n ys x i)
 
 pub In-drop : {A : Type 0} (n : ℕ) (xs : List A) (x : A) → In (drop n xs) x → In xs x
 In-drop zero xs x i = i

@@ -1,6 +1,6 @@
 -- A search from round to round.
-use Rattle.std.proofs.Common.{◌≡◌, ◌≢◌, ℕ, zero, suc, ◌+◌, ◌*◌, ◌<◌, ◌≤◌, ◌^◌, inl, inr, ◌⊎◌, List, [], ◌∷◌, ◌++◌, map, flat_map, length, take, drop, sum_by, refl, sym, ap, subst, ◌∙◌}
-use Rattle.std.proofs.Common.{arith, All, Contains, length-append, get_or}
+use Rattle.std.proofs.Common.{◌≡◌, ◌≢◌, ℕ, suc, ◌+◌, ◌*◌, ◌<◌, ◌≤◌, ◌^◌, inl, inr, ◌⊎◌, List, [], ◌∷◌, ◌++◌, map, flat_map, length, take, drop, sum_by, refl, sym, ap, subst, ◌∙◌}
+use Rattle.std.proofs.Common.{arith, All, Contains, length-append, get_or, take-append-drop}
 use Rattle.std.specs.List.{range_with_len}
 use Rattle.std.proofs.Math.Nat.{div-le_self, mul-le-mul_right}
 use Rattle.std.proofs.lemmas.Bool.Decides.{Decides-eqb}
@@ -24,6 +24,7 @@ use Rattle.g1_words.proofs.OneToOne.{reached_object}
 use Rattle.g1_words.proofs.Ordered.{Ordered, Ordered-from_pairs, pairs_from_ordered}
 use Rattle.g1_words.proofs.Rising.{Ordered-flat_map, Ordered-range, IsBefore, objects_apart}
 use Rattle.g1_words.proofs.Sound.{sound}
+use Rattle.g1_words.proofs.Lists.{Distinct-differ, range_push, all_in, all_from_in}
 use Rattle.g1_rem.specs.Starts.{card_count}
 use Rattle.g1_frontier.specs.declared.item.Item.{Item}
 use Rattle.g1_frontier.specs.declared.item.Item.TheVariants.{Root, Card, Object as ObjectItem}
@@ -35,12 +36,12 @@ use Rattle.g1_frontier.specs.Search.{IsSearchBy}
 use Rattle.g1_frontier.proofs.Assembly.{RankLess}
 use Rattle.g1_frontier.proofs.Finding.{found_on, claimed_on, ranks_on}
 use Rattle.g1_frontier.proofs.Marks.{firsts_again}
-use Rattle.g1_frontier.proofs.Names.{object_in_words, range_push}
+use Rattle.g1_frontier.proofs.Names.{object_in_words}
 use Rattle.g1_frontier.proofs.Claimed.{all_begin}
 use Rattle.g1_frontier.specs.Numbers.{BeginsIn, IsNumbering}
 use Rattle.g1_frontier.proofs.Ranks.{objects_range, objects_rise, objects_name, objects_some, objects_count, first_rise, first_range, first_name}
-use Rattle.g1_frontier.proofs.Scopes.{all_in, all_from_in, all_map, rising_few}
-use Rattle.g1_frontier.proofs.Turns.{length_rest, take_front, take_drop, in_rest, begins, begins_reached, turn, turn_reached}
+use Rattle.g1_frontier.proofs.Scopes.{all_map, rising_few}
+use Rattle.g1_frontier.proofs.Turns.{length_rest, take_front, in_rest, begins, begins_reached, turn, turn_reached}
 
 -- ---- lists of items
 
@@ -70,14 +71,10 @@ items_more h base all_of i lt = sym (items_snoc h base (take i all_of) (get_or a
 
 -- ---- slots are few
 
-differ : (all_of : List ℕ) → Distinct all_of → Ordered (λ x y. x ≢ y) all_of
-differ [] d = tt
-differ (a ∷ all_of) d = ((λ y i e. d.0 (subst (In all_of) (sym e) i)), differ all_of d.1)
-
 -- different numbers below a bound are no more than it
 pub distinct_few : (all_of : List ℕ) (bound : ℕ) → Distinct all_of → ((a : ℕ) → In all_of a → a < bound) → length all_of ≤ bound
 distinct_few all_of bound d low =
-    length-le_from_distinct_below all_of bound (IsDistinct-from_AllPairs Decides-eqb all_of (pairs_from_ordered (λ x y. x ≢ y) all_of (differ all_of d))) (λ q e. low q (in_from_has all_of q e))
+    length-le_from_distinct_below all_of bound (IsDistinct-from_AllPairs Decides-eqb all_of (pairs_from_ordered (λ x y. x ≢ y) all_of (Distinct-differ all_of d))) (λ q e. low q (in_from_has all_of q e))
 
 either : {A : Type 0} (R : A → A → Type 0) (xs : List A) (x y : A) → Ordered R xs → In xs x → In xs y → (x ≡ y) ⊎ (R x y ⊎ R y x)
 either R [] x y o i j = absurd i
@@ -122,7 +119,7 @@ module _ (h : Heap) (valid : IsValid h) where
     slot_total =
         let all : List ℕ = flat_map (λ a. slots (object_at h a)) all_of in
         let apart : Ordered (λ x y. x ≢ y) (flat_map (λ a. slots (object_at h a)) all_of) =
-        Ordered-flat_map (λ x y. x ≢ y) (λ x y. x ≢ y) (λ a. slots (object_at h a)) all_of (differ all_of distinct)
+        Ordered-flat_map (λ x y. x ≢ y) (λ x y. x ≢ y) (λ a. slots (object_at h a)) all_of (Distinct-differ all_of distinct)
         (λ a i. range_differs (slots (object_at h a)) (Ordered-range (a + 1) (slot_count h a))) (λ a b p q i j ne k l. slots_differ a b p q i j ne k l) in
         let few = length-le_from_distinct_below all (length h.words) (IsDistinct-from_AllPairs Decides-eqb all (pairs_from_ordered (λ x y. x ≢ y) all apart))
         (λ q e. let m = flat_map_cases (λ a. slots (object_at h a)) all_of q (in_from_has all q e) in
@@ -228,7 +225,7 @@ module _ (h : Heap) (valid : IsValid h) where
     found_few = object_total s.found.items distinct found_objects
 
     total_parts : sum_by (slot_count h) (take s.from s.found.items) + sum_by (slot_count h) (drop s.from s.found.items) ≡ sum_by (slot_count h) s.found.items
-    total_parts = sym (sum_by-append (slot_count h) (take s.from s.found.items) (drop s.from s.found.items)) ∙ ap (sum_by (slot_count h)) (take_drop s.from s.found.items)
+    total_parts = sym (sum_by-append (slot_count h) (take s.from s.found.items) (drop s.from s.found.items)) ∙ ap (sum_by (slot_count h)) (take-append-drop s.from s.found.items)
 
     pub rest_objects : All (λ a. Contains (objects h) (object_at h a)) (drop s.from s.found.items)
     rest_objects = all_from_in (λ a. Contains (objects h) (object_at h a)) (drop s.from s.found.items) (λ a i. found_objects a (in_rest s.from s.found.items a i))

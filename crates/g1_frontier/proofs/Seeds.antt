@@ -4,9 +4,9 @@ use Rattle.std.proofs.Common.{sym, ap, subst, ◌∙◌, eqb, eqb-true, eq-eqb}
 use Rattle.std.proofs.lemmas.Nat.{le-div}
 use Rattle.std.proofs.Math.Nat.{div-mul-le_self}
 use Rattle.std.proofs.lemmas.Bool.{cases_lt, false≢true}
-use Rattle.std.proofs.lemmas.Grind.{flat_map-append}
 use Rattle.std.proofs.lemmas.List.Kept.{AllPairs-from_increasing}
 use Rattle.std.proofs.lemmas.List.Elements.{filter-append}
+use Rattle.std.proofs.lemmas.List.{map-append}
 use Rattle.g1_words.specs.Heap.{Heap, word, card_of, objects}
 use Rattle.g1_words.specs.Lists.{has}
 use Rattle.g1_words.specs.References.{Ref, named, refs_at, refs}
@@ -16,6 +16,7 @@ use Rattle.g1_words.proofs.Bounds.{cards_in_region, card_in_region}
 use Rattle.g1_words.proofs.Members.{In, In-from_contains, Contains-from_in, In-map, In-flat_map, In-filter, filter_member, flat_map_cases, has_from_in, in_from_has}
 use Rattle.g1_words.proofs.Ordered.{Ordered, Ordered-from_pairs, same_order}
 use Rattle.g1_words.proofs.Rising.{Ordered-flat_map, Ordered-filter}
+use Rattle.g1_words.proofs.Lists.{flat_of_flat, flat_of_filter}
 use Rattle.g1_rem.specs.Slots.{all_slots, slots_on}
 use Rattle.g1_rem.proofs.Rising.{Rises, Rises-above}
 use Rattle.g1_rem.proofs.Card.{all_rise}
@@ -29,27 +30,9 @@ pub filter_flat : {A B : Type 0} (p : B → Bool) (f : A → List B) (xs : List 
 filter_flat p f [] = refl
 filter_flat p f (x ∷ xs) = filter-append p (f x) (flat_map f xs) ∙ ap (λ l. filter p (f x) ++ l) (filter_flat p f xs)
 
-pub map_append : {A B : Type 0} (g : A → B) (xs ys : List A) → map g (xs ++ ys) ≡ map g xs ++ map g ys
-map_append g [] ys = refl
-map_append g (x ∷ xs) ys = ap (λ l. g x ∷ l) (map_append g xs ys)
-
 pub map_flat : {A B C : Type 0} (g : B → C) (f : A → List B) (xs : List A) → map g (flat_map f xs) ≡ flat_map (λ x. map g (f x)) xs
 map_flat g f [] = refl
-map_flat g f (x ∷ xs) = map_append g (f x) (flat_map f xs) ∙ ap (λ l. map g (f x) ++ l) (map_flat g f xs)
-
-pub flat_of_map : {A B C : Type 0} (f : B → List C) (g : A → B) (xs : List A) → flat_map f (map g xs) ≡ flat_map (λ x. f (g x)) xs
-flat_of_map f g [] = refl
-flat_of_map f g (x ∷ xs) = ap (λ l. f (g x) ++ l) (flat_of_map f g xs)
-
-flat_of_flat : {A B C : Type 0} (f : B → List C) (g : A → List B) (xs : List A) → flat_map (λ x. flat_map f (g x)) xs ≡ flat_map f (flat_map g xs)
-flat_of_flat f g [] = refl
-flat_of_flat f g (x ∷ xs) = ap (λ l. flat_map f (g x) ++ l) (flat_of_flat f g xs) ∙ sym (flat_map-append f (g x) (flat_map g xs))
-
-flat_of_filter : {A B : Type 0} (f : A → List B) (p : A → Bool) (xs : List A) → flat_map f (filter p xs) ≡ flat_map (λ x. cond (p x) (f x) []) xs
-flat_of_filter f p [] = refl
-flat_of_filter {A} f p (x ∷ xs) =
-    let more : flat_map f (filter p xs) ≡ flat_map (λ x. cond (p x) (f x) []) xs = flat_of_filter f p xs in
-    elim (p x) as (λ b. flat_map f (cond b (x ∷ filter p xs) (filter p xs)) ≡ cond b (f x) [] ++ flat_map (λ x. cond (p x) (f x) []) xs) [ true ↦ ap (λ l. f x ++ l) more | false ↦ more ]
+map_flat g f (x ∷ xs) = map-append g (f x) (flat_map f xs) ∙ ap (λ l. map g (f x) ++ l) (map_flat g f xs)
 
 -- two functions that agree on a list's members
 pub flat_same : {A B : Type 0} (f g : A → List B) (xs : List A) → ((x : A) → In xs x → f x ≡ g x) → flat_map f xs ≡ flat_map g xs

@@ -5,6 +5,7 @@ use Rattle.std.specs.Prelude.{slice_index_or}
 use Rattle.std.specs.List.{flat_map, enumerate_from, range_with_len}
 use Rattle.std.proofs.lemmas.List.Concat.{flat_map-append}
 use Rattle.std.proofs.lemmas.List.Sorted.{IsPermutation-trans, IsPermutation-sym, IsPermutation-append_comm}
+use Rattle.std.proofs.lemmas.List.Folds.{flat_map-map}
 use Rattle.itertools.proofs.KMergeLemmas.{flat-permutation}
 use Rattle.g1_work.specs.Each.{Ran, EachRan, IsEachRun, joined}
 use Rattle.g1_work.specs.Regions.{slice_of}
@@ -12,15 +13,13 @@ use Rattle.g1_claim.specs.Claims.{TableView, SeatView}
 use Rattle.g1_words.proofs.Members.{In, In-append_cases}
 use Rattle.g1_words.proofs.Ordered.{Ordered, pairs_from_ordered}
 use Rattle.g1_words.proofs.Rising.{Ordered-flat_map}
+use Rattle.g1_words.proofs.Lists.{all_in, all_from_in}
 use Rattle.g1_frontier.specs.declared.offering.Holder.{Holder}
 use Rattle.g1_frontier.specs.declared.offering.Span.{Span}
 use Rattle.g1_frontier.specs.Offering.{Try, pair_of, answered_true, HasTried, IsSpan, IsWithin, in_span}
-use Rattle.g1_frontier.specs.Round.{IsGivenOut, HasTaken, IsByRank, AreSpans}
-use Rattle.g1_frontier.proofs.Assembly.{RankLess, kept_ordered, ran_tried, last_apart, as_many}
-use Rattle.g1_frontier.proofs.Claimed.{in_some}
+use Rattle.g1_frontier.specs.Round.{IsGivenOut, HasTaken, AreSpans}
+use Rattle.g1_frontier.proofs.Assembly.{RankLess, kept_ordered, ran_tried, last_apart, as_many, in_kept}
 use Rattle.g1_frontier.proofs.Pieces.{at_end, piece_ordered, pieces_apart}
-use Rattle.g1_frontier.proofs.Scopes.{all_in, all_from_in}
-use Rattle.g1_frontier.proofs.Seeds.{flat_of_map}
 use Rattle.g1_frontier.proofs.Winning.{in_permuted}
 
 -- ---- lists
@@ -213,7 +212,7 @@ module _ {A : Type 0} (t : TableView) (place : ℕ → ℕ) (f : A → List (ℕ
       let has_out : (x : ℕ × Span) → In (enumerate_from 0 outs) x → Has place P runs says rooms x = λ x i.
       has x (in_permuted (enumerate_from 0 outs) (joined r.parts) x (IsPermutation-sym (joined r.parts) (enumerate_from 0 outs) r.once) i) in
       let all_of : flat_map (λ (x : ℕ × Span). in_span rooms x.1) (enumerate_from 0 outs) ≡ flat_map (in_span rooms) outs = flat_enumerated (in_span rooms) 0 outs in
-      let rooms_flat : flat_map (λ (l : List (ℕ × ℕ)). l) rooms ≡ X ++ Y = ap (λ l. X ++ l) (flat_of_map (λ (l : List (ℕ × ℕ)). l) (λ (h : Holder). h.kept.items) k.others) in
+      let rooms_flat : flat_map (λ (l : List (ℕ × ℕ)). l) rooms ≡ X ++ Y = ap (λ l. X ++ l) (flat_map-map (λ (l : List (ℕ × ℕ)). l) (λ (h : Holder). h.kept.items) k.others) in
       let moved : IsPermutation (X ++ Y) (flat_map (λ (x : ℕ × Span). in_span rooms x.1) (joined r.parts)) = subst (IsPermutation (X ++ Y)) (sym parts_flat) (IsPermutation-append_comm X Y) in
       let in_turn : Ordered RankLess (flat_map (λ (x : ℕ × Span). in_span rooms x.1) (enumerate_from 0 outs)) =
       Ordered-flat_map (λ (c d : ℕ × Span). c.0 < d.0) RankLess (λ x. in_span rooms x.1) (enumerate_from 0 outs) (enumerated_rise 0 outs)
@@ -221,7 +220,7 @@ module _ {A : Type 0} (t : TableView) (place : ℕ → ℕ) (f : A → List (ℕ
       (λ c d a b i j lt p q.
       let x = (has_out c i).1 in
       let y = (has_out d j).1 in
-      pieces_apart RankLess f size items o c.0 d.0 a b lt (subst (λ l. In l a) x.1 (in_some x.0 a (subst (λ l. In l a) x.2 p))) (subst (λ l. In l b) y.1 (in_some y.0 b (subst (λ l. In l b) y.2 q)))) in
+      pieces_apart RankLess f size items o c.0 d.0 a b lt (subst (λ l. In l a) x.1 (in_kept x.0 a (subst (λ l. In l a) x.2 p))) (subst (λ l. In l b) y.1 (in_kept y.0 b (subst (λ l. In l b) y.2 q)))) in
       let ordered : Ordered RankLess (flat_map (in_span rooms) outs) = subst (Ordered RankLess) all_of in_turn in
       let strictly = pairs_from_ordered RankLess (flat_map (in_span rooms) outs) ordered in
       subst (λ l. AreSpans l outs) (sym k.kept) (record {

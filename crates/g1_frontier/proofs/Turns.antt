@@ -1,9 +1,9 @@
 -- The search from round to round.
 use Rattle.std.proofs.Common.{◌≡◌, ℕ, zero, suc, ◌+◌, ◌-◌, ◌≤◌, inr, not, List, [], ◌∷◌, ◌++◌, filter, length, take, drop, refl, sym, ◌∙◌, ap, subst, arith, append_assoc, append-nil}
-use Rattle.std.proofs.Common.{length-append, ⊎_elim}
+use Rattle.std.proofs.Common.{length-append, ⊎_elim, take-append-drop}
 use Rattle.std.specs.List.{flat_map}
 use Rattle.std.proofs.lemmas.Grind.{flat_map-append}
-use Rattle.std.proofs.lemmas.List.{take-take, drop-take}
+use Rattle.std.proofs.lemmas.List.{take-take, drop-take, take_rest}
 use Rattle.g1_words.specs.Lists.{has}
 use Rattle.g1_words.specs.Live.{Reached, seed, child}
 use Rattle.g1_words.specs.Survivors.{firsts, IsBreadthFirst}
@@ -27,23 +27,14 @@ take_longer zero xs ys le = refl
 take_longer (suc n) [] ys le = absurd (omega (arith, le))
 take_longer (suc n) (x ∷ xs) ys le = ap (λ l. x ∷ l) (take_longer n xs ys (omega (arith, le)))
 
-pub take_drop : (n : ℕ) (ys : List ℕ) → take n ys ++ drop n ys ≡ ys
-take_drop zero ys = refl
-take_drop (suc n) [] = refl
-take_drop (suc n) (y ∷ ys) = ap (λ l. y ∷ l) (take_drop n ys)
-
 pub length_rest : (n : ℕ) (ys : List ℕ) → length (drop n ys) ≤ length ys - n
 length_rest zero ys = omega arith
 length_rest (suc n) [] = omega arith
 length_rest (suc n) (y ∷ ys) = let r = length_rest n ys in omega (arith, r)
 
--- a slice from i to the end
-pub rest_is : (xs : List ℕ) (i : ℕ) → take (length xs - i) (drop i xs) ≡ drop i xs
-rest_is xs i = take_all (drop i xs) (length xs - i) (length_rest i xs)
-
 -- a slice from i to the end is no longer than the list
 pub rest_few : (xs : List ℕ) (i : ℕ) → length (take (length xs - i) (drop i xs)) ≤ length xs
-rest_few xs i = let e : length (take (length xs - i) (drop i xs)) ≡ length (drop i xs) = ap length (rest_is xs i) in let r = length_rest i xs in omega arith
+rest_few xs i = let e : length (take (length xs - i) (drop i xs)) ≡ length (drop i xs) = ap length (take_rest xs i) in let r = length_rest i xs in omega arith
 
 pub in_rest : (n : ℕ) (ys : List ℕ) (a : ℕ) → In (drop n ys) a → In ys a
 in_rest zero ys a h = h
@@ -51,11 +42,11 @@ in_rest (suc n) [] a h = h
 in_rest (suc n) (y ∷ ys) a h = inr (in_rest n ys a h)
 
 pub in_front : (n : ℕ) (ys : List ℕ) (a : ℕ) → In (take n ys) a → In ys a
-in_front n ys a h = subst (λ l. In l a) (take_drop n ys) (In-append_left (take n ys) (drop n ys) a h)
+in_front n ys a h = subst (λ l. In l a) (take-append-drop n ys) (In-append_left (take n ys) (drop n ys) a h)
 
 -- what two parts take, one behind the other
 pub take_parts : (i n : ℕ) (xs : List ℕ) → take (i + n) xs ≡ take i xs ++ take n (drop i xs)
-take_parts i n xs = sym (take_drop i (take (i + n) xs)) ∙ (λ k. take-take i (i + n) xs (omega arith) k ++ drop-take i n xs k)
+take_parts i n xs = sym (take-append-drop i (take (i + n) xs)) ∙ (λ k. take-take i (i + n) xs (omega arith) k ++ drop-take i n xs k)
 
 module _ (seeds : List ℕ) (children : ℕ → List ℕ) where
   pub begins : (found : List ℕ) → found ≡ firsts ([] ++ seeds) → found ≡ firsts (seeds ++ [])
@@ -81,7 +72,7 @@ module _ (seeds : List ℕ) (children : ℕ → List ℕ) where
       let front : List ℕ = flat_map children (take from found) in
       let back : List ℕ = flat_map children (drop from found) in
       let same : take (length found) more ≡ found = ap (take (length found)) (grows found (seeds ++ front) more back e f) ∙ take_front found (filter (λ y. not (has found y)) (firsts back)) in
-      let whole : front ++ back ≡ flat_map children found = sym (flat_map-append children (take from found) (drop from found)) ∙ ap (flat_map children) (take_drop from found) in
+      let whole : front ++ back ≡ flat_map children found = sym (flat_map-append children (take from found) (drop from found)) ∙ ap (flat_map children) (take-append-drop from found) in
       f ∙ ap (λ l. firsts (l ++ back)) e ∙ firsts_more (seeds ++ front) back ∙ ap firsts (append_assoc seeds front back ∙ ap (λ l. seeds ++ l) (whole ∙ ap (flat_map children) (sym same)))
 
   pub turn_reached : (found more : List ℕ) (from : ℕ) → ((a : ℕ) → In found a → Reached seeds children a) →

@@ -9,13 +9,14 @@ use Rattle.g1_claim.proofs.Totals.{times_offered-append, times_won-append}
 use Rattle.g1_words.proofs.Members.{In, In-append_cases, In-map, map_cases, In-filter, filter_member}
 use Rattle.g1_words.proofs.Ordered.{Ordered, same_order}
 use Rattle.g1_words.proofs.Rising.{Ordered-filter}
+use Rattle.g1_words.proofs.Lists.{all_in}
+use Rattle.g1_words.proofs.Indices.{get_or-In}
 use Rattle.g1_frontier.specs.Offering.{Try, pair_of, answered_true, offer_of}
 use Rattle.g1_frontier.specs.Round.{is_least, winners}
 use Rattle.g1_frontier.proofs.Assembly.{RankLess}
-use Rattle.g1_frontier.proofs.Scopes.{all_in, In-get}
 
 pub in_permuted : {A : Type 0} (xs ys : List A) (x : A) → IsPermutation xs ys → In xs x → In ys x
-in_permuted xs ys x p i = all_in (In ys) xs x (All-permutation (In ys) ys xs (IsPermutation-sym xs ys p) (λ k d lt. In-get ys k d lt)) i
+in_permuted xs ys x p i = all_in (In ys) xs x (All-permutation (In ys) ys xs (IsPermutation-sym xs ys p) (λ k d lt. get_or-In ys k d lt)) i
 
 -- no offer of this rank has won
 none_won : (p r : ℕ) (os : List Offer) → ((o : Offer) → In os o → o.rank ≢ r) → times_won p r os ≡ 0

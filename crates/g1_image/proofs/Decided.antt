@@ -1,13 +1,12 @@
 -- Facts of which it can be told whether they hold.
 use Rattle.std.proofs.Common.{◌≡◌, ◌≤◌, ◌<◌, ℕ, zero, suc, ◌⊎◌, inl, inr, List, [], ◌∷◌, length, slice_index, arith, refl, sym, ap, subst, ◌∙◌}
 use Rattle.std.specs.Prelude.{All, Option, Some, None}
-use Rattle.std.proofs.lemmas.Bool.{cases_lt}
+use Rattle.std.proofs.lemmas.Bool.{cases_lt, cases_eq}
 use Rattle.std.proofs.lemmas.Grind.{get_or_default_zero}
 use Rattle.g1_words.specs.declared.region.Kind.{Kind}
 use Rattle.g1_words.proofs.Members.{In}
 use Rattle.g1_image.specs.Faults.{IsFirstBreach}
 use Rattle.g1_words.specs.Kind.{kind_number, kind_of}
-use Rattle.g1_image.proofs.Rows.{eq_or}
 use Rattle.g1_image.proofs.FileOf.{kind_there}
 
 -- it holds, or it doesn't
@@ -51,12 +50,12 @@ decided_le a b = elim (cases_lt b a) [ inl gt ↦ inr (λ le. omega (arith, gt, 
 
 -- two equal numbers
 pub decided_eq : (a b : ℕ) → Decided (a ≡ b)
-decided_eq a b = eq_or a b
+decided_eq a b = cases_eq a b
 
 -- a number that may be there
 pub decided_some : (c : Option ℕ) (r : ℕ) → Decided (c ≡ Some r)
 decided_some None r = inr (λ e. cc)
-decided_some (Some q) r = decided_as (q ≡ r) (Some q ≡ Some r) (λ e. cc) (λ e. cc) (eq_or q r)
+decided_some (Some q) r = decided_as (q ≡ r) (Some q ≡ Some r) (λ e. cc) (λ e. cc) (cases_eq q r)
 
 -- two equal kinds
 pub decided_kind : (k l : Kind) → Decided (k ≡ l)

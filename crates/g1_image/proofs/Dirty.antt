@@ -1,19 +1,19 @@
 -- Cards that are put behind those of a log.
-use Rattle.std.proofs.Common.{◌≡◌, ◌≢◌, ℕ, zero, suc, ◌+◌, ◌*◌, ◌^◌, ◌<◌, ◌≤◌, ◌⊎◌, inl, inr, Bool, true, false, List, [], ◌∷◌, ◌++◌, length, take, get_or, AllPairs, refl, sym, ◌∙◌, ap, subst, arith, eqb}
+use Rattle.std.proofs.Common.{◌≡◌, ◌≢◌, ℕ, zero, suc, ◌+◌, ◌*◌, ◌^◌, ◌<◌, ◌≤◌, ◌⊎◌, inl, inr, Bool, true, false, List, [], ◌∷◌, ◌++◌, length, take, AllPairs, refl, sym, ◌∙◌, ap, subst, arith, eqb}
 use Rattle.std.proofs.Common.{append_assoc, append-nil, if◌then◌else◌}
 use Rattle.std.specs.Prelude.{All, slice_index_or}
 use Rattle.std.specs.List.{list_any}
 use Rattle.std.proofs.lemmas.Bool.Decides.{Decides-eqb}
-use Rattle.std.proofs.lemmas.List.{get_or_default}
 use Rattle.std.proofs.lemmas.Map.Made.{IsDistinct-from_AllPairs}
 use Rattle.std.proofs.lemmas.Map.Steps.{length-le_from_distinct_below}
 use Rattle.std.proofs.Math.Nat.{mul-le-mul_left}
 use Rattle.g1_words.specs.Geometry.{IsWithinBounds}
 use Rattle.g1_words.specs.Heap.{Heap}
 use Rattle.g1_words.specs.Lists.{has}
-use Rattle.g1_words.proofs.Members.{In, In-from_contains, Contains-from_in, In-append_right, In-append_cases, has_from_in, in_from_has}
+use Rattle.g1_words.proofs.Members.{In, Contains-from_in, In-append_right, In-append_cases, has_from_in, in_from_has}
 use Rattle.g1_words.proofs.Ordered.{Ordered, Ordered-from_pairs, pairs_from_ordered}
 use Rattle.g1_words.proofs.Rising.{Ordered-append}
+use Rattle.g1_words.proofs.Lists.{all_from_in}
 use Rattle.g1_image.specs.Image.{IsUsedCard, IsLog}
 use Rattle.g1_image.specs.Dirty.{with_dirty_card, with_dirty_cards}
 
@@ -49,9 +49,6 @@ cards_again xs distinct = behind [] xs (Ordered-from_pairs (λ c d. c ≢ d) xs 
 all_in : (P : ℕ → Type 0) (xs : List ℕ) → All P xs → (x : ℕ) → In xs x → P x
 all_in P xs all x m = let c = Contains-from_in xs x m in subst P c.2 (all c.0 x c.1)
 
-in_all : (P : ℕ → Type 0) (xs : List ℕ) → ((x : ℕ) → In xs x → P x) → All P xs
-in_all P xs f k d lt = f (get_or xs k d) (In-from_contains xs (get_or xs k d) (k, lt, get_or_default xs k (get_or xs k d) d lt))
-
 module _ (h : Heap) (limits : IsWithinBounds h.geometry.w h.geometry.k h.geometry.n) where
   -- distinct cards of a heap are few
   few : (cards : List ℕ) → All (IsUsedCard h) cards → AllPairs (λ c d. c ≢ d) cards → length cards < 2 ^ 32
@@ -76,7 +73,7 @@ module _ (h : Heap) (limits : IsWithinBounds h.geometry.w h.geometry.k h.geometr
 
     one_more : (In log c → ⊥) → IsLog h (log ++ c ∷ [])
     one_more none =
-        let all : All (IsUsedCard h) (log ++ c ∷ []) = in_all (IsUsedCard h) (log ++ c ∷ []) (λ x m. used_at x (In-append_cases log (c ∷ []) x m)) in
+        let all : All (IsUsedCard h) (log ++ c ∷ []) = all_from_in (IsUsedCard h) (log ++ c ∷ []) (λ x m. used_at x (In-append_cases log (c ∷ []) x m)) in
         let distinct : AllPairs (λ x y. x ≢ y) (log ++ c ∷ []) = pairs_from_ordered (λ x y. x ≢ y) (log ++ c ∷ [])
         (Ordered-append (λ x y. x ≢ y) log (c ∷ []) (Ordered-from_pairs (λ x y. x ≢ y) log good.distinct) ((λ y k. absurd k), tt) (new none)) in
         record { used = all; distinct = distinct; count = few (log ++ c ∷ []) all distinct }

@@ -7,7 +7,7 @@ use Rattle.g1_image.specs.Reading.{Are, IsU32, IsBytes, EndsWithin}
 use Rattle.g1_image.specs.Text.{u32, numbers_text}
 use Rattle.g1_image.proofs.Numbers.{u32_read}
 
-u32-length : (x : ℕ) → length (u32 x) ≡ 4
+pub u32-length : (x : ℕ) → length (u32 x) ≡ 4
 unfolding u32
 u32-length x = length-bytes_low_first 0 4 x
 

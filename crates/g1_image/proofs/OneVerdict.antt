@@ -10,7 +10,7 @@ use Rattle.g1_image.specs.Faults.{HeadingFits, IsGoodHeading, FileFits, FileFaul
 use Rattle.g1_image.proofs.Parts.{magic_free, heading_free}
 use Rattle.g1_image.proofs.OneFile.{file_free, one_file}
 use Rattle.g1_image.proofs.OneFault.{one_file_fault}
-use Rattle.byteorder.specs.Numbers.{length-bytes_low_first}
+use Rattle.g1_image.proofs.NumberLists.{u32-length}
 
 -- the bytes that are there agree with the magic of a version
 abbrev Agrees : List ℕ → Type 0
@@ -56,11 +56,6 @@ agrees_short bytes (inl s) = agrees_start bytes s.0 s.1 s.2
 agrees_short bytes (inr (inl s)) = agrees_long bytes s.0 s.1 s.2
 agrees_short bytes (inr (inr s)) = agrees_long bytes s.0 (heading_text s.1 ++ s.2) s.5
 
--- four bytes
-length-u32 : (x : ℕ) → length (u32 x) ≡ 4
-unfolding u32
-length-u32 x = length-bytes_low_first 0 4 x
-
 -- a heading has 24 bytes
 length-heading_text : (h : Heading) → length (heading_text h) ≡ 24
 length-heading_text h = omega (
@@ -70,12 +65,12 @@ length-heading_text h = omega (
   length-append (u32 h.n) (u32 h.roots ++ (u32 h.dirty ++ u32 h.current)),
   length-append (u32 h.roots) (u32 h.dirty ++ u32 h.current),
   length-append (u32 h.dirty) (u32 h.current),
-  length-u32 h.w,
-  length-u32 h.k,
-  length-u32 h.n,
-  length-u32 h.roots,
-  length-u32 h.dirty,
-  length-u32 h.current,
+  u32-length h.w,
+  u32-length h.k,
+  u32-length h.n,
+  u32-length h.roots,
+  u32-length h.dirty,
+  u32-length h.current,
 )
 
 -- bytes that have a heading aren't a part of a magic

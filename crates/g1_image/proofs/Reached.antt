@@ -1,5 +1,5 @@
 -- Laid words reach over the used words of their regions.
-use Rattle.std.proofs.Common.{◌≡◌, ◌≤◌, ◌<◌, ℕ, zero, suc, ◌+◌, ◌-◌, ◌*◌, Bool, List, [], ◌∷◌, Option, ◌++◌, length, take, drop, map, slice_index_or, arith, refl, sym, ap, ◌∙◌, length-take-le, slice_range, min, inl, inr}
+use Rattle.std.proofs.Common.{◌≡◌, ◌≤◌, ◌<◌, ℕ, zero, suc, ◌+◌, ◌-◌, ◌*◌, Bool, List, [], ◌∷◌, Option, ◌++◌, length, take, drop, map, slice_index_or, arith, refl, sym, ap, ◌∙◌, length-take-le, slice_range, min, inl, inr, take-take}
 use Rattle.std.proofs.lemmas.List.{take_all, drop_all}
 use Rattle.std.proofs.lemmas.Bool.{cases_lt}
 use Rattle.g1_words.specs.Heap.{free_region}
@@ -19,12 +19,6 @@ pub entry_there : (table : List Entry) (r : ℕ) → r < length table →
 entry_there [] r lt = absurd (omega arith)
 entry_there (e ∷ table) zero lt = refl
 entry_there (e ∷ table) (suc r) lt = entry_there table r (omega arith)
-
-take_fewer : (t n : ℕ) (xs : List ℕ) → t ≤ n → take t (take n xs) ≡ take t xs
-take_fewer zero n xs le = refl
-take_fewer (suc t) zero xs le = absurd (omega arith)
-take_fewer (suc t) (suc n) [] le = refl
-take_fewer (suc t) (suc n) (x ∷ xs) le = ap (λ l. x ∷ l) (take_fewer t n xs (omega arith))
 
 drop_take : (w n : ℕ) (xs : List ℕ) → drop w (take n xs) ≡ take (n - w) (drop w xs)
 drop_take zero n xs = let e : n ≡ n - 0 = omega arith in ap (λ k. take k xs) e
@@ -52,7 +46,7 @@ pub used_laid : (w : ℕ) (qs : List Region) (n : ℕ) (words : List ℕ) → Ar
     used_words w qs (take n words) ≡ used_words w qs words
 used_laid w [] n words are tops = refl
 used_laid w (q ∷ qs) n words are tops =
-    let own = take_fewer q.top n words (top_laid w q qs n are (tops 0 (omega arith))) in
+    let own = take-take q.top n words (top_laid w q qs n are (tops 0 (omega arith))) in
     let others : used_words w qs (drop w (take n words)) ≡ used_words w qs (drop w words) =
     ap (used_words w qs) (drop_take w n words) ∙ used_laid w qs (n - w) (drop w words) (rest_laid w q qs n are) (λ r lt. tops (suc r) (omega (arith, lt))) in
     λ t. own t ++ others t

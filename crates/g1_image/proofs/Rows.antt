@@ -2,7 +2,7 @@
 use Rattle.std.proofs.Common.{◌≡◌, ◌≢◌, ◌≤◌, ◌<◌, ℕ, zero, suc, ◌+◌, ◌-◌, ◌*◌, ◌⊎◌, inl, inr, Bool, true, false, List, [], ◌∷◌, length, set, replicate, arith, refl, sym}
 use Rattle.std.proofs.Common.{ap, subst, ◌∙◌, get_or-set_other, get_or-set_same}
 use Rattle.std.specs.Prelude.{IsTrue}
-use Rattle.std.proofs.lemmas.Bool.{cases_lt}
+use Rattle.std.proofs.lemmas.Bool.{cases_lt, cases_eq}
 use Rattle.std.proofs.Math.Nat.{mul-le-mul_right}
 use Rattle.g1_words.specs.Heap.{Heap, region, start, end}
 use Rattle.g1_words.specs.Valid.{IsObject, Tiles, IsShapedBy, HasObject, HoldsBy}
@@ -21,9 +21,6 @@ mark_at marks k a lt e = subst (λ x. mark (set marks k true) x ≡ true) e (get
 
 pub mark_off : (marks : List Bool) (k a : ℕ) → k ≢ a → mark (set marks k true) a ≡ mark marks a
 mark_off marks k a ne = get_or-set_other marks k a true false (λ e. ne (sym e))
-
-pub eq_or : (a b : ℕ) → (a ≡ b) ⊎ (a ≢ b)
-eq_or a b = elim (cases_lt a b) [ inl lt ↦ inr (λ e. omega (arith, lt, e)) | inr ge ↦ elim (cases_lt b a) [ inl gt ↦ inr (λ e. omega (arith, gt, e)) | inr le ↦ inl (omega (arith, ge, le)) ] ]
 
 -- a walk over the objects from one address on has come to another, where an object stands; the marks begin at the address base
 module _ (words : List ℕ) (base from at : ℕ) (q : Object) (passed : Reaches words from at) (object : IsObject words q) (q_at : q.at ≡ at) where
@@ -45,12 +42,12 @@ module _ (words : List ℕ) (base from at : ℕ) (q : Object) (passed : Reaches 
       let over : from ≤ at = Tiles-le words from passed.0 at passed.1 in
       let lt : at - base < length marks = omega (arith, inside, below, over) in
       let here : (k : ℕ) → at - base ≡ k → IsTrue (mark new k) = λ k i. ap (λ l. mark l k) e ∙ mark_at marks (at - base) k lt i in
-      let kept : (k : ℕ) → IsTrue (mark marks k) → IsTrue (mark new k) = λ k t. elim (eq_or (at - base) k) [
+      let kept : (k : ℕ) → IsTrue (mark marks k) → IsTrue (mark new k) = λ k t. elim (cases_eq (at - base) k) [
         | inl i ↦ here k i
         | inr ne ↦ ap (λ l. mark l k) e ∙ mark_off marks (at - base) k ne ∙ t
       ] in
       record {
-        sound = λ k t. elim (eq_or (at - base) k) [
+        sound = λ k t. elim (cases_eq (at - base) k) [
           | inl i ↦
               let same : at ≡ base + k = omega (arith, i, below, over) in
               inr (subst (λ x. Reaches words from x) same passed, omega (arith, same, object.refs_fit))
@@ -72,8 +69,8 @@ marked_one base at marks new le inside e =
     let lt : at - base < length marks = omega (arith, inside, le) in
     let here : (k : ℕ) → at - base ≡ k → IsTrue (mark new k) = λ k i. ap (λ l. mark l k) e ∙ mark_at marks (at - base) k lt i in
     record {
-      sound = λ k t. elim (eq_or (at - base) k) [ inl i ↦ inr (omega (arith, i, le)) | inr ne ↦ inl (sym (mark_off marks (at - base) k ne) ∙ sym (ap (λ l. mark l k) e) ∙ t) ];
-      stay = λ k t. elim (eq_or (at - base) k) [ inl i ↦ here k i | inr ne ↦ ap (λ l. mark l k) e ∙ mark_off marks (at - base) k ne ∙ t ];
+      sound = λ k t. elim (cases_eq (at - base) k) [ inl i ↦ inr (omega (arith, i, le)) | inr ne ↦ inl (sym (mark_off marks (at - base) k ne) ∙ sym (ap (λ l. mark l k) e) ∙ t) ];
+      stay = λ k t. elim (cases_eq (at - base) k) [ inl i ↦ here k i | inr ne ↦ ap (λ l. mark l k) e ∙ mark_off marks (at - base) k ne ∙ t ];
       whole = λ k i. here k (omega (arith, i));
     }
 

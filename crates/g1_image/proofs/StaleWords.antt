@@ -2,7 +2,7 @@
 use Rattle.std.proofs.Common.{◌≡◌, ◌≤◌, ◌<◌, ℕ, zero, suc, ◌+◌, ◌^◌, ◌⊎◌, inl, inr, List, [], ◌∷◌, ◌++◌, length, take, set, get_or, slice_index, arith, refl, sym, ap, subst, ◌∙◌}
 use Rattle.std.proofs.Common.{get_or-set_other, get_or-set_same, length-set}
 use Rattle.std.specs.Prelude.{All, slice_index_or}
-use Rattle.std.proofs.lemmas.Bool.{cases_lt}
+use Rattle.std.proofs.lemmas.Bool.{cases_lt, cases_eq}
 use Rattle.std.proofs.lemmas.List.{get_or_default, get_or_past}
 use Rattle.g1_words.specs.Heap.{Heap, region, start, end}
 use Rattle.g1_words.specs.Valid.{IsObject, Tiles, IsFirst, HoldsBy, HasObject, IsReference, IsSlotOf, IsShapedBy, MayBePinned, IsValid}
@@ -17,7 +17,7 @@ use Rattle.g1_words.proofs.Objects.{first_has}
 use Rattle.g1_image.specs.Draft.{IsDraft, ShapedBelow}
 use Rattle.g1_image.specs.Stale.{IsStaleRoot, IsStaleSlot, IsPut, HasLowerPlace, Lists, nulled, without}
 use Rattle.g1_image.proofs.DecidedReferences.{decided_reference}
-use Rattle.g1_image.proofs.Rows.{apart, eq_or, has_header}
+use Rattle.g1_image.proofs.Rows.{apart, has_header}
 use Rattle.g1_image.proofs.Slots.{ends_within}
 
 -- ---- lists of places with their words
@@ -127,7 +127,7 @@ nulled_cases : (found : List (ℕ × ℕ)) (words : List ℕ) (k : ℕ) → ((x 
 nulled_cases [] words k = inr refl
 nulled_cases (e ∷ found) words k = elim (nulled_cases found (set words e.0 0) k) [
   | inl m ↦ inl (m.0, inr m.1)
-  | inr same ↦ elim (eq_or k e.0) [
+  | inr same ↦ elim (cases_eq k e.0) [
     | inl here ↦
         let pair : ℕ → ℕ → ℕ × ℕ = λ u v. (u, v) in
         let found_here : pair e.0 e.1 ≡ pair k e.1 = λ t. pair (sym here t) e.1 in
@@ -137,7 +137,7 @@ nulled_cases (e ∷ found) words k = elim (nulled_cases found (set words e.0 0) 
 ]
 
 zero_set : (words : List ℕ) (a k : ℕ) → slice_index words k ≡ 0 → slice_index (set words a 0) k ≡ 0
-zero_set words a k z = elim (eq_or k a) [
+zero_set words a k z = elim (cases_eq k a) [
   | inl here ↦ elim (cases_lt a (length words)) [
     | inl lt ↦ subst (λ i. slice_index (set words a 0) i ≡ 0) (sym here) (get_or-set_same words a 0 0 lt)
     | inr ge ↦ get_or_past (set words a 0) k 0 (omega (arith, ge, here, length-set words a 0))

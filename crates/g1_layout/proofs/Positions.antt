@@ -1,5 +1,5 @@
 -- The positions of a set's regions, the addresses of its words, and the table that they make.
-use Rattle.std.proofs.Common.{◌≡◌, ◌≢◌, ◌⊎◌, ℕ, zero, suc, ◌+◌, ◌*◌, ◌/◌, ◌%◌, ◌<◌, ◌≤◌, inl, inr, List, Option, Some, None, All, Contains, length, get_or, set, replicate, refl, sym, ◌∙◌}
+use Rattle.std.proofs.Common.{◌≡◌, ◌≢◌, ◌⊎◌, ℕ, ◌+◌, ◌*◌, ◌/◌, ◌%◌, ◌<◌, ◌≤◌, inl, inr, List, Option, Some, None, All, Contains, length, get_or, set, replicate, refl, sym, ◌∙◌}
 use Rattle.std.proofs.Common.{ap, arith, mod-lt, div-add-mod', mod-eq_of_lt}
 use Rattle.std.proofs.lemmas.Bool.{cases_lt}
 use Rattle.std.proofs.lemmas.List.{get_or-set_same, get_or-set_other, get_or_default}
@@ -7,17 +7,12 @@ use Rattle.std.proofs.lemmas.List.Kept.{AllPairs-from_increasing}
 use Rattle.std.proofs.Math.Nat.{mul-le-mul_right, mul-add-div_right, mul-add-mod_self_right, div-eq_of_lt}
 use Rattle.std.specs.List.Sorted.{IsStrictlyIncreasing}
 use Rattle.g1_layout.specs.Words.{ArePositions, AreIndices, HasIndex, index_at}
+use Rattle.g1_words.proofs.Lists.{same_there}
 
 -- the first n regions of the set have their positions
 pub record Positioned (rs : List ℕ) (n : ℕ) (positions : List (Option ℕ)) : Type 0 where
   pub sound : (r p : ℕ) → get_or positions r None ≡ Some p → (p < n) × (get_or rs p 0 ≡ r)
   pub whole : (p : ℕ) → p < n → get_or positions (get_or rs p 0) None ≡ Some p
-
--- a list of one value has it everywhere, and past its end
-same_there : {A : Type 0} (d : A) (n r : ℕ) → get_or (replicate n d) r d ≡ d
-same_there d zero r = refl
-same_there d (suc n) zero = refl
-same_there d (suc n) (suc r) = same_there d n r
 
 pub Positioned-start : (rs : List ℕ) (n : ℕ) (positions : List (Option ℕ)) → positions ≡ replicate n None → Positioned rs 0 positions
 Positioned-start rs n positions e = record {

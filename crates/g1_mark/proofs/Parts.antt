@@ -1,5 +1,5 @@
 -- Objects counted in parts.
-use Rattle.std.proofs.Common.{◌≡◌, ◌<◌, ℕ, ◌+◌, ◌*◌, inl, inr, Bool, true, false, cond, not, ◌||◌, List, [], ◌∷◌, ◌++◌, ◌^◌, map, filter, length, take, drop, slice_index, arith, refl, sym, ap, subst, ◌∙◌, eqb, eqb-true}
+use Rattle.std.proofs.Common.{◌≡◌, ◌<◌, ℕ, ◌+◌, ◌*◌, inl, inr, Bool, true, false, cond, ◌||◌, List, [], ◌∷◌, ◌++◌, ◌^◌, map, filter, length, take, drop, slice_index, arith, refl, sym, ap, subst, ◌∙◌}
 use Rattle.std.specs.Prelude.{Result, Ok, Err, IfOk}
 use Rattle.std.specs.Global.{Vec}
 use Rattle.std.proofs.Math.Seq.{take-add}
@@ -13,23 +13,11 @@ use Rattle.g1_words.specs.Survivors.{firsts}
 use Rattle.g1_words.specs.Valid.{IsValid}
 use Rattle.g1_words.proofs.Firsts.{Distinct, Distinct-firsts}
 use Rattle.g1_words.proofs.Members.{In, In-append_left, In-append_right, in_from_has}
+use Rattle.g1_words.proofs.Lists.{has_both, firsts_distinct}
 use Rattle.g1_mark.proofs.Counting.{AreBytesOf, bytes_few}
 use Rattle.g1_mark.proofs.Sums.{sizes, size_kept}
 
 -- ---- lists without repeats
-
-kept : (x : ℕ) (xs : List ℕ) → (In xs x → ⊥) → filter (λ y. not (eqb x y)) xs ≡ xs
-kept x [] d = refl
-kept x (y ∷ ys) d = at (eqb x y) refl (kept x ys (λ i. d (inr i)))
-  where
-    at : (b : Bool) → eqb x y ≡ b → filter (λ z. not (eqb x z)) ys ≡ ys → cond (not b) (y ∷ filter (λ z. not (eqb x z)) ys) (filter (λ z. not (eqb x z)) ys) ≡ y ∷ ys
-    at true e rest = absurd (d (inl (sym (eqb-true x y e))))
-    at false e rest = ap (λ l. y ∷ l) rest
-
--- a list without repeats is that of its first occurrences
-same_firsts : (xs : List ℕ) → Distinct xs → firsts xs ≡ xs
-same_firsts [] d = refl
-same_firsts (x ∷ xs) d = ap (λ l. x ∷ filter (λ y. not (eqb x y)) l) (same_firsts xs d.1) ∙ ap (λ l. x ∷ l) (kept x xs d.0)
 
 left_apart : (xs ys : List ℕ) → Distinct (xs ++ ys) → Distinct xs
 left_apart [] ys d = tt
@@ -62,21 +50,13 @@ module _ (xs : List ℕ) (once : xs ≡ firsts xs) where
   pub part_once : (start size : ℕ) → take size (drop start xs) ≡ firsts (take size (drop start xs))
   part_once start size =
       let behind : Distinct (drop start xs) = right_apart (take start xs) (drop start xs) (subst Distinct (sym (take-append-drop start xs)) whole_apart) in
-      sym (same_firsts (take size (drop start xs)) (left_apart (take size (drop start xs)) (drop size (drop start xs)) (subst Distinct (sym (take-append-drop size (drop start xs))) behind)))
+      sym (firsts_distinct (take size (drop start xs)) (left_apart (take size (drop start xs)) (drop size (drop start xs)) (subst Distinct (sym (take-append-drop size (drop start xs))) behind)))
 
   -- nothing stands in a chunk and before it
   chunk_new : (n size x : ℕ) → In (take (n * size) xs) x → In (take size (drop (n * size) xs)) x → ⊥
   chunk_new n size = both_apart (take (n * size) xs) (take size (drop (n * size) xs)) (chunks_apart n size)
 
 -- ---- sums over two lists
-
-has_both : (v w : List ℕ) (x : ℕ) → has (v ++ w) x ≡ (has v x || has w x)
-has_both [] w x = refl
-has_both (y ∷ v) w x = ap (λ b. eqb x y || b) (has_both v w x) ∙ or_assoc (eqb x y) (has v x) (has w x)
-  where
-    or_assoc : (b c d : Bool) → (b || (c || d)) ≡ ((b || c) || d)
-    or_assoc true c d = refl
-    or_assoc false c d = refl
 
 one_of_both : (v w : List ℕ) (n x : ℕ) (b c : Bool) → (In v x → In w x → ⊥) → has v x ≡ b → has w x ≡ c → cond (b || c) n 0 ≡ cond b n 0 + cond c n 0
 one_of_both v w n x true true d e f = absurd (d (in_from_has v x e) (in_from_has w x f))

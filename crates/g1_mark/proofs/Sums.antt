@@ -3,26 +3,18 @@ use Rattle.std.proofs.Common.{◌≡◌, ◌≢◌, ◌≤◌, ◌<◌, ℕ, ◌
 use Rattle.std.proofs.lemmas.List.Sums.{sum_by-cons}
 use Rattle.g1_words.specs.declared.object.Object.{Object}
 use Rattle.g1_words.specs.Lists.{has}
-use Rattle.g1_words.proofs.Members.{In, In-append_left, in_from_has}
+use Rattle.g1_words.proofs.Members.{In, in_from_has}
 use Rattle.g1_words.proofs.Ordered.{Ordered}
 use Rattle.g1_words.proofs.Rising.{IsBefore}
+use Rattle.g1_words.proofs.Lists.{Ordered-append_right, Ordered-append_left, has_more}
 
 abbrev pub sizes : List Object → ℕ
 sizes os = sum_by (λ o. o.size) os
 
--- a part of a list in order
-ordered_left : {A : Type 0} (R : A → A → Type 0) (xs ys : List A) → Ordered R (xs ++ ys) → Ordered R xs
-ordered_left R [] ys o = tt
-ordered_left R (x ∷ xs) ys o = ((λ y i. o.0 y (In-append_left xs ys y i)), ordered_left R xs ys o.1)
-
-ordered_right : {A : Type 0} (R : A → A → Type 0) (xs ys : List A) → Ordered R (xs ++ ys) → Ordered R ys
-ordered_right R [] ys o = o
-ordered_right R (x ∷ xs) ys o = ordered_right R xs ys o.1
-
 pub ordered_part : {A B : Type 0} (R : B → B → Type 0) (f : A → List B) (xs : List A) (x : A) → Ordered R (flat_map f xs) → In xs x → Ordered R (f x)
 ordered_part R f [] x o i = absurd i
-ordered_part R f (y ∷ xs) x o (inl e) = subst (λ z. Ordered R (f z)) e (ordered_left R (f y) (flat_map f xs) o)
-ordered_part R f (y ∷ xs) x o (inr i) = ordered_part R f xs x (ordered_right R (f y) (flat_map f xs) o) i
+ordered_part R f (y ∷ xs) x o (inl e) = subst (λ z. Ordered R (f z)) e (Ordered-append_left R (f y) (flat_map f xs) o)
+ordered_part R f (y ∷ xs) x o (inr i) = ordered_part R f xs x (Ordered-append_right R (f y) (flat_map f xs) o) i
 
 pub size_kept : (o : Object) (os : List Object) (b : Bool) → sizes (cond b (o ∷ os) os) ≡ cond b o.size 0 + sizes os
 size_kept o os true = sum_by-cons (λ (q : Object). q.size) o os
@@ -42,19 +34,6 @@ sizes_fit p lo bound (o ∷ os) ord low high le =
     at_most : (b : Bool) (n : ℕ) → cond b n 0 ≤ n
     at_most true n = omega arith
     at_most false n = omega arith
-
--- one address more
-has_more : (v : List ℕ) (a x : ℕ) → has (v ++ a ∷ []) x ≡ (has v x || eqb x a)
-has_more [] a x = or_false (eqb x a)
-  where
-    or_false : (b : Bool) → (b || false) ≡ b
-    or_false true = refl
-    or_false false = refl
-has_more (y ∷ v) a x = ap (λ b. eqb x y || b) (has_more v a x) ∙ or_assoc (eqb x y) (has v x) (eqb x a)
-  where
-    or_assoc : (b c d : Bool) → (b || (c || d)) ≡ ((b || c) || d)
-    or_assoc true c d = refl
-    or_assoc false c d = refl
 
 one_of : (v : List ℕ) (a n x : ℕ) (b c : Bool) → (In v a → ⊥) → has v x ≡ b → eqb x a ≡ c → cond (b || c) n 0 ≡ cond b n 0 + cond c n 0
 one_of v a n x true true d e f = absurd (d (subst (In v) (eqb-true x a f) (in_from_has v x e)))

@@ -1,6 +1,6 @@
 -- Every object and every slot lies in a used region.
 use Rattle.std.proofs.Common.{◌≡◌, ◌≢◌, ◌<◌, ℕ, ◌+◌, ◌-◌, Bool, true, cond, not, List, [], ◌∷◌, ◌++◌, filter, flat_map, Contains, arith, refl, sym, ap, subst, ◌∙◌}
-use Rattle.std.specs.List.{range_with_len, All}
+use Rattle.std.specs.List.{range_with_len}
 use Rattle.std.proofs.lemmas.List.Kept.{IsStrictlyIncreasing-filter}
 use Rattle.g1_words.specs.declared.object.Object.{Object}
 use Rattle.g1_words.specs.declared.region.Kind.{Kind}
@@ -15,9 +15,9 @@ use Rattle.g1_words.proofs.Members.{In, Contains-from_in, In-filter, filter_memb
 use Rattle.g1_words.proofs.Shapes.{built}
 use Rattle.g1_words.proofs.Sound.{sound}
 use Rattle.g1_words.proofs.Standing.{home, word_used}
+use Rattle.g1_words.proofs.Lists.{all_from_in, range_until}
 use Rattle.g1_rem.proofs.Rising.{Rises-range, Rises-increasing}
 use Rattle.g1_frontier.specs.Window.{AreRegions}
-use Rattle.g1_frontier.proofs.Names.{range_more}
 use Rattle.g1_mark.specs.Marked.{used}
 
 is_used : (k : Kind) → k ≢ Free → not (is_free k) ≡ true
@@ -25,9 +25,6 @@ is_used Free d = absurd (d refl)
 is_used Ordinary d = refl
 is_used HumongousFirst d = refl
 is_used Continuation d = refl
-
-all_from_in : (P : ℕ → Type 0) (xs : List ℕ) → ((x : ℕ) → In xs x → P x) → All P xs
-all_from_in P xs h = Rattle.g1_frontier.proofs.Scopes.all_from_in P xs h
 
 filter_append : (p : ℕ → Bool) (xs ys : List ℕ) → filter p (xs ++ ys) ≡ filter p xs ++ filter p ys
 filter_append p xs ys = Rattle.g1_frontier.proofs.Seeds.filter_append p xs ys
@@ -42,7 +39,7 @@ used_more p r front more b e t f =
     grown =
         let before : r - 0 ≡ r = omega arith in
         let after : r + 1 - 0 ≡ r + 1 = omega arith in
-        ap (λ n. range_with_len 0 n ++ r ∷ []) (sym before) ∙ range_more 0 r (omega arith) ∙ ap (range_with_len 0) after
+        ap (λ n. range_with_len 0 n ++ r ∷ []) (sym before) ∙ range_until 0 r (omega arith) ∙ ap (range_with_len 0) after
 
 module _ (h : Heap) where
   -- the used regions are regions, rising

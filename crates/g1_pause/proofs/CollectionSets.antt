@@ -17,9 +17,9 @@ use Rattle.g1_pause.specs.declared.settings.Choice.TheVariants.{Budget, Given}
 use Rattle.g1_pause.specs.Answer.{IsSetFor}
 use Rattle.g1_words.proofs.Members.{In-from_contains, Contains-from_in, filter_member, in_from_has}
 use Rattle.g1_words.proofs.Computed.{range_below}
+use Rattle.g1_words.proofs.Lists.{all_from_in}
 use Rattle.g1_rem.proofs.Rising.{Rises-range, Rises-increasing}
 use Rattle.g1_frontier.specs.Window.{AreRegions}
-use Rattle.g1_frontier.proofs.Scopes.{all_from_in}
 use Rattle.g1_choose.proofs.OneChoice.{only_candidates}
 
 ordinary_by_test : (k : Kind) → is_ordinary k ≡ true → k ≡ Ordinary

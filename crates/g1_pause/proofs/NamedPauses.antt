@@ -11,12 +11,12 @@ use Rattle.g1_words.specs.Survivors.{in_set, AllOrdinary, Survivors}
 use Rattle.g1_words.specs.Valid.{IsValid}
 use Rattle.g1_words.proofs.Members.{In, In-from_contains, Contains-from_in, filter_member, in_from_has}
 use Rattle.g1_words.proofs.Computed.{range_below}
+use Rattle.g1_words.proofs.Lists.{all_from_in}
 use Rattle.g1_image.specs.Image.{Image, IsImage}
 use Rattle.g1_image.specs.Cards.{Covered, refined}
 use Rattle.g1_rem.proofs.Rising.{Rises-range, Rises-increasing}
 use Rattle.g1_frontier.specs.Laws.{AreRefinedOf, RefinedLeadIn}
 use Rattle.g1_frontier.specs.Window.{AreRegions, AreOutside, LeadIn}
-use Rattle.g1_frontier.proofs.Scopes.{all_from_in}
 use Rattle.g1_choose.specs.Named.{AreTakeable}
 use Rattle.g1_layout.specs.Laws.{SurvivorsPlaceable}
 use Rattle.g1_layout.specs.Placed.{CanPlace}

@@ -10,12 +10,13 @@ use Rattle.g1_words.specs.Marks.{AreMarked, AreUnset}
 use Rattle.g1_words.proofs.Computed.{In-range}
 use Rattle.g1_words.proofs.Members.{In, In-filter, filter_member, has_from_in, in_from_has}
 use Rattle.g1_words.proofs.Indices.{not_has}
+use Rattle.g1_words.proofs.Lists.{filter_range_yes, all_in, all_from_in}
+use Rattle.g1_words.proofs.Logic.{same_test}
 use Rattle.g1_image.specs.Image.{Image, IsImage, IsUsedCard}
 use Rattle.g1_rem.specs.Cover.{AreDirty}
 use Rattle.g1_rem.specs.Starts.{card_count}
-use Rattle.g1_rem.proofs.EntryCards.{filtered_push, filtered_to}
-use Rattle.g1_rem.proofs.Entering.{card_inside, in_all, all_in}
-use Rattle.g1_rem.proofs.Lists.{same_test}
+use Rattle.g1_rem.proofs.EntryCards.{filtered_to}
+use Rattle.g1_rem.proofs.Entering.{card_inside}
 use Rattle.g1_rem.proofs.Marks.{cards_fill}
 use Rattle.g1_rem.proofs.Rising.{Rises-increasing, Rises-filter, Rises-range}
 
@@ -30,7 +31,7 @@ dirty_told i count old new e m below = λ c.
 
 -- a dirty card is one of the heap's
 pub dirty_inside : (i : Image) (c : ℕ) → IsImage i → In i.log c → c < card_count i.heap
-dirty_inside i c valid k = card_inside i.heap c valid.heap (in_all (IsUsedCard i.heap) i.log c valid.log.used k)
+dirty_inside i c valid k = card_inside i.heap c valid.heap (all_in (IsUsedCard i.heap) i.log c valid.log.used k)
 
 -- an empty log has none
 pub none_dirty : (log : List ℕ) (c n : ℕ) → log ≡ [] → In log c → c < n
@@ -44,7 +45,7 @@ listed_rising log n = Rises-increasing 0 (filter (has log) (range_with_len 0 n))
 
 -- all of them are the heap's
 pub listed_inside : (i : Image) (n : ℕ) → IsImage i → All (λ c. c < card_count i.heap) (filter (has i.log) (range_with_len 0 n))
-listed_inside i n valid = all_in (λ c. c < card_count i.heap) (filter (has i.log) (range_with_len 0 n))
+listed_inside i n valid = all_from_in (λ c. c < card_count i.heap) (filter (has i.log) (range_with_len 0 n))
     (λ c k. dirty_inside i c valid (in_from_has i.log c (filter_member (has i.log) (range_with_len 0 n) c k).1))
 
 -- their numbers are small
@@ -70,7 +71,7 @@ module _ (i : Image) (marks : List Bool) (told : AreDirty i marks) where
   pub listed_more : (from c : ℕ) → from ≤ c → slice_index_or marks c false ≡ true → AreUnset marks from c
       → filter (has i.log) (range_with_len 0 (c + 1)) ≡ filter (has i.log) (range_with_len 0 from) ++ c ∷ []
   listed_more from c le set unset =
-      filtered_push (has i.log) c (sym (told c) ∙ set) ∙ ap (λ l. l ++ c ∷ []) (listed_end from c le unset)
+      filter_range_yes (has i.log) c (sym (told c) ∙ set) ∙ ap (λ l. l ++ c ∷ []) (listed_end from c le unset)
 
 -- they are those of the log
 pub listed_same : (i : Image) (marks : List Bool) (c : ℕ) → AreDirty i marks → has (filter (has i.log) (range_with_len 0 (length marks))) c ≡ has i.log c

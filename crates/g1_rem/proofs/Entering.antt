@@ -1,6 +1,6 @@
 -- The dirty cards that lead into each region, card by card and slot by slot.
 use Rattle.std.proofs.Common.{◌≡◌, ◌≢◌, ◌≤◌, ◌<◌, ℕ, zero, suc, ◌+◌, ◌-◌, inl, inr, Bool, true, false, not, cond, ◌&&◌, ◌||◌, List, [], ◌∷◌, ◌++◌, length, slice_index, slice_index_or}
-use Rattle.std.proofs.Common.{get_or, replicate, map, take, drop, filter, All, Contains, arith, refl, sym, ap, subst, ◌∙◌, eqb, eqb-true, eq-eqb, append-nil, get_or-set_same}
+use Rattle.std.proofs.Common.{replicate, map, take, drop, filter, All, Contains, arith, refl, sym, ap, subst, ◌∙◌, eqb, eqb-true, eq-eqb, append-nil, get_or-set_same}
 use Rattle.std.proofs.Common.{get_or-set_other}
 use Rattle.std.specs.Prelude.{Some, None, Result, Ok, Err, IfOk}
 use Rattle.std.specs.Global.{Vec}
@@ -21,9 +21,10 @@ use Rattle.g1_words.specs.Lists.{has}
 use Rattle.g1_words.specs.Valid.{IsReference, IsValid}
 use Rattle.g1_words.specs.References.{named, refs_at}
 use Rattle.g1_words.proofs.Members.{In, In-from_contains, Contains-from_in, In-filter, filter_member, flat_map_cases, has_from_in, in_from_has}
-use Rattle.g1_words.proofs.Indices.{get_or-In}
 use Rattle.g1_words.proofs.Sound.{sound}
 use Rattle.g1_words.proofs.Computed.{In-range, contains_has, range_above, range_below}
+use Rattle.g1_words.proofs.Lists.{all_from_in, all_in}
+use Rattle.g1_words.proofs.Logic.{same_test}
 use Rattle.g1_image.specs.Image.{Image, IsImage, IsUsedCard, remembered_of}
 use Rattle.g1_image.specs.Cards.{leads_into, is_exact, is_refined, refined}
 use Rattle.g1_rem.specs.Starts.{card_count}
@@ -31,7 +32,6 @@ use Rattle.g1_rem.specs.Slots.{slots_on, all_slots}
 use Rattle.g1_rem.specs.Leads.{IsLedInto}
 use Rattle.g1_rem.specs.Entering.{enters, with_card, IsGrown, AreEntering, IsRefining, AreRefining}
 use Rattle.g1_rem.specs.Merging.{IsMerged}
-use Rattle.g1_rem.proofs.Lists.{same_test}
 use Rattle.g1_rem.proofs.Rising.{Rises-range, Rises-filter, Rises-one, increasing-Rises}
 use Rattle.g1_rem.proofs.Order.{object_fits}
 use Rattle.g1_rem.proofs.Marks.{cards_fill}
@@ -150,14 +150,6 @@ once_pushed before xs card true e never =
 
 -- ---- one card
 
--- what holds of each member holds of all
-pub all_in : (P : ℕ → Type 0) (xs : List ℕ) → ((x : ℕ) → In xs x → P x) → All P xs
-all_in P xs f = λ k d lt. f (get_or xs k d) (get_or-In xs k d lt)
-
--- what holds of all holds of a member
-pub in_all : (P : ℕ → Type 0) (xs : List ℕ) (x : ℕ) → All P xs → In xs x → P x
-in_all P xs x all i = let c = Contains-from_in xs x i in subst P c.2 (all c.0 x c.1)
-
 -- before the first card the lists are empty
 pub entering_start : (h : Heap) (lists : List (List ℕ)) → lists ≡ replicate h.geometry.n [] → AreEntering h [] lists
 entering_start h lists e = record {
@@ -169,7 +161,7 @@ entering_start h lists e = record {
 pub entering_below : (h : Heap) (ds : List ℕ) (lists : List (List ℕ)) (card : ℕ) → AreEntering h ds lists → All (λ c. c < card) ds → (r : ℕ) →
     r < h.geometry.n → All (λ c. c < card) (slice_index_or lists r [])
 entering_below h ds lists card a below r lt =
-    subst (All (λ c. c < card)) (sym (a.each r lt)) (all_in (λ c. c < card) (filter (is_exact h r) ds) (λ c i. in_all (λ c. c < card) ds c below (filter_member (is_exact h r) ds c i).0))
+    subst (All (λ c. c < card)) (sym (a.each r lt)) (all_from_in (λ c. c < card) (filter (is_exact h r) ds) (λ c i. all_in (λ c. c < card) ds c below (filter_member (is_exact h r) ds c i).0))
 
 -- a list with a card, as two lists
 one_card : (before : List ℕ) (card : ℕ) (b : Bool) → with_card before card b ≡ before ++ cond b (card ∷ []) []
@@ -225,10 +217,10 @@ card_inside h c valid used = elim (cases_lt c (card_count h)) [
 refined_inside : (i : Image) (r c : ℕ) → IsImage i → r < i.heap.geometry.n → is_refined i r c ≡ true → c < card_count i.heap
 refined_inside i r c valid lt e = elim (or_cases (has (remembered_of i r) c) (has i.log c && is_exact i.heap r c) e) [
   | inl f ↦ card_inside i.heap c valid.heap (in_set (Contains-from_in (remembered_of i r) c (in_from_has (remembered_of i r) c f)))
-  | inr f ↦ card_inside i.heap c valid.heap (in_all (IsUsedCard i.heap) i.log c valid.log.used (in_from_has i.log c (and_parts (has i.log c) (is_exact i.heap r c) f).0))
+  | inr f ↦ card_inside i.heap c valid.heap (all_in (IsUsedCard i.heap) i.log c valid.log.used (in_from_has i.log c (and_parts (has i.log c) (is_exact i.heap r c) f).0))
 ] where
   in_set : Contains (remembered_of i r) c → IsUsedCard i.heap c
-  in_set k = in_all (IsUsedCard i.heap) (remembered_of i r) c (λ j d lt'. ((valid.remembered r lt).elsewhere j d lt').0) (In-from_contains (remembered_of i r) c k)
+  in_set k = all_in (IsUsedCard i.heap) (remembered_of i r) c (λ j d lt'. ((valid.remembered r lt).elsewhere j d lt').0) (In-from_contains (remembered_of i r) c k)
 
 -- the one rising list with these members is the refined set
 pub refined_is : (i : Image) (r : ℕ) (zs : List ℕ) → IsImage i → r < i.heap.geometry.n → IsStrictlyIncreasing zs → ((c : ℕ) → has zs c ≡ is_refined i r c) → zs ≡ refined i r

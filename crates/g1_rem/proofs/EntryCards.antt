@@ -1,8 +1,7 @@
 -- Marks, and the list of the cards that are left.
-use Rattle.std.proofs.Common.{◌≡◌, ◌≤◌, ◌<◌, ℕ, zero, suc, ◌+◌, ◌-◌, ◌*◌, ◌/◌, inl, inr, Bool, true, false, not, ◌&&◌, List, [], ◌∷◌, ◌++◌, slice_index_or, set, filter, replicate}
-use Rattle.std.proofs.Common.{arith, refl, sym, ap, ◌∙◌, append-nil}
+use Rattle.std.proofs.Common.{◌≡◌, ◌≤◌, ◌<◌, ℕ, zero, suc, ◌+◌, ◌-◌, ◌*◌, ◌/◌, Bool, true, false, not, ◌&&◌, List, [], ◌∷◌, ◌++◌, slice_index_or, set, filter, replicate}
+use Rattle.std.proofs.Common.{arith, refl, sym, ap, ◌∙◌}
 use Rattle.std.specs.List.{range_with_len, list_any}
-use Rattle.std.proofs.lemmas.List.Elements.{filter-append}
 use Rattle.std.proofs.Math.Nat.{mul-le-mul_right, div-lt_iff_lt-mul}
 use Rattle.g1_words.specs.Heap.{Heap}
 use Rattle.g1_words.specs.Valid.{IsValid}
@@ -11,12 +10,12 @@ use Rattle.g1_words.specs.Marks.{AreMarked, AreUnset}
 use Rattle.g1_words.specs.Survivors.{in_set}
 use Rattle.g1_words.proofs.Computed.{range_below}
 use Rattle.g1_words.proofs.Marked.{any_more, marked_then, marked_from_none}
-use Rattle.g1_words.proofs.Members.{In}
+use Rattle.g1_words.proofs.Lists.{filter_range_no}
 use Rattle.g1_image.specs.Cards.{cards_where}
-use Rattle.g1_rem.proofs.Scan.{range_push}
 use Rattle.g1_rem.specs.Starts.{card_count}
 use Rattle.g1_rem.proofs.Marks.{cards_fill}
 use Rattle.g1_rem.specs.EntryCards.{cards_into, is_left, is_listed}
+pub use Rattle.g1_words.proofs.Lists.{filter_same_in, filter_range_yes as filtered_push, filter_range_no as filtered_pass}
 
 -- the marks of one more set
 pub listed_more : (remembered : List (List ℕ)) (old mid new : List Bool) (rs : List ℕ) (r : ℕ) → AreMarked (λ c. list_any (λ r. has (slice_index_or remembered r []) c) rs) old mid
@@ -28,39 +27,18 @@ listed_more remembered old mid new rs r a b =
 
 -- ---- the list of those that pass a test
 
--- one number more
-range_more : (n : ℕ) → range_with_len 0 (n + 1) ≡ range_with_len 0 n ++ n ∷ []
-range_more n =
-    let one : n + 1 ≡ suc n = omega arith in
-    let last : 0 + n ≡ n = omega arith in
-    ap (range_with_len 0) one ∙ sym (range_push 0 n) ∙ ap (λ x. range_with_len 0 n ++ x ∷ []) last
-
--- a number more that passes
-pub filtered_push : (p : ℕ → Bool) (n : ℕ) → p n ≡ true → filter p (range_with_len 0 (n + 1)) ≡ filter p (range_with_len 0 n) ++ n ∷ []
-filtered_push p n e = ap (filter p) (range_more n) ∙ filter-append p (range_with_len 0 n) (n ∷ []) ∙ ap (λ l. filter p (range_with_len 0 n) ++ l) (rw e refl)
-
--- and one that doesn't
-pub filtered_pass : (p : ℕ → Bool) (n : ℕ) → p n ≡ false → filter p (range_with_len 0 (n + 1)) ≡ filter p (range_with_len 0 n)
-filtered_pass p n e = ap (filter p) (range_more n) ∙ filter-append p (range_with_len 0 n) (n ∷ [])
-    ∙ ap (λ l. filter p (range_with_len 0 n) ++ l) (rw e refl) ∙ append-nil (filter p (range_with_len 0 n))
-
 -- and so many that don't
 filtered_past : (p : ℕ → Bool) (from gap : ℕ) → ((x : ℕ) → from ≤ x → x < from + gap → p x ≡ false) → filter p (range_with_len 0 (from + gap)) ≡ filter p (range_with_len 0 from)
 filtered_past p from zero f = let e : from + zero ≡ from = omega arith in ap (λ n. filter p (range_with_len 0 n)) e
 filtered_past p from (suc gap) f =
     let e : from + suc gap ≡ from + gap + 1 = omega arith in
-    ap (λ n. filter p (range_with_len 0 n)) e ∙ filtered_pass p (from + gap) (f (from + gap) (omega arith) (omega arith)) ∙ filtered_past p from gap (λ x le lt. f x le (omega (arith, lt)))
+    ap (λ n. filter p (range_with_len 0 n)) e ∙ filter_range_no p (from + gap) (f (from + gap) (omega arith) (omega arith)) ∙ filtered_past p from gap (λ x le lt. f x le (omega (arith, lt)))
 
 -- up to another
 pub filtered_to : (p : ℕ → Bool) (from to : ℕ) → from ≤ to → ((x : ℕ) → from ≤ x → x < to → p x ≡ false) → filter p (range_with_len 0 to) ≡ filter p (range_with_len 0 from)
 filtered_to p from to le f =
     let e : from + (to - from) ≡ to = omega (arith, le) in
     ap (λ n. filter p (range_with_len 0 n)) (sym e) ∙ filtered_past p from (to - from) (λ x ge lt. f x ge (omega (arith, lt, le)))
-
--- tests that the members don't tell apart
-pub filter_same_in : {A : Type 0} (p q : A → Bool) (xs : List A) → ((x : A) → In xs x → p x ≡ q x) → filter p xs ≡ filter q xs
-filter_same_in p q [] f = refl
-filter_same_in p q (x ∷ xs) f = rw (f x (inl refl), filter_same_in p q xs (λ y i. f y (inr i))) refl
 
 module _ (h : Heap) (valid : IsValid h) where
   -- a card lies in one of the regions

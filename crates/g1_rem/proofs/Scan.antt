@@ -1,5 +1,5 @@
 -- The slots between two addresses, object by object.
-use Rattle.std.proofs.Common.{◌≡◌, ◌≤◌, ◌<◌, ℕ, zero, suc, ◌+◌, ◌-◌, ◌/◌, ◌%◌, ◌^◌, ◌⊎◌, inl, inr, true, List, [], ◌∷◌, ◌++◌, length, slice_index, filter, flat_map, max, min, arith, refl}
+use Rattle.std.proofs.Common.{◌≡◌, ◌≤◌, ◌<◌, ℕ, ◌+◌, ◌-◌, ◌/◌, ◌%◌, ◌^◌, ◌⊎◌, inl, inr, true, List, [], ◌∷◌, ◌++◌, length, slice_index, filter, flat_map, max, min, arith, refl}
 use Rattle.std.proofs.Common.{sym, ap, subst, ◌∙◌, append-nil}
 use Rattle.std.specs.Prelude.{nat_le, nat_lt}
 use Rattle.std.specs.List.{range_with_len}
@@ -20,6 +20,7 @@ use Rattle.g1_rem.specs.Marks.{Chain}
 use Rattle.g1_rem.proofs.Rising.{Rises-range, Rises-filter, Rises-one, Rises-above}
 use Rattle.g1_rem.proofs.Lists.{filter_none}
 use Rattle.g1_rem.proofs.Order.{Chain-tiles, Chain-slots}
+pub use Rattle.g1_words.proofs.Lists.{range_until as range_more}
 
 -- an address between the two passes
 pub between_is : (lo hi p : ℕ) → lo ≤ p → p < hi → is_between lo hi p ≡ true
@@ -146,17 +147,3 @@ scan_end words from to lo hi at items s over os t =
     empty : (os : List Object) → length os ≤ 0 → (p : ℕ) → In (flat_map slots os) p → ⊥
     empty [] le p i = i
     empty (o ∷ os) le p i = omega (arith, le)
-
--- a range with the next number
-pub range_push : (a n : ℕ) → range_with_len a n ++ (a + n) ∷ [] ≡ range_with_len a (suc n)
-range_push a zero = let e : a + 0 ≡ a = omega arith in ap (λ x. x ∷ []) e
-range_push a (suc n) =
-    let e : a + suc n ≡ a + 1 + n = omega arith in
-    ap (λ x. a ∷ (range_with_len (a + 1) n ++ x ∷ [])) e ∙ ap (λ l. a ∷ l) (range_push (a + 1) n)
-
--- the same, told by its ends
-pub range_more : (a p : ℕ) → a ≤ p → range_with_len a (p - a) ++ p ∷ [] ≡ range_with_len a (p + 1 - a)
-range_more a p le =
-    let e : p ≡ a + (p - a) = omega (arith, le) in
-    let f : suc (p - a) ≡ p + 1 - a = omega (arith, le) in
-    ap (λ x. range_with_len a (p - a) ++ x ∷ []) e ∙ range_push a (p - a) ∙ ap (range_with_len a) f

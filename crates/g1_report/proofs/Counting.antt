@@ -1,6 +1,6 @@
 -- Differences that are counted as they are found.
 use Rattle.std.proofs.Common.{◌≡◌, ◌≤◌, ◌<◌, ◌+◌, ◌-◌, ◌^◌, inl, inr, ℕ, Bool, true, false, cond, List, [], ◌∷◌, ◌++◌, map, min, set, slice_index, slice_index_or, refl, sym, ◌∙◌, ap, subst, arith}
-use Rattle.std.specs.Prelude.{◌==◌, ◌⊎◌, Option, Some, IfSome, count_by}
+use Rattle.std.specs.Prelude.{◌==◌, ◌⊎◌, count_by}
 use Rattle.std.proofs.lemmas.Bool.{cases_lt}
 use Rattle.std.proofs.lemmas.List.Sums.{sum_by_push}
 use Rattle.std.proofs.lemmas.List.Elements.{Contains-get_or}
@@ -90,10 +90,6 @@ numbers_more s found f old new is adds =
     let c = count_more found f in
     adds ∙ ap (λ ns. set ns (kind_of f.what) (min (slice_index ns (kind_of f.what) + 1) (2 ^ 64 - 1))) is ∙ set_one (roots_count s.before.roots s.after.roots) found f.what
     ∙ sym (λ i. roots_count s.before.roots s.after.roots ∷ c 1 i ∷ c 2 i ∷ c 3 i ∷ c 4 i ∷ c 5 i ∷ c 6 i ∷ c 7 i ∷ [])
-
--- what is there holds of it
-pub some_then : {A : Type 0} (P : A → Type 0) (o : Option A) (x : A) → o ≡ Some x → IfSome o P → P x
-some_then P o x e h = subst (λ p. IfSome p P) e h
 
 pub counted_none : (s : Compared) (from number : ℕ) (counts : List ℕ) → counts ≡ all_counts s [] → IsCounted s from number counts
 counted_none s from number counts is = record { found = []; there = λ f i. elim i [ ]; apart = tt; earlier = λ f i. elim i [ ]; numbers = is }

@@ -1,5 +1,5 @@
 -- What is written of a choice.
-use Rattle.std.proofs.Common.{◌≡◌, ℕ, zero, suc, ◌≤◌, inl, inr, List, [], ◌∷◌, ◌++◌, map, flat_map, take, drop, length, All, refl, sym, ◌∙◌, ap, subst, arith, Vec}
+use Rattle.std.proofs.Common.{◌≡◌, ℕ, zero, suc, inl, inr, List, [], ◌∷◌, ◌++◌, map, flat_map, take, drop, length, All, refl, sym, ◌∙◌, ap, subst, arith, Vec, append-nil}
 use Rattle.std.specs.Prelude.{min, codes, slice_index, Result, Ok, Err, IfOk}
 use Rattle.std.specs.List.{range_with_len}
 use Rattle.std.proofs.lemmas.Bool.{cases_lt}
@@ -31,10 +31,6 @@ drop_least xs n = elim (cases_lt n (length xs)) [
   | inr ge ↦ let e : min (length xs) n ≡ length xs = omega (arith, ge) in ap (λ k. drop k xs) e ∙ drop_all (length xs) xs (omega arith) ∙ sym (drop_all n xs ge)
 ]
 
-append_none : {X : Type 0} (xs : List X) → xs ++ [] ≡ xs
-append_none [] = refl
-append_none (x ∷ xs) = ap (λ ys. x ∷ ys) (append_none xs)
-
 -- the lines of the candidates that are taken, of those that are left, and of the total
 pub choice_end : (order bought left : List Candidate) (taken total : ℕ) (none first second last : List ℕ) →
     bought ≡ take (min (length order) taken) order → left ≡ drop (min (length order) taken) order → none ≡ []
@@ -47,7 +43,7 @@ choice_end order bought left taken total none first second last eb el en p q r =
     let f : text_of (map (line_of (codes "taken")) bought) ≡ text_of front = ap (λ xs. text_of (map (line_of (codes "taken")) xs)) (eb ∙ take_least order taken) in
     let b : text_of (map (line_of (codes "left")) left) ≡ text_of back = ap (λ xs. text_of (map (line_of (codes "left")) xs)) (el ∙ drop_least order taken) in
     r ∙ ap (λ xs. xs ++ line_text (total_line total)) (q ∙ (λ t. (p ∙ (λ i. en i ++ f i)) t ++ b t))
-    ∙ ap (λ xs. (text_of front ++ text_of back) ++ xs) (sym (append_none (line_text (total_line total))))
+    ∙ ap (λ xs. (text_of front ++ text_of back) ++ xs) (sym (append-nil (line_text (total_line total))))
     ∙ ap (λ xs. xs ++ text_of end) (sym (text_append front back)) ∙ sym (text_append (front ++ back) end)
 
 module _ (c : Cost) (h : Heap) (remembered : List (List ℕ)) (lives : List ℕ) where

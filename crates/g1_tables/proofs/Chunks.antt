@@ -8,6 +8,7 @@ use Rattle.std.proofs.lemmas.List.Elements.{All-append, All-cons, All-nil}
 use Rattle.std.proofs.lemmas.List.Sorted.{All-permutation}
 use Rattle.std.proofs.lemmas.List.Concat.{flat_map-append}
 use Rattle.g1_work.specs.Each.{Ran, joined, EachRan, IsEachRun}
+use Rattle.g1_words.proofs.Lists.{range_split}
 
 module _ {S O : Type 0} (runs : S → ℕ → S → O → Type 0) (chunks : ℕ) (P : ℕ × O → Type 0) (says : (s : S) (c : ℕ) (t : S) (o : O) → runs s c t o → P (c, o)) where
   ran_all : (s : S) (xs : List (ℕ × O)) (t : S) → Ran runs s xs t → All P xs
@@ -32,13 +33,6 @@ module _ {S O : Type 0} (runs : S → ℕ → S → O → Type 0) (chunks : ℕ)
   pub each_out : (ss ts : List S) (os : List O) → IsEachRun runs chunks ss ts os → (k : ℕ) (d : O) → k < chunks → P (k, get_or os k d)
   each_out ss ts os r k d lt = let n = r.count in let e : 0 + k ≡ k = omega arith in
       subst (λ (i : ℕ). P (i, get_or os k d)) e (numbered 0 os (All-permutation P (joined r.parts) (enumerate_from 0 os) r.once (each_all ss r.parts ts r.workers)) k d (omega arith))
-
-range_split : (a m l : ℕ) → range_with_len a (m + l) ≡ range_with_len a m ++ range_with_len (a + m) l
-range_split a zero l = let e : zero + l ≡ l = omega arith in let f : a ≡ a + 0 = omega arith in ap (range_with_len a) e ∙ ap (λ x. range_with_len x l) f
-range_split a (suc m) l =
-    let e : suc m + l ≡ suc (m + l) = omega arith in
-    let f : a + 1 + m ≡ a + suc m = omega arith in
-    ap (range_with_len a) e ∙ ap (λ xs. a ∷ xs) (range_split (a + 1) m l ∙ ap (λ x. range_with_len (a + 1) m ++ range_with_len x l) f)
 
 -- one number more, counted from another
 pub one_row_more : (f : ℕ → List ℕ) (now after : List ℕ) (from r : ℕ) → from ≤ r → now ≡ flat_map f (range_with_len from (r - from)) →

@@ -11,12 +11,13 @@ use Rattle.std.proofs.lemmas.Iterator.Adapters.{position_from-zero}
 use Rattle.std.proofs.lemmas.Slice.Eq.{bytes_eq-Decides}
 use Rattle.std.proofs.lemmas.List.Elements.{All-nil, All-cons}
 use Rattle.std.proofs.lemmas.List.Sums.{sum_by_push}
+use Rattle.std.proofs.lemmas.List.{length-map}
 use Rattle.g1_words.specs.Geometry.{Geometry, IsWithinBounds}
 use Rattle.g1_text.specs.declared.placing.Entry.{Entry}
 use Rattle.g1_text.specs.Forms.{Single, Spells, HasSize, IsTarget, IsName, ◌▸◌, HasFront}
 use Rattle.g1_text.specs.Graphs.{NamedObject, NamedRoot, NamedGraph, SaysSizes, SaysRoot, SaysObject, IsTargetName, AreWithinBounds, Shortens, size_of, words_of, target_word}
 use Rattle.g1_text.specs.ByName.{IsEntryOf, Fills, read_root, root_word, holder_of, holders_from, place_of}
-use Rattle.g1_text.proofs.Gathering.{map_count, map_push}
+use Rattle.g1_text.proofs.Gathering.{map_push}
 
 pub some_none : {A : Type 0} {x : A} → ◌≡◌ {A = Option A} (Some x) None → ⊥
 some_none e = cc
@@ -99,7 +100,7 @@ pub object_said : (name size : List ℕ) (n slots : ℕ) (content words : List (
     → words ≡ codes "object" ∷ name ∷ size ∷ content → (o : NamedObject) × (name ≡ o.name) × (n ≡ size_of o) × (slots ≡ length o.slots) × SaysObject o words
 object_said name size n slots content words named less fits sized filled line =
     let o : NamedObject = record { name = name; slots = map target_of filled.0; written = filled.1 } in
-    let many = map_count target_of filled.0 in
+    let many = length-map filled.0 target_of in
     let some = filled.2.0 in
     let rest = filled.3.0 in
     let same_size : n ≡ size_of o = omega (arith, many, some, rest, less) in
@@ -158,7 +159,7 @@ zip_push R (a ∷ xs) (b ∷ ys) x y all r = (all.0, zip_push R xs ys x y all.1 
 
 -- WHAT IS KEPT OF A LINE
 pub root_count : (old : List (ℕ × Bor (List ℕ))) (roots : List NamedRoot) → map read_root old ≡ map root_word roots → length old ≡ length roots
-root_count old roots e = sym (map_count read_root old) ∙ ap length e ∙ map_count root_word roots
+root_count old roots e = sym (length-map old read_root) ∙ ap length e ∙ length-map roots root_word
 
 pub roots_more : (old new : List (ℕ × Bor (List ℕ))) (roots : List NamedRoot) (r : NamedRoot) (number : ℕ) (name : Bor (List ℕ)) → map read_root old ≡ map root_word roots
     → new ≡ old ++ (number, name) ∷ [] → target_word r.target ≡ name.now → map read_root new ≡ map root_word (roots ++ r ∷ [])

@@ -8,6 +8,7 @@ use Rattle.std.proofs.lemmas.Slice.Zip.{AllZip-long}
 use Rattle.std.proofs.lemmas.List.{map-append, length-map, get_or-map, get_or_default}
 use Rattle.std.proofs.lemmas.List.FromFn.{length-range_with_len}
 use Rattle.std.proofs.lemmas.List.Elements.{All-nil, All-cons, All-contains, Contains-get_or}
+use Rattle.std.proofs.lemmas.List.Folds.{flat_map-map}
 use Rattle.g1_words.specs.Heap.{Heap, word}
 use Rattle.g1_words.specs.Copy.{words_at}
 use Rattle.g1_words.specs.Valid.{IsObject, HasObject}
@@ -17,6 +18,7 @@ use Rattle.g1_words.proofs.Members.{In, In-from_contains, Contains-from_in, In-a
 use Rattle.g1_words.proofs.Ordered.{Ordered, pairs_from_ordered}
 use Rattle.g1_words.proofs.Rising.{Ordered-append, Ordered-range}
 use Rattle.g1_words.proofs.Computed.{In-range, range_above, range_below}
+use Rattle.g1_words.proofs.Lists.{Ordered-append_right, Ordered-unmap, range_split}
 use Rattle.g1_image.specs.Image.{entry_of, all_words}
 use Rattle.g1_text.specs.declared.placing.Entry.{Entry}
 use Rattle.g1_text.specs.Forms.{StandsFor}
@@ -25,7 +27,6 @@ use Rattle.g1_text.specs.ByName.{IsEntryOf, place_of}
 use Rattle.g1_text.specs.Carried.{word_for, root_value, root_targets, StandsAt, Carries, AreListed, AllNamed, IsNamed, stale_if, stale_at, stale_from, stale_slots, named_at}
 use Rattle.g1_text.specs.Filled.{AreWordsOf, object_of, located}
 use Rattle.g1_text.specs.Laid.{used_addresses, own_addresses, StartInEach, placed, size_at}
-use Rattle.g1_text.proofs.Laying.{range_split}
 use Rattle.g1_text.proofs.HeapWords.{split_front, laid_words, split_words, zip_weaker, zip_both, is_there, no_other}
 
 -- the object of the heap
@@ -33,10 +34,6 @@ abbrev pub heap_object : NamedObject × ℕ → Object
 heap_object o = record { at = o.1; size = size_of o.0; refs = length o.0.slots }
 
 -- LISTS
-
-pub flat_map_map : {A B C : Type 0} (f : B → List C) (v : A → B) (xs : List A) → flat_map f (map v xs) ≡ flat_map (λ x. f (v x)) xs
-flat_map_map f v [] = refl
-flat_map_map f v (x ∷ xs) = ap (λ l. f (v x) ++ l) (flat_map_map f v xs)
 
 lengths_zip : {A : Type 0} (f : A → List ℕ) (xs : List A) (yss : List (List ℕ)) → AllZip (λ x ys. length (f x) ≡ length ys) xs yss → length (flat_map (λ ys. ys) yss) ≡ length (flat_map f xs)
 lengths_zip f [] [] all = refl
@@ -69,10 +66,6 @@ ordered_across R [] ys x y o i j = elim i [ ]
 ordered_across R (z ∷ xs) ys x y o (inl e) j = subst (λ a. R a y) e (o.0 y (In-append_right xs ys y j))
 ordered_across R (z ∷ xs) ys x y o (inr i) j = ordered_across R xs ys x y o.1 i j
 
-ordered_back : {A : Type 0} (R : A → A → Type 0) (xs ys : List A) → Ordered R (xs ++ ys) → Ordered R ys
-ordered_back R [] ys o = o
-ordered_back R (x ∷ xs) ys o = ordered_back R xs ys o.1
-
 -- one of two places in an order has the lower number
 ordered_apart : (f : ℕ → ℕ) (xs : List ℕ) (i j : ℕ) → Ordered (λ a b. f a < f b) xs → In xs i → In xs j → f i ≡ f j → i ≡ j
 ordered_apart f [] i j o a b e = elim a [ ]
@@ -80,10 +73,6 @@ ordered_apart f (x ∷ xs) i j o (inl p) (inl q) e = sym p ∙ q
 ordered_apart f (x ∷ xs) i j o (inl p) (inr b) e = let less : f x < f j = o.0 j b in let same = ap f p in absurd (omega (arith, less, same, e))
 ordered_apart f (x ∷ xs) i j o (inr a) (inl q) e = let less : f x < f i = o.0 i a in let same = ap f q in absurd (omega (arith, less, same, e))
 ordered_apart f (x ∷ xs) i j o (inr a) (inr b) e = ordered_apart f xs i j o.1 a b e
-
-ordered_unmap : {A B : Type 0} (R : B → B → Type 0) (f : A → B) (xs : List A) → Ordered R (map f xs) → Ordered (λ x y. R (f x) (f y)) xs
-ordered_unmap R f [] o = tt
-ordered_unmap R f (x ∷ xs) o = ((λ y i. o.0 (f y) (In-map f xs y i)), ordered_unmap R f xs o.1)
 
 -- the used words of regions have rising addresses
 used_from : (w from : ℕ) (qs : List Region) (a : ℕ) → In (used_addresses w from qs) a → from ≤ a
@@ -108,7 +97,7 @@ objects_rise (o ∷ os) r = (
   (λ p i. ordered_across (λ x y. x < y) (own_addresses (heap_object o)) (flat_map (λ o. own_addresses (heap_object o)) os) o.1 p.1 r
       (In-range o.1 (size_of o.0) o.1 (omega arith) (omega arith))
       (In-flat_map (λ o. own_addresses (heap_object o)) os p p.1 i (In-range p.1 (size_of p.0) p.1 (omega arith) (omega arith)))),
-  objects_rise os (ordered_back (λ x y. x < y) (own_addresses (heap_object o)) (flat_map (λ o. own_addresses (heap_object o)) os) r),
+  objects_rise os (Ordered-append_right (λ x y. x < y) (own_addresses (heap_object o)) (flat_map (λ o. own_addresses (heap_object o)) os) r),
 )
 
 -- THE WORDS OF AN OBJECT
@@ -148,7 +137,7 @@ module _ (g : NamedGraph) (ats order : List ℕ) (h : Heap) (wordss : List (List
   own o = own_addresses (heap_object o)
 
   whole : flat_map own (located g ats order) ≡ used_addresses h.geometry.w 0 h.regions
-  whole = sym (flat_map_map own_addresses heap_object (located g ats order)) ∙ addresses
+  whole = sym (flat_map-map own_addresses heap_object (located g ats order)) ∙ addresses
 
   sizes : AllZip (λ o ws. length (own o) ≡ length ws) (located g ats order) wordss
   sizes = zip_weaker (λ o ws. AreWordsOf g ats o.0 ws) (λ o ws. length (own o) ≡ length ws)
@@ -201,7 +190,7 @@ module _ (g : NamedGraph) (ats order : List ℕ) (h : Heap) (wordss : List (List
   their_own i j d lt len same =
       let first : slice_index_or ats i d ≡ slice_index ats i = get_or_default ats i d 0 (omega (arith, lt, len)) in
       let second : slice_index_or ats j d ≡ slice_index ats j = get_or_default ats j d 0 len in
-      let e : i ≡ j = ordered_apart (slice_index ats) order i j (ordered_unmap (λ (o p : NamedObject × ℕ). o.1 < p.1) pair order rise)
+      let e : i ≡ j = ordered_apart (slice_index ats) order i j (Ordered-unmap (λ (o p : NamedObject × ℕ). o.1 < p.1) pair order rise)
       (In-from_contains order i (all i (omega (arith, lt, len, count)))) (In-from_contains order j (all j (omega (arith, len, count)))) (sym first ∙ same ∙ second) in
       absurd (omega (arith, e, lt))
 

@@ -1,7 +1,7 @@
 -- Counts that agree, and the bytes of what was read.
 use Rattle.std.proofs.Common.{◌≡◌, ℕ, ◌<◌, false, List, [], ◌∷◌, length, get_or, map, sym, ◌∙◌, ap, subst, arith}
 use Rattle.std.specs.Prelude.{Option, Some, None, IfSome, All}
-use Rattle.std.proofs.lemmas.List.{get_or_default}
+use Rattle.std.proofs.lemmas.List.{get_or_default, length-map}
 use Rattle.g1_words.specs.declared.limits.Limits.TheVariants.{Wide}
 use Rattle.g1_image.specs.declared.cursor.Version.{Version}
 use Rattle.g1_image.specs.declared.cursor.Version.TheVariants.{One, Two}
@@ -11,13 +11,13 @@ use Rattle.g1_text.specs.declared.draft.Told.{Told}
 use Rattle.g1_text.specs.Content.{Content, Line, Root, Dirty, Numbers, Remembered, Holds, Takes, Says, SaysAll, CountsAgree, Agrees, file_with}
 use Rattle.g1_text.specs.Counted.{IsMadeOf}
 use Rattle.g1_text.specs.Drafts.{counts_of}
-use Rattle.g1_text.proofs.Gathering.{map_at, map_count}
+use Rattle.g1_text.proofs.Gathering.{map_at}
 
 -- the counts of each region's line agree
 pub all_counts : (s : Content) (ts : List Told) → ((k : ℕ) (d : Told) → k < length ts → CountsAgree s (counts_of (get_or ts k d))) → All (CountsAgree s) (map counts_of ts)
 all_counts s ts each k d lt =
     let none : Told = record { line = 0; region = 0; top = None; objects = None; cards = None; found = 0 } in
-    let count = map_count counts_of ts in
+    let count = length-map ts counts_of in
     let at = get_or_default (map counts_of ts) k d (counts_of none) lt ∙ map_at counts_of ts k none in
     subst (CountsAgree s) (sym at) (each k none (omega (arith, lt, count)))
 

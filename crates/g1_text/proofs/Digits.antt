@@ -57,7 +57,7 @@ all_read text bytes at n e s end some fits =
     let t : SoFar text [] n = subst (λ l. SoFar text l n) (drop_of_length-le bytes end) s in
     ((omega (arith, ap length e, some), t.back tt), sym t.same, fits)
 
-plainly : IsNumeralModel (AllDigits 10) (digits_value 10)
+pub plainly : IsNumeralModel (AllDigits 10) (digits_value 10)
 plainly = numerals_by_value (AllDigits 10) tells_digits
 
 written : (bs : List ℕ) (n : ℕ) → n < 2 ^ 64 → bs ≡ decimal n → Spells (2 ^ 64) n bs

@@ -103,15 +103,6 @@ sizes_one s r u v fs fr fu fv e =
     let p = split_slash (decimal s) (decimal u) (decimal r) (decimal v) (digits_decimal own s fs) (digits_decimal own u fu) e in
     (decimal_injective s u fs fu p.0, decimal_injective r v fr fv p.1)
 
-pub by_index : {X : Type 0} (d : X) (xs ys : List X) → length xs ≡ length ys → ((k : ℕ) → k < length xs → get_or xs k d ≡ get_or ys k d) → xs ≡ ys
-by_index d [] [] l each = refl
-by_index d [] (y ∷ ys) l each = absurd (omega (arith, l))
-by_index d (x ∷ xs) [] l each = absurd (omega (arith, l))
-by_index d (x ∷ xs) (y ∷ ys) l each =
-    let first : x ≡ y = each 0 (omega arith) in
-    let rest = by_index d xs ys (omega (arith, l)) (λ k lt. each (suc k) (omega (arith, lt))) in
-    λ t. first t ∷ rest t
-
 -- lines by number that are the same lists
 pub ranges_one : {X : Type 0} (f g : ℕ → X) (a n : ℕ) → map f (range_with_len a n) ≡ map g (range_with_len a n) → (k : ℕ) → k < n → f (a + k) ≡ g (a + k)
 ranges_one f g a zero e k lt = absurd (omega (arith, lt))

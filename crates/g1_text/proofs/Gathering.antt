@@ -1,9 +1,5 @@
 -- Lists whose elements a function turns, and the counts of the last region's line.
-use Rattle.std.proofs.Common.{◌≡◌, ℕ, zero, suc, List, [], ◌∷◌, ◌++◌, length, get_or, map, set, refl, ap, arith}
-
-length_map : {A B : Type 0} (f : A → B) (xs : List A) → length (map f xs) ≡ length xs
-length_map f [] = refl
-length_map f (x ∷ xs) = let rest = length_map f xs in omega (arith, rest)
+use Rattle.std.proofs.Common.{◌≡◌, ℕ, zero, suc, List, [], ◌∷◌, ◌++◌, get_or, map, set, refl, ap}
 
 -- an element of a list that is seen by a function
 module _ {A B : Type 0} (f : A → B) where
@@ -18,9 +14,6 @@ module _ {A B : Type 0} (f : A → B) where
   map_at [] (suc n) d = refl
   map_at (x ∷ xs) zero d = refl
   map_at (x ∷ xs) (suc n) d = map_at xs n d
-
-  pub map_count : (xs : List A) → length (map f xs) ≡ length xs
-  map_count xs = length_map f xs
 
   pub map_push : (xs : List A) (y : A) → map f (xs ++ y ∷ []) ≡ map f xs ++ f y ∷ []
   map_push [] y = refl

@@ -13,15 +13,8 @@ use Rattle.g1_words.specs.declared.object.Object.{Object}
 use Rattle.g1_words.specs.declared.region.Region.{Region}
 use Rattle.g1_words.specs.declared.region.Kind.{Kind}
 use Rattle.g1_words.specs.declared.region.Kind.TheVariants.{Free, Ordinary, HumongousFirst, Continuation}
+use Rattle.g1_words.proofs.Lists.{range_split}
 use Rattle.g1_text.specs.Laid.{used_addresses, own_addresses, EndToEnd, StartIn, StartInEach, AreLaid}
-
--- ADDRESSES, one after the other
-pub range_split : (a m n : ℕ) → range_with_len a (m + n) ≡ range_with_len a m ++ range_with_len (a + m) n
-range_split a zero n = let e : 0 + n ≡ n = omega arith in let f : a ≡ a + 0 = omega arith in (λ i. range_with_len (f i) (e i))
-range_split a (suc m) n =
-    let e : suc m + n ≡ suc (m + n) = omega arith in
-    let f : a + 1 + m ≡ a + suc m = omega arith in
-    ap (range_with_len a) e ∙ ap (λ l. a ∷ l) (range_split (a + 1) m n ∙ ap (λ b. range_with_len (a + 1) m ++ range_with_len b n) f)
 
 -- as many as a region has words, and the others from the next region on
 range_cut : (b w size c : ℕ) → c ≡ b + w → range_with_len b size ≡ range_with_len b (min w size) ++ range_with_len c (size - w)

@@ -7,6 +7,7 @@ use Rattle.std.specs.Str.{bytes_eq}
 use Rattle.std.proofs.lemmas.Bool.{false≢true}
 use Rattle.std.proofs.lemmas.List.Elements.{All-contains}
 use Rattle.std.proofs.lemmas.Slice.Eq.{bytes_eq-Decides}
+use Rattle.std.proofs.lemmas.List.Folds.{flat_map-map}
 use Rattle.g1_words.specs.Heap.{Heap, kind, word, object_at, slots}
 use Rattle.g1_words.specs.References.{named, root_targets, targets}
 use Rattle.g1_words.specs.Live.{Live, seed, child}
@@ -22,7 +23,7 @@ use Rattle.g1_text.specs.Graphs.{NamedObject, NamedGraph, SayNamed}
 use Rattle.g1_text.specs.Carried.{word_for, root_value, StandsAt, Carries}
 use Rattle.g1_text.specs.Renamed.{HasOwnNames, LeadsTo, LeadsNowhere, IsReached, by_root, by_slot}
 use Rattle.g1_text.specs.Laws.{TextsGiveOwnNames}
-use Rattle.g1_text.proofs.Carrying.{heap_object, flat_map_map}
+use Rattle.g1_text.proofs.Carrying.{heap_object}
 use Rattle.g1_text.proofs.Lookups.{some_some, none_some}
 
 -- PAIRS of two lists
@@ -210,7 +211,7 @@ module _ (g : NamedGraph) (ats : List ℕ) (h : Heap) (own : HasOwnNames g) (val
   slot_targets : (o : NamedObject) (a : ℕ) → Stands o a → targets h a ≡ flat_map named (map (word_for g ats) o.slots)
   slot_targets o a i =
       ap (λ q. flat_map (λ p. named (word h p)) (slots q)) (sym (is_at o a i))
-      ∙ sym (flat_map_map named (word h) (slots (heap_object (o, a))))
+      ∙ sym (flat_map-map named (word h) (slots (heap_object (o, a))))
       ∙ ap (flat_map named) (stands_at o a i).slots
 
   pub reached : (a : ℕ) → Live h a → (o : NamedObject) × Stands o a × IsReached g o

@@ -6,9 +6,10 @@ use Rattle.std.specs.Result.{OkIff, result_ok}
 use Rattle.std.specs.Borrow.{Bor}
 use Rattle.std.specs.Str.{all_ascii_digits}
 use Rattle.std.specs.Str.Parse.{AllDigits, IsNumeral, ParsesUnsigned, digits_value}
-use Rattle.std.proofs.lemmas.Str.Parse.{IsNumeralModel, numerals_by_value, tells_digits, tells_all_ascii_digits, parse_plain, parse_gives, not_in_digits}
+use Rattle.std.proofs.lemmas.Str.Parse.{IsNumeralModel, numerals_by_value, tells_all_ascii_digits, parse_plain, parse_gives, not_in_digits}
 use Rattle.std.proofs.lemmas.Str.Pattern.{IsSplitOnceResult, split_after}
 use Rattle.g1_text.specs.Forms.{Spells, IsBelow, HasSize}
+use Rattle.g1_text.proofs.Digits.{plainly}
 use Rattle.std.proofs.lemmas.Fmt.{digits_decimal, digits_value-decimal, decimal_nonempty}
 
 pub own : IsNumeralModel (λ ds. all_ascii_digits ds ≡ true) (digits_value 10)
@@ -31,9 +32,6 @@ pub at_slash : (size slots : ℕ) (bs : List ℕ) (r : Option (Bor (List ℕ) ×
     → MatchOption r ⊥ (λ x. (x.0.now ≡ decimal size) × (x.1.now ≡ decimal slots))
 at_slash size slots bs r h small e =
     split_after 47 bs (decimal size) (decimal slots) r h (omega arith) e (not_in_digits own (decimal size) 47 (digits_decimal own size small) (λ q. let low = q.0 in absurd (omega (arith, low))))
-
-plainly : IsNumeralModel (AllDigits 10) (digits_value 10)
-plainly = numerals_by_value (AllDigits 10) tells_digits
 
 -- a number has no plus
 pub unsigned : (bs : List ℕ) → IsNumeral 10 bs → get_or bs 0 0 ≢ 43

@@ -6,14 +6,13 @@ use Rattle.std.specs.Str.Parse.{AllDigits, digits_value}
 use Rattle.std.specs.Float.Parse.{parse_float, read_float}
 use Rattle.std.specs.Float.Numeral.{scan_numeral}
 use lib.Ieee.{binary64}
-use Rattle.std.proofs.lemmas.List.{take-append-drop, length-drop}
+use Rattle.std.proofs.lemmas.List.{take-append-drop, length-drop, length-map}
 use Rattle.std.proofs.lemmas.List.Elements.{All-nil, All-cons, All-append}
 use Rattle.g1_words.specs.Geometry.{Geometry}
 use Rattle.g1_text.specs.Forms.{Spells, HasSize, IsDataWord}
 use Rattle.g1_text.specs.Graphs.{NamedObject, NamedRoot, NamedGraph, SaysSizes, SaysRoot, SaysObject, SaysNamed, SayNamed, Shortens, IsTargetName, size_of, target_word, holder_words, empty_graph}
 use Rattle.g1_text.specs.Laws.{TextsSayOneGraph}
 use Rattle.g1_text.proofs.Fields.{fronts_one}
-use Rattle.g1_text.proofs.Gathering.{map_count}
 
 -- NUMBERS
 no_slash : (a : ℕ) → 47 ≡ a → digit_value a < 10 → ⊥
@@ -146,8 +145,8 @@ object_one o p words a b =
     let sizes = size_one (size_of o) (length o.slots) (size_of p) (length p.slots) a.size b.size a.has_size b.has_size (ap (λ ws. get_or ws 2 []) e) in
     let same_size = sizes.0 in
     let same_slots = sizes.1 in
-    let one = map_count target_word o.slots in
-    let two = map_count target_word p.slots in
+    let one = length-map o.slots target_word in
+    let two = length-map p.slots target_word in
     let content = shortened_one (map target_word o.slots) (map target_word p.slots) o.written p.written a.content (omega (arith, same_slots, one, two)) (omega (arith, same_size, same_slots))
     (All-append (λ w. w ≢ codes "..") (map target_word o.slots) o.written (names_no_dots o.slots a.targets) (data_no_dots o.written a.are_data))
     (All-append (λ w. w ≢ codes "..") (map target_word p.slots) p.written (names_no_dots p.slots b.targets) (data_no_dots p.written b.are_data))

@@ -1,14 +1,15 @@
 -- The words of a line say at most one thing.
-use Rattle.std.proofs.Common.{◌≡◌, ℕ, suc, ◌+◌, ◌-◌, ◌*◌, ◌^◌, ◌<◌, Bool, List, [], ◌∷◌, ◌++◌, length, get_or, drop, map, set, refl, sym, ◌∙◌, ap, subst, arith}
+use Rattle.std.proofs.Common.{◌≡◌, ℕ, ◌+◌, ◌-◌, ◌*◌, ◌^◌, ◌<◌, Bool, List, [], ◌∷◌, ◌++◌, length, get_or, drop, map, set, sym, ◌∙◌, ap, subst, arith}
 use Rattle.std.specs.Prelude.{Option, Some, None, IfSome, All, decimal, slice_index_or}
 use Rattle.std.proofs.lemmas.Fmt.{decimal_injective}
+use Rattle.std.proofs.lemmas.List.{length-map}
 use Rattle.g1_words.specs.declared.region.Region.{Region}
 use Rattle.g1_words.specs.declared.region.Kind.{Kind}
 use Rattle.g1_text.specs.Lines.{reference_word}
 use Rattle.g1_text.specs.Laws.{LinesSayOne}
 use Rattle.g1_text.specs.Content.{Content, Counts, Line, Root, Dirty, Numbers, Remembered, Holds, Takes, Adds, Begins}
 use Rattle.g1_text.specs.Content.{begun, words_of, words_beyond, size_with, top_behind, beyond_behind, one_found}
-use Rattle.g1_text.proofs.Splitting.{Small}
+use Rattle.g1_text.proofs.Splitting.{Small, small_all}
 use Rattle.g1_text.proofs.Ends.{one_end}
 use Rattle.g1_text.proofs.Fields.{word_at, current_one, reference_one, kind_one, pin_one, numbers_one, references_one, fronts_one, sizes_one}
 
@@ -16,20 +17,12 @@ use Rattle.g1_text.proofs.Fields.{word_at, current_one, reference_one, kind_one,
 abbrev tag : List (List ℕ) → ℕ
 tag words = length (word_at 0 words) + 100 * get_or (word_at 0 words) 0 0
 
-all_small : (xs : List ℕ) → All (λ x. x < 2 ^ 64) xs → Small xs
-all_small [] all = tt
-all_small (x ∷ xs) all = (all 0 0 (omega arith), all_small xs (λ k d lt. all (suc k) d (omega (arith, lt))))
-
 cards_small : (xs : List ℕ) → All (λ x. x < 2 ^ 32) xs → Small xs
-cards_small xs all = all_small xs (λ k d lt. let small = all k d lt in omega (arith, small))
+cards_small xs all = small_all xs (λ k d lt. let small = all k d lt in omega (arith, small))
 
 current_small : (c : Option ℕ) → IfSome c (λ r. r < 2 ^ 32) → IfSome c (λ r. r < 2 ^ 64)
 current_small None small = tt
 current_small (Some r) small = omega (arith, small)
-
-length_map : {A B : Type 0} (f : A → B) (xs : List A) → length (map f xs) ≡ length xs
-length_map f [] = refl
-length_map f (x ∷ xs) = let rest = length_map f xs in omega (arith, rest)
 
 pub heading_one : (words : List (List ℕ)) (c d : Content) → Begins words c → Begins words d → c ≡ d
 heading_one words c d a b =
@@ -97,10 +90,10 @@ object_one s at slots values at' slots' values' c d e a b =
     let fits' = b.10 in
     let sizes = sizes_one (size_with slots values) (length slots) (size_with slots' values') (length slots')
     (omega (arith, fits)) (omega (arith, fits)) (omega (arith, fits')) (omega (arith, fits')) (ap (word_at 2) e) in
-    let lengths : length (map reference_word slots) ≡ length (map reference_word slots') = length_map reference_word slots ∙ sizes.1 ∙ sym (length_map reference_word slots') in
+    let lengths : length (map reference_word slots) ≡ length (map reference_word slots') = length-map slots reference_word ∙ sizes.1 ∙ sym (length-map slots' reference_word) in
     let parts = fronts_one (map reference_word slots) (map reference_word slots') (map decimal values) (map decimal values') lengths (ap (drop 3) e) in
-    let references = references_one slots slots' (all_small slots a.11) (all_small slots' b.11) parts.0 in
-    let numbers = numbers_one values values' (all_small values a.12) (all_small values' b.12) parts.1 in
+    let references = references_one slots slots' (small_all slots a.11) (small_all slots' b.11) parts.0 in
+    let numbers = numbers_one values values' (small_all values a.12) (small_all values' b.12) parts.1 in
     let place = decimal_injective at at' a.8 b.8 (ap (word_at 1) e) in
     a.14 ∙ (λ t. with_object s (regions.0 t) (regions.1 t) (counts.0 t) (counts.1 t) (place t) (references t) (numbers t)) ∙ sym b.14
 

@@ -1,12 +1,13 @@
 -- Two images with one full text are one image.
-use Rattle.std.proofs.Common.{◌≡◌, ℕ, zero, suc, ◌+◌, ◌*◌, ◌/◌, ◌%◌, ◌<◌, ◌≤◌, inl, inr, List, [], ◌∷◌, ◌++◌, length, get_or, drop, map, flat_map, refl, sym, ◌∙◌, ap, subst, arith}
-use Rattle.std.proofs.Common.{append_assoc, div-add-mod', mod-lt}
+use Rattle.std.proofs.Common.{◌≡◌, ℕ, zero, suc, ◌+◌, ◌*◌, ◌/◌, ◌%◌, ◌<◌, ◌≤◌, inl, inr, List, [], ◌++◌, length, get_or, drop, map, flat_map, sym, ◌∙◌, ap, subst, arith}
+use Rattle.std.proofs.Common.{append_assoc, div-add-mod', mod-lt, ext_get_or}
 use Rattle.std.specs.Prelude.{slice_index}
 use Rattle.std.specs.List.{range_with_len}
 use Rattle.std.proofs.Math.Nat.{div-lt_iff_lt-mul}
 use Rattle.std.proofs.lemmas.Bool.{cases_lt}
 use Rattle.std.proofs.lemmas.Fmt.{decimal_injective}
 use Rattle.std.proofs.lemmas.List.FromFn.{length-map-range_with_len}
+use Rattle.std.proofs.lemmas.List.{length-map}
 use Rattle.g1_words.specs.Heap.{free_region, region, kind, top, pinned, start, objects_in}
 use Rattle.g1_words.specs.Valid.{IsValid}
 use Rattle.g1_words.specs.declared.object.Object.{Object}
@@ -16,12 +17,8 @@ use Rattle.g1_image.specs.Image.{Image, IsImage, remembered_of}
 use Rattle.g1_text.specs.Lines.{root_line, root_lines, log_lines, remembered_lines, object_line, region_line, region_lines, heading, image_lines, image_text}
 use Rattle.g1_text.proofs.Splitting.{one_list, small_at}
 use Rattle.g1_text.proofs.Bounded.{image_are_lines, log_small, remembered_small, roots_small, top_small, objects_few, current_small}
-use Rattle.g1_text.proofs.Fields.{word_at, reference_one, current_one, kind_one, pin_one, fronts_one, log_one, remembered_one, by_index, ranges_one}
+use Rattle.g1_text.proofs.Fields.{word_at, reference_one, current_one, kind_one, pin_one, fronts_one, log_one, remembered_one, ranges_one}
 use Rattle.g1_text.proofs.OneImage.{SameWords, IsHeld, objects_one, word_one, held, plain}
-
-length_map : {X Y : Type 0} (f : X → Y) (xs : List X) → length (map f xs) ≡ length xs
-length_map f [] = refl
-length_map f (x ∷ xs) = let r = length_map f xs in omega (arith, r)
 
 -- a region of two images is the same
 record SameRegion (i j : Image) (r : ℕ) : Type 0 where
@@ -51,7 +48,7 @@ module _ (i j : Image) (good : IsImage i) (fine : IsImage j) (same_n : i.heap.ge
       let behind : remembered_lines r (remembered_of i r) ++ (lines_i ++ us) ≡ remembered_lines r (remembered_of j r) ++ (lines_j ++ vs) =
       sym (append_assoc (remembered_lines r (remembered_of i r)) lines_i us) ∙ ap (drop 1) e ∙ append_assoc (remembered_lines r (remembered_of j r)) lines_j vs in
       let sets = remembered_one r (remembered_of i r) (remembered_of j r) (lines_i ++ us) (lines_j ++ vs) cards (remembered_small i good r lt) (remembered_small j fine r there) behind in
-      let parts = fronts_one lines_i lines_j us vs (length_map (object_line i.heap.words) (objects_in i.heap r) ∙ counts ∙ sym (length_map (object_line j.heap.words) (objects_in j.heap r))) sets.1 in
+      let parts = fronts_one lines_i lines_j us vs (length-map (objects_in i.heap r) (object_line i.heap.words) ∙ counts ∙ sym (length-map (objects_in j.heap r) (object_line j.heap.words))) sets.1 in
       let all = objects_one i.heap.words j.heap.words (objects_in i.heap r) (objects_in j.heap r) (λ o m. plain i good r o lt m) (λ o m. plain j fine r o there m) parts.0 in (
         record {
           region = (λ t. record { kind = kinds t; top = tops t; pinned = pins t });
@@ -104,16 +101,16 @@ module _ (i j : Image) (good : IsImage i) (fine : IsImage j) (same_n : i.heap.ge
         let products : i.heap.geometry.n * i.heap.geometry.w ≡ j.heap.geometry.n * j.heap.geometry.w = (λ t. same_n t * same_w t) in
         let vi : IsValid i.heap = good.heap in
         let vj : IsValid j.heap = fine.heap in
-        by_index 0 i.heap.words j.heap.words (omega (arith, vi.word_count, vj.word_count, products)) word_same
+        ext_get_or 0 i.heap.words j.heap.words (omega (arith, vi.word_count, vj.word_count, products)) word_same
 
     regions_same : i.heap.regions ≡ j.heap.regions
     regions_same =
         let vi : IsValid i.heap = good.heap in
         let vj : IsValid j.heap = fine.heap in
-        by_index free_region i.heap.regions j.heap.regions (omega (arith, vi.region_count, vj.region_count, same_n)) (λ r lt. (each r (omega (arith, lt, vi.region_count))).region)
+        ext_get_or free_region i.heap.regions j.heap.regions (omega (arith, vi.region_count, vj.region_count, same_n)) (λ r lt. (each r (omega (arith, lt, vi.region_count))).region)
 
     sets_same : i.remembered ≡ j.remembered
-    sets_same = by_index [] i.remembered j.remembered (omega (arith, good.one_each, fine.one_each, same_n)) (λ r lt. (each r (omega (arith, lt, good.one_each))).remembered)
+    sets_same = ext_get_or [] i.remembered j.remembered (omega (arith, good.one_each, fine.one_each, same_n)) (λ r lt. (each r (omega (arith, lt, good.one_each))).remembered)
 
 pub one_image : (i j : Image) → IsImage i → IsImage j → image_text i ≡ image_text j → i ≡ j
 one_image i j good fine e =
@@ -139,7 +136,7 @@ one_image i j good fine e =
     (length-map-range_with_len line_i 0 (length i.heap.roots) ∙ roots ∙ sym (length-map-range_with_len line_j 0 (length j.heap.roots)))
     (sym (append_assoc (root_lines i.heap.roots) (log_lines i.log) table_i) ∙ ap (drop 1) lines ∙ append_assoc (root_lines j.heap.roots) (log_lines j.log) table_j) in
     let root_each = ranges_one line_i line_j 0 (length i.heap.roots) (front.0 ∙ ap (λ n. map line_j (range_with_len 0 n)) (sym roots)) in
-    let same_roots : i.heap.roots ≡ j.heap.roots = by_index 0 i.heap.roots j.heap.roots roots
+    let same_roots : i.heap.roots ≡ j.heap.roots = ext_get_or 0 i.heap.roots j.heap.roots roots
     (λ k lt. let z : 0 + k ≡ k = omega arith in
     ap (slice_index i.heap.roots) (sym z) ∙ reference_one (slice_index i.heap.roots (0 + k)) (slice_index j.heap.roots (0 + k))
     (small_at i.heap.roots (0 + k) (roots_small i good)) (small_at j.heap.roots (0 + k) (roots_small j fine)) (ap (word_at 2) (root_each k lt))

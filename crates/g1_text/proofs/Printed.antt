@@ -1,6 +1,6 @@
 -- The text of lines that are pushed one after the other.
-use Rattle.std.proofs.Common.{◌≡◌, ℕ, zero, suc, ◌+◌, ◌<◌, ◌≤◌, ◌==◌, inl, inr, false, List, [], ◌∷◌, ◌++◌, length, get_or, take, map, flat_map, Contains, refl, sym, ◌∙◌, ap, subst, arith, append_assoc}
-use Rattle.std.specs.Prelude.{Result, Ok, Err, OnOk, is_ok, if◌then◌else◌, decimal, codes, slice_index}
+use Rattle.std.proofs.Common.{◌≡◌, ℕ, zero, suc, ◌+◌, ◌<◌, ◌≤◌, ◌==◌, inl, inr, false, List, [], ◌∷◌, ◌++◌, length, get_or, take, map, flat_map, Contains, refl, sym, ◌∙◌, ap, subst, arith, append_assoc, append-nil}
+use Rattle.std.specs.Prelude.{decimal, codes, slice_index}
 use Rattle.std.specs.List.{range_with_len}
 use Rattle.std.proofs.lemmas.List.{flat_map_more}
 use Rattle.std.proofs.lemmas.List.Concat.{flat_map-append}
@@ -12,6 +12,7 @@ use Rattle.g1_words.proofs.Members.{In, Contains-from_in, map_cases, In-flat_map
 use Rattle.g1_words.proofs.Indices.{get_or-In}
 use Rattle.g1_words.proofs.Computed.{In-range, in_region_has, contains_has}
 use Rattle.g1_words.proofs.Sound.{has_is, object_in}
+use Rattle.g1_words.proofs.Lists.{range_more}
 use Rattle.g1_image.specs.Image.{Image}
 use Rattle.g1_text.specs.Lines.{line_text, further, text_of, reference_word, heading, root_line, root_lines, cards_words, log_lines, slot_values, data_values, object_line, region_lines, image_text}
 
@@ -25,13 +26,6 @@ one_more {X} f old now after xs i d lt e p =
     more [] i lt = absurd (omega (arith, lt))
     more (x ∷ xs) zero lt = refl
     more (x ∷ xs) (suc i) lt = let e : suc i + 1 ≡ suc (i + 1) = omega arith in ap (λ n. take n (x ∷ xs)) e ∙ ap (λ ys. x ∷ ys) (more xs i (omega (arith, lt)))
-
-range_more : (a n : ℕ) → range_with_len a (n + 1) ≡ range_with_len a n ++ (a + n) ∷ []
-range_more a zero = let e : a ≡ a + 0 = omega arith in ap (λ x. x ∷ []) e
-range_more a (suc n) =
-    let e : suc n + 1 ≡ suc (n + 1) = omega arith in
-    let f : a + 1 + n ≡ a + suc n = omega arith in
-    ap (range_with_len a) e ∙ ap (λ ys. a ∷ ys) (range_more (a + 1) n ∙ ap (λ x. range_with_len (a + 1) n ++ x ∷ []) f)
 
 -- one number more
 pub one_number_more : (f : ℕ → List ℕ) (old now after : List ℕ) (n : ℕ) → now ≡ old ++ flat_map f (range_with_len 0 n) → after ≡ now ++ f n → after ≡ old ++ flat_map f (range_with_len 0 (n + 1))
@@ -50,12 +44,8 @@ pub further_map : {X : Type 0} (f : X → List ℕ) (xs : List X) (words : List 
 further_map f [] words = refl
 further_map f (x ∷ xs) words = ap (λ ys. 32 ∷ (f x ++ ys)) (further_map f xs words) ∙ ap (λ ys. 32 ∷ ys) (sym (append_assoc (f x) (flat_map (λ x. 32 ∷ f x) xs) (further words)))
 
-append_none : {X : Type 0} (xs : List X) → xs ++ [] ≡ xs
-append_none [] = refl
-append_none (x ∷ xs) = ap (λ ys. x ∷ ys) (append_none xs)
-
 pub further_words : {X : Type 0} (f : X → List ℕ) (xs : List X) → further (map f xs) ≡ flat_map (λ x. 32 ∷ f x) xs ++ 10 ∷ []
-further_words f xs = ap further (sym (append_none (map f xs))) ∙ further_map f xs []
+further_words f xs = ap further (sym (append-nil (map f xs))) ∙ further_map f xs []
 
 pub text_map : {X : Type 0} (f : X → List (List ℕ)) (xs : List X) → text_of (map f xs) ≡ flat_map (λ x. line_text (f x)) xs
 text_map f xs = flat_map-map line_text f xs
@@ -92,11 +82,6 @@ module _ (h : Heap) (r : ℕ) (valid : IsValid h) (lt : r < h.geometry.n) where
       ∙ same_text (λ (o : Object). line_text (f (object_at h o.at))) (λ o. line_text (f o)) (objects_in h r) (λ o i. ap (λ q. line_text (f q)) (is_object o i))
       ∙ sym (text_map f (objects_in h r))
 
--- what a push that was the last thing adds
-pub pushed : {R E : Type 0} (r : Result R E) (after more same wanted : List ℕ) → (after ≡ more → after ≡ wanted) → after ≡ (if is_ok r then more else same) → OnOk r (after ≡ wanted)
-pushed (Ok x) after more same wanted f e = f e
-pushed (Err x) after more same wanted f e = tt
-
 -- four pieces, one behind the other
 four : (old first middle now after t a b e : List ℕ) → first ≡ old ++ t → middle ≡ first ++ a → now ≡ middle ++ b → after ≡ now ++ e → after ≡ old ++ (t ++ (a ++ (b ++ e)))
 four old first middle now after t a b e p q r s =
@@ -108,18 +93,18 @@ pub numbers_end : (old first now after word numbers : List ℕ) (i : ℕ) → le
     now ≡ first ++ flat_map (λ x. 32 ∷ decimal x) (take i numbers) → after ≡ now ++ 10 ∷ []
     → after ≡ old ++ (word ++ further (map decimal numbers))
 numbers_end old first now after word numbers i le p q r =
-    four old first now now after word (flat_map (λ x. 32 ∷ decimal x) (take i numbers)) [] (10 ∷ []) p q (sym (append_none now)) r
+    four old first now now after word (flat_map (λ x. 32 ∷ decimal x) (take i numbers)) [] (10 ∷ []) p q (sym (append-nil now)) r
     ∙ ap (λ xs. old ++ (word ++ xs)) (ap (λ xs. flat_map (λ x. 32 ∷ decimal x) xs ++ 10 ∷ []) (take_all i numbers le) ∙ sym (further_words decimal numbers))
 
 -- the head of an object's line
 pub header_end : (old first now after : List ℕ) (o : Object) → first ≡ old ++ (codes "object " ++ decimal o.at) → now ≡ first ++ 32 ∷ decimal o.size → after ≡ now ++ 47 ∷ decimal o.refs
     → after ≡ old ++ (codes "object " ++ (decimal o.at ++ 32 ∷ (decimal o.size ++ 47 ∷ decimal o.refs)))
-header_end old first now after o p q r = four old first now now after (codes "object " ++ decimal o.at) (32 ∷ decimal o.size) [] (47 ∷ decimal o.refs) p q (sym (append_none now)) r
+header_end old first now after o p q r = four old first now now after (codes "object " ++ decimal o.at) (32 ∷ decimal o.size) [] (47 ∷ decimal o.refs) p q (sym (append-nil now)) r
 
 -- a root's line, piece by piece
 pub root_end : (old first now after : List ℕ) (m x : ℕ) → first ≡ old ++ (codes "root " ++ decimal m) → now ≡ first ++ 32 ∷ reference_word x → after ≡ now ++ 10 ∷ []
     → after ≡ old ++ line_text (root_line m x)
-root_end old first now after m x p q r = four old first now now after (codes "root " ++ decimal m) (32 ∷ reference_word x) [] (10 ∷ []) p q (sym (append_none now)) r
+root_end old first now after m x p q r = four old first now now after (codes "root " ++ decimal m) (32 ∷ reference_word x) [] (10 ∷ []) p q (sym (append-nil now)) r
 
 -- the line of the log
 pub log_end : (old first after : List ℕ) (cards : List ℕ) → false ≡ (length cards == 0) → first ≡ old ++ codes "dirty" → after ≡ first ++ further (cards_words cards)
@@ -127,7 +112,7 @@ pub log_end : (old first after : List ℕ) (cards : List ℕ) → false ≡ (len
 log_end old first after [] some p q = grind arith
 log_end old first after (card ∷ cards) some p q =
     let words : List ℕ = further (cards_words (card ∷ cards)) in
-    q ∙ ap (λ xs. xs ++ words) p ∙ append_assoc old (codes "dirty") words ∙ ap (λ xs. old ++ xs) (sym (append_none (codes "dirty" ++ words)))
+    q ∙ ap (λ xs. xs ++ words) p ∙ append_assoc old (codes "dirty") words ∙ ap (λ xs. old ++ xs) (sym (append-nil (codes "dirty" ++ words)))
 
 -- an object's line, piece by piece
 pub object_end : (old first middle now after cells others words : List ℕ) (o : Object) → cells ≡ slot_values words o → others ≡ data_values words o

@@ -43,9 +43,6 @@ root_read rs roots i x d e lt =
     let count : length rs ≡ length roots = sym (length-map rs read_root) ∙ ap length e ∙ length-map roots root_word in
     sym (get_or-map read_root rs i x [] lt) ∙ ap (λ l. get_or l i []) e ∙ get_or-map root_word roots i d [] (omega (arith, lt, count))
 
-pub root_count : (rs : List (ℕ × Bor (List ℕ))) (roots : List NamedRoot) → map read_root rs ≡ map root_word roots → length rs ≡ length roots
-root_count rs roots e = sym (length-map rs read_root) ∙ ap length e ∙ length-map roots root_word
-
 -- the word of a slot
 pub slot_read : (names : List (Bor (List ℕ))) (ts : List (Option (List ℕ))) (i : ℕ) (x : Bor (List ℕ)) → map (λ (t : Bor (List ℕ)). t.now) names ≡ map target_word ts → i < length names
     → (get_or names i x).now ≡ target_word (get_or ts i None)

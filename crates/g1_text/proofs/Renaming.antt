@@ -12,6 +12,7 @@ use Rattle.g1_words.specs.Copy.{renamed, words_at, IsCopy}
 use Rattle.g1_words.specs.Graph.{SameGraph}
 use Rattle.g1_words.specs.declared.object.Object.{Object}
 use Rattle.g1_words.proofs.Computed.{has_contains, contains_has}
+use Rattle.g1_words.proofs.Lists.{range_split}
 use Rattle.g1_text.specs.Forms.{StandsFor}
 use Rattle.g1_text.specs.Graphs.{NamedObject, NamedRoot, NamedGraph, size_of}
 use Rattle.g1_text.specs.Carried.{word_for, root_value, Carries}
@@ -20,7 +21,6 @@ use Rattle.g1_text.specs.Laws.{SameCarried, SameWhereverPlaced}
 use Rattle.g1_text.proofs.Carrying.{heap_object}
 use Rattle.g1_text.proofs.Fields.{fronts_one}
 use Rattle.g1_text.proofs.HeapWords.{zip_weaker}
-use Rattle.g1_text.proofs.Laying.{range_split}
 use Rattle.g1_text.proofs.OneValue.{one_value}
 use Rattle.g1_text.proofs.NamedObjects as named
 

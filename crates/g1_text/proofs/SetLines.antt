@@ -1,9 +1,9 @@
 -- The line of a region's remembered set, as lines are gone through.
 use Rattle.std.proofs.Common.{◌≡◌, ◌≢◌, ◌<◌, inl, inr, ℕ, ◌+◌, List, [], ◌∷◌, ◌++◌, length, take, get_or, map, append_assoc, sym, ◌∙◌, ap, subst, arith, Vec, Global}
-use Rattle.std.proofs.lemmas.List.{take_more, take_all, get_or_default}
+use Rattle.std.proofs.lemmas.List.{take_more, take_all, get_or_default, length-map}
 use Rattle.std.proofs.lemmas.List.Elements.{All-nil, All-cons, All-append}
 use Rattle.g1_text.specs.FaultLines.{LineNumbers, IsSetLine}
-use Rattle.g1_text.proofs.Gathering.{map_at, map_count}
+use Rattle.g1_text.proofs.Gathering.{map_at}
 
 -- a line is of another region
 abbrev IsOther : ℕ → ℕ × ℕ → Type 0
@@ -49,5 +49,5 @@ module _ (l : LineNumbers) (region : ℕ) where
 -- the cards of a region, among those of all regions
 pub set_at : (sets : List (Vec ℕ Global)) (k : ℕ) (v : Vec ℕ Global) → k < length sets → get_or (map (λ (s : Vec ℕ Global). s.items) sets) k [] ≡ (get_or sets k v).items
 set_at sets k v lt =
-    let count = map_count (λ (s : Vec ℕ Global). s.items) sets in
+    let count = length-map sets (λ (s : Vec ℕ Global). s.items) in
     get_or_default (map (λ (s : Vec ℕ Global). s.items) sets) k [] v.items (omega (arith, count, lt)) ∙ map_at (λ (s : Vec ℕ Global). s.items) sets k v

@@ -1,7 +1,7 @@
 -- The line of the last object below a slot, as objects are gone through, and by the objects of the heap.
 use Rattle.std.proofs.Common.{◌≡◌, ◌≤◌, ◌<◌, ◌⊎◌, inl, inr, ℕ, ◌+◌, List, [], ◌∷◌, ◌++◌, length, get_or, slice_index, map, take, drop, sym, ◌∙◌, ap, subst, arith, length-take-le, length-drop, get_or-drop}
 use Rattle.std.proofs.lemmas.Bool.{cases_lt}
-use Rattle.std.proofs.lemmas.List.{drop_more, get_or_default, take-append-drop}
+use Rattle.std.proofs.lemmas.List.{drop_more, get_or_default, take-append-drop, length-map}
 use Rattle.g1_words.specs.Heap.{Heap, objects}
 use Rattle.g1_words.specs.declared.object.Object.{Object}
 use Rattle.g1_words.specs.declared.fault.Fault.TheVariants.{Reference}
@@ -16,7 +16,7 @@ use Rattle.g1_text.specs.Content.{Content, file_with}
 use Rattle.g1_text.specs.Drafts.{StandsInHeap}
 use Rattle.g1_text.specs.FaultLines.{LineNumbers, IsLineBelow, IsSlotLine}
 use Rattle.g1_text.proofs.Adding.{address_of}
-use Rattle.g1_text.proofs.Gathering.{map_at, map_count}
+use Rattle.g1_text.proofs.Gathering.{map_at}
 use Rattle.g1_text.proofs.OneHeap.{same_heap}
 
 module _ (l : LineNumbers) (ats : List ℕ) (slot : ℕ) where
@@ -53,11 +53,11 @@ module _ (l : LineNumbers) (ats : List ℕ) (slot : ℕ) where
 -- BY THE OBJECTS of a heap, which have these addresses
 module _ (h : Heap) (ats : List ℕ) (same : ats ≡ map address_of (objects h)) where
   all : length ats ≡ length (objects h)
-  all = ap length same ∙ map_count address_of (objects h)
+  all = ap length same ∙ length-map (objects h) address_of
 
   address_at : (j : ℕ) (d : Object) → j < length (objects h) → slice_index ats j ≡ (get_or (objects h) j d).at
   address_at j d lt =
-      let count = map_count address_of (objects h) in
+      let count = length-map (objects h) address_of in
       ap (λ l. slice_index l j) same ∙ get_or_default (map address_of (objects h)) j 0 d.at (omega (arith, count, lt)) ∙ map_at address_of (objects h) j d
 
   module _ (l : LineNumbers) (many : length l.objects ≡ length ats) (slot : ℕ) (wrong : IsGoodSlot h slot → ⊥) where

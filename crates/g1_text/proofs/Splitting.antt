@@ -1,6 +1,6 @@
 -- What a text of lines says: its lines, and their words.
-use Rattle.std.proofs.Common.{◌≡◌, ◌≢◌, ℕ, zero, suc, ◌+◌, ◌-◌, ◌*◌, ◌<◌, ◌^◌, ◌⊎◌, inl, inr, Bool, true, false, ◌&&◌, List, [], ◌∷◌, ◌++◌, length, get_or, take, drop, map, All, flat_map}
-use Rattle.std.proofs.Common.{refl, sym, ◌∙◌, ap, subst, arith, rules, append_assoc, eqb, eq-eqb}
+use Rattle.std.proofs.Common.{◌≡◌, ◌≢◌, ℕ, zero, suc, ◌+◌, ◌-◌, ◌*◌, ◌<◌, ◌^◌, ◌⊎◌, inl, inr, Bool, true, ◌&&◌, List, [], ◌∷◌, ◌++◌, length, get_or, take, drop, map, All, flat_map}
+use Rattle.std.proofs.Common.{refl, sym, ◌∙◌, ap, subst, arith, rules, append_assoc, eqb}
 use Rattle.std.specs.Prelude.{not, decimal, codes, slice_index}
 use Rattle.std.specs.List.{range_with_len}
 use Rattle.std.specs.Int.{IsInRange}
@@ -8,6 +8,7 @@ use Rattle.std.proofs.lemmas.Fmt.{digits_decimal}
 use Rattle.std.proofs.lemmas.Str.Parse.{IsNumeralModel, tells_by_index, numerals_by_fold}
 use Rattle.std.proofs.lemmas.Bool.{and_parts as both}
 use Rattle.g1_words.proofs.Members.{In}
+use Rattle.g1_words.proofs.Logic.{differs}
 use Rattle.g1_text.specs.Lines.{line_text, further, text_of, reference_word}
 
 -- no byte of the word is a space or the end of a line
@@ -116,9 +117,6 @@ word_append (x ∷ vs) bs p q = (p.0, p.1, word_append vs bs p.2 q)
 abbrev pub is_word : List ℕ → Bool
 is_word [] = true
 is_word (b ∷ bs) = not (eqb b 32) && (not (eqb b 10) && is_word bs)
-
-differs : (b n : ℕ) → not (eqb b n) ≡ true → b ≢ n
-differs b n t e = let f : not true ≡ true = sym (ap not (eq-eqb b n e)) ∙ t in cc
 
 pub by_letters : (bs : List ℕ) → is_word bs ≡ true → IsWord bs
 by_letters [] t = tt

@@ -5,15 +5,12 @@ use Rattle.std.specs.Borrow.{Bor}
 use Rattle.std.specs.Str.{bytes_eq}
 use Rattle.std.proofs.lemmas.Bool.{false≢true}
 use Rattle.std.proofs.lemmas.Slice.Eq.{bytes_eq-Decides}
+use Rattle.std.proofs.lemmas.List.{map-append}
 use Rattle.g1_text.proofs.Windows.{window_first, window_last}
 
 -- the texts from one place up to another
 abbrev pub seen : List (Bor (List ℕ)) → ℕ → ℕ → List (List ℕ)
 seen ws from to = map (λ t. t.now) (take (to - from) (drop from ws))
-
-map_append : {A B : Type 0} (f : A → B) (xs ys : List A) → map f (xs ++ ys) ≡ map f xs ++ map f ys
-map_append f [] ys = refl
-map_append f (x ∷ xs) ys = ap (λ zs. f x ∷ zs) (map_append f xs ys)
 
 last_one : {A : Type 0} (xs ys : List A) (x y : A) → xs ++ x ∷ [] ≡ ys ++ y ∷ [] → x ≡ y
 last_one [] [] x y e = ap (λ zs. get_or zs 0 x) e
@@ -28,7 +25,7 @@ module _ (d : Bor (List ℕ)) (ws : List (Bor (List ℕ))) (from to : ℕ) (some
   first = sym shown ∙ ap (map (λ t. t.now)) (window_first d ws from to some within)
 
   last : now ≡ seen ws from (to - 1) ++ (get_or ws (to - 1) d).now ∷ []
-  last = sym shown ∙ ap (map (λ t. t.now)) (window_last d ws from to some within) ∙ map_append (λ (t : Bor (List ℕ)). t.now) (take (to - 1 - from) (drop from ws)) (get_or ws (to - 1) d ∷ [])
+  last = sym shown ∙ ap (map (λ t. t.now)) (window_last d ws from to some within) ∙ map-append (λ (t : Bor (List ℕ)). t.now) (take (to - 1 - from) (drop from ws)) (get_or ws (to - 1) d ∷ [])
 
   -- what is said of the word that is looked for, if it is there and if it is not
   module _ (word : List ℕ) (r : Bool) where

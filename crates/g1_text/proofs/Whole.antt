@@ -19,6 +19,7 @@ use Rattle.g1_words.specs.declared.region.Kind.{Kind}
 use Rattle.g1_words.specs.declared.region.Kind.TheVariants.{Free, Ordinary, HumongousFirst, Continuation}
 use Rattle.g1_words.proofs.Computed.{object_is, holds_are, range_below}
 use Rattle.g1_words.proofs.Members.{In, Contains-from_in}
+use Rattle.g1_words.proofs.Lists.{range_split}
 use Rattle.g1_image.specs.Image.{Image, IsImage, IsUsedCard, remembered_of, used_words}
 use Rattle.g1_text.specs.Laws.{LinesAddUp, LinesSayImage}
 use Rattle.g1_text.specs.Lines.{heading, root_lines, log_lines, region_line, region_lines, remembered_lines, object_line, image_lines}
@@ -27,7 +28,6 @@ use Rattle.g1_text.proofs.Splitting.{small_at}
 use Rattle.g1_text.proofs.Bounded.{objects_few, roots_small, top_small}
 use Rattle.g1_text.proofs.OneImage.{IsPlain, plain}
 use Rattle.g1_text.proofs.Adding.{adds_both, adds_to, map_members, said_object, object_words, address_of, read_so_far, counts_at, within_region, object_adds, objects_add}
-use Rattle.g1_text.proofs.Laying.{range_split}
 use Rattle.g1_text.proofs.OneLine.{heading_one, adds_one}
 use Rattle.g1_text.proofs.Beyond.{GoesOn, none_goes_on, none_left, none_before, past_plain, past_first, past_continuation}
 

@@ -1,6 +1,5 @@
 -- A run that goes on: its beginning, one step more, its end.
-use Rattle.std.proofs.Common.{◌≡◌, ℕ, zero, suc, ◌+◌, ◌<◌, List, [], ◌∷◌, ◌++◌, length, get_or, drop, refl, sym, ◌∙◌, ap, subst, arith}
-use Rattle.std.specs.Prelude.{IfOk, IfErr, Result, Ok, Err}
+use Rattle.std.proofs.Common.{◌≡◌, ℕ, zero, suc, ◌+◌, ◌<◌, List, [], ◌∷◌, ◌++◌, length, get_or, drop, refl, sym, ◌∙◌, ap, subst, arith, append-nil}
 use Rattle.g1_trace.specs.declared.command.Command.{Command}
 use Rattle.g1_trace.specs.declared.command.Reply.{Reply}
 use Rattle.g1_trace.specs.Run.{Replies}
@@ -8,10 +7,6 @@ use Rattle.g1_trace.specs.Run.{Replies}
 -- whatever replies the rest of the commands has from here on, with those so far before them they are replies to all
 abbrev pub GoesOn : {S : Type 0} → (S → Command → Reply → S → Type 0) → S → List Command → List Reply → S → List Command → Type 0
 GoesOn step start all replies here rest = (rs : List Reply) → Replies step here rest rs → Replies step start all (replies ++ rs)
-
-pub append-nil : {A : Type 0} (xs : List A) → xs ++ [] ≡ xs
-append-nil [] = refl
-append-nil (x ∷ xs) = ap (λ ys. x ∷ ys) (append-nil xs)
 
 pub append-one : {A : Type 0} (xs ys : List A) (x : A) → (xs ++ x ∷ []) ++ ys ≡ xs ++ (x ∷ ys)
 append-one [] ys x = refl
@@ -41,8 +36,3 @@ module _ {S : Type 0} (step : S → Command → Reply → S → Type 0) (start :
 
   pub leads_end : (replies : List Reply) (here : S) (k : ℕ) → (k < length all → ⊥) → GoesOn step start all replies here (drop k all) → Replies step start all replies
   leads_end replies here k n f = subst (Replies step start all) (append-nil replies) (f [] (subst (λ cs. Replies step here cs []) (sym (drop-past all k n)) tt))
-
--- what holds of the value in an Ok gives what follows from it
-pub IfOk-weaken : {A E : Type 0} (o : Result A E) (P Q : A → Type 0) → ((a : A) → P a → Q a) → IfOk o P → IfOk o Q
-IfOk-weaken (Ok a) P Q f h = f a h
-IfOk-weaken (Err e) P Q f h = h

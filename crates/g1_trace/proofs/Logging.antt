@@ -4,7 +4,6 @@ use Rattle.std.proofs.Common.{sym, ◌∙◌, ap, subst, arith, eqb, eqb-true, �
 use Rattle.std.specs.Prelude.{All}
 use Rattle.std.specs.List.{list_any}
 use Rattle.std.proofs.lemmas.Bool.Decides.{Decides-eqb}
-use Rattle.std.proofs.lemmas.List.{get_or_default}
 use Rattle.std.proofs.lemmas.Map.Made.{IsDistinct-from_AllPairs}
 use Rattle.std.proofs.lemmas.Map.Steps.{length-le_from_distinct_below}
 use Rattle.std.proofs.Math.Nat.{mul-le-mul_left}
@@ -18,14 +17,12 @@ use Rattle.g1_words.proofs.Members.{In, In-from_contains, Contains-from_in, In-a
 use Rattle.g1_words.proofs.Ordered.{Ordered-from_pairs, pairs_from_ordered}
 use Rattle.g1_words.proofs.Rising.{Ordered-append}
 use Rattle.g1_words.proofs.Shapes.{IsBuilt, valid_of}
+use Rattle.g1_words.proofs.Lists.{all_from_in}
 use Rattle.g1_image.specs.Image.{Image, IsUsedCard, MayHoldCards, IsRememberedSet, IsLog, IsImage, region_of_card, remembered_of}
 use Rattle.g1_trace.specs.Mutator.{logged}
 
 all_in : {A : Type 0} (P : A → Type 0) (xs : List A) → All P xs → (x : A) → In xs x → P x
 all_in P xs all x m = let c = Contains-from_in xs x m in subst P c.2 (all c.0 x c.1)
-
-in_all : {A : Type 0} (P : A → Type 0) (xs : List A) → ((x : A) → In xs x → P x) → All P xs
-in_all P xs f k d lt = f (get_or xs k d) (In-from_contains xs (get_or xs k d) (k, lt, get_or_default xs k (get_or xs k d) d lt))
 
 -- distinct cards of a heap are few
 pub few_cards : (h : Heap) (cards : List ℕ) → IsWithinBounds h.geometry.w h.geometry.k h.geometry.n → All (IsUsedCard h) cards → AllPairs (λ c d. c ≢ d) cards → length cards < 2 ^ 32
@@ -70,7 +67,7 @@ module _ (i : Image) (p : ℕ) where
     one_more : (In i.log (card_of i.heap p) → ⊥) → IsLog i.heap (i.log ++ card_of i.heap p ∷ [])
     one_more fresh =
         let c : ℕ = card_of i.heap p in
-        let all : All (IsUsedCard i.heap) (i.log ++ c ∷ []) = in_all (IsUsedCard i.heap) (i.log ++ c ∷ []) (λ x m. by x (In-append_cases i.log (c ∷ []) x m)) in
+        let all : All (IsUsedCard i.heap) (i.log ++ c ∷ []) = all_from_in (IsUsedCard i.heap) (i.log ++ c ∷ []) (λ x m. by x (In-append_cases i.log (c ∷ []) x m)) in
         let apart : AllPairs (λ x y. x ≢ y) (i.log ++ c ∷ []) = pairs_from_ordered (λ x y. x ≢ y) (i.log ++ c ∷ [])
         (Ordered-append (λ x y. x ≢ y) i.log (c ∷ []) (Ordered-from_pairs (λ x y. x ≢ y) i.log good.distinct) ((λ y k. absurd k), tt)
         (λ x y mx my e. fresh (subst (In i.log) (e ∙ last y my) mx))) in

@@ -1,5 +1,5 @@
 -- Which bytes write a number in decimal digits, without a leading zero.
-use Rattle.std.proofs.Common.{◌≡◌, ℕ, zero, suc, ◌+◌, ◌-◌, ◌*◌, ◌^◌, ◌<◌, ◌≤◌, List, [], ◌∷◌, ◌++◌, length, get_or, take, drop, refl, sym, ◌∙◌, ap, subst, arith, rules, inl, inr, append_assoc}
+use Rattle.std.proofs.Common.{◌≡◌, ℕ, zero, suc, ◌+◌, ◌-◌, ◌*◌, ◌^◌, ◌<◌, ◌≤◌, List, [], ◌∷◌, ◌++◌, length, get_or, take, drop, refl, sym, ◌∙◌, ap, subst, arith, rules, inl, inr, append_assoc, take-append-drop}
 use Rattle.std.specs.Fmt.{decimal}
 use Rattle.std.specs.Int.{IsInRange}
 use Rattle.std.proofs.lemmas.Bool.{cases_lt}
@@ -7,7 +7,7 @@ use Rattle.std.proofs.lemmas.Fmt.{decimal_nonempty, first_decimal, decimal_digit
 use Rattle.std.proofs.lemmas.Str.Parse.{IsNumeralModel, tells_by_index, numerals_by_fold}
 use Rattle.g1_trace.specs.Lines.{AreDigits, IsLineEnd, IsNumberEnd, read_on}
 use Rattle.g1_trace.specs.TraceText.{spaced, AllFit}
-use Rattle.g1_trace.proofs.Words.{IsWordEnd, take_drop, get_take}
+use Rattle.g1_trace.proofs.Words.{IsWordEnd, get_take}
 
 own : IsNumeralModel AreDigits (read_on 0)
 own = numerals_by_fold AreDigits tells_by_index read_on (search rules)
@@ -36,7 +36,7 @@ read_more xs i lt = ap (read_on 0) (take_more xs i lt) ∙ read_append 0 (take i
 
 -- a beginning is no greater number
 read_part : (xs : List ℕ) (i : ℕ) → read_on 0 (take i xs) ≤ read_on 0 xs
-read_part xs i = let e = ap (read_on 0) (take_drop i xs) in let f = read_append 0 (take i xs) (drop i xs) in let k = read_grows (read_on 0 (take i xs)) (drop i xs) in omega (arith, e, f, k)
+read_part xs i = let e = ap (read_on 0) (take-append-drop i xs) in let f = read_append 0 (take i xs) (drop i xs) in let k = read_grows (read_on 0 (take i xs)) (drop i xs) in omega (arith, e, f, k)
 
 -- the first bytes are digits
 abbrev pub BeginDigits : List ℕ → ℕ → Type 0
@@ -83,7 +83,7 @@ none_large bytes n le f large x more small end q =
 
 -- the digits that bytes begin with are those of the number that they begin with
 digits_are : (n : ℕ) (bytes more : List ℕ) (x : ℕ) → AreDigits (take n bytes) → IsNumberEnd (drop n bytes) → x < 2 ^ 64 → IsNumberEnd more → bytes ≡ decimal x ++ more → take n bytes ≡ decimal x
-digits_are n bytes more x d e small end q = (digits_split (take n bytes) (decimal x) (drop n bytes) more d (digits_decimal own x small) e end (take_drop n bytes ∙ q)).0
+digits_are n bytes more x d e small end q = (digits_split (take n bytes) (decimal x) (drop n bytes) more d (digits_decimal own x small) e end (take-append-drop n bytes ∙ q)).0
 
 pub none_empty : (n : ℕ) (bytes : List ℕ) → n ≡ 0 → AreDigits (take n bytes) → IsNumberEnd (drop n bytes) → BeginsNone bytes
 none_empty n bytes z d e x more small end q =
@@ -110,7 +110,7 @@ some_number n bytes rest value back some le lead digits e small =
     let one : get_or (take n bytes) 0 0 ≡ 48 → length (take n bytes) ≡ 1 = λ z. (let k = lead (sym first ∙ z) in omega (arith, k, l, some)) in
     let word : take n bytes ≡ decimal value =
     sym (ap decimal e ∙ decimal-digits_value own (take n bytes) digits (omega (arith, l, some)) one (omega (arith, e, small))) in
-    sym (take_drop n bytes) ∙ ap (λ ds. ds ++ drop n bytes) word ∙ ap (λ xs. decimal value ++ xs) (sym back)
+    sym (take-append-drop n bytes) ∙ ap (λ ds. ds ++ drop n bytes) word ∙ ap (λ xs. decimal value ++ xs) (sym back)
 
 -- a number and what follows it are told by the bytes
 pub one_number : (bytes rest more : List ℕ) (x y : ℕ) → x < 2 ^ 64 → y < 2 ^ 64 → IsNumberEnd rest → IsNumberEnd more

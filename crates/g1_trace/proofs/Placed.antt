@@ -1,6 +1,6 @@
 -- A new object put into place, told of a heap's parts.
 use Rattle.std.proofs.Common.{◌≡◌, ℕ, suc, ◌+◌, ◌*◌, ◌^◌, ◌<◌, ◌≤◌, inl, inr, Bool, true, false, cond, List, length, get_or, set, map, Option, Some, None, refl, sym, ◌∙◌, ap, subst, arith}
-use Rattle.std.proofs.Common.{eqb, ltb, lt-ltb, le-ltb, ltb-false, leb-true, eq-eqb}
+use Rattle.std.proofs.Common.{eqb, ltb, lt-ltb, le-ltb, ltb-false, leb-true, eq-eqb, ext_get_or}
 use Rattle.std.specs.Prelude.{◌↔◌, find}
 use Rattle.std.specs.List.{range_with_len}
 use Rattle.std.proofs.lemmas.Bool.{cases_lt, ne_eqb}
@@ -17,7 +17,6 @@ use Rattle.g1_trace.specs.Placing.{run_taken, ordinary_heap, humongous_heap}
 use Rattle.g1_trace.proofs.Views.{equal_or_not}
 use Rattle.g1_trace.proofs.Ready.{built_ready, found, free_run, free_top, free_found}
 use Rattle.g1_trace.proofs.NewHumongous.{some_regions}
-use Rattle.g1_trace.proofs.Tables.{same_list}
 
 -- ---- the heap put together again
 
@@ -67,7 +66,7 @@ module _ (h : Heap) (count : length h.regions ≡ h.geometry.n) (r size refs roo
   pub is_ordinary_heap : r < h.geometry.n → is_humongous h size ≡ false → heap_with h r size refs root ≡ ordinary_heap h r size refs root
   is_ordinary_heap lt plain =
       let table : map (region_after h r size) (regions h) ≡ set h.regions r (grown h r size) =
-      same_list free_region (map (region_after h r size) (regions h)) (set h.regions r (grown h r size))
+      ext_get_or free_region (map (region_after h r size) (regions h)) (set h.regions r (grown h r size))
       (size_is ∙ sym count ∙ sym (length-set h.regions r (grown h r size)))
       (λ q l. let small : q < h.geometry.n = (let n = size_is in omega (arith, l, n)) in
       at q small ∙ elim (equal_or_not q r) [

@@ -1,6 +1,6 @@
 -- The table of regions as the regions of a run are taken one after another.
-use Rattle.std.proofs.Common.{◌≡◌, ◌≢◌, ℕ, suc, ◌+◌, ◌-◌, ◌*◌, ◌/◌, ◌<◌, ◌≤◌, inl, inr, Bool, true, false, cond, ◌&&◌, List, [], ◌∷◌, length, get_or, set, min, refl, sym, ◌∙◌, ap}
-use Rattle.std.proofs.Common.{arith, eqb, ltb, leb, lt-ltb, le-ltb, le-leb, ltb-true, leb-true, eq-eqb}
+use Rattle.std.proofs.Common.{◌≡◌, ◌≢◌, ℕ, ◌+◌, ◌-◌, ◌*◌, ◌/◌, ◌<◌, ◌≤◌, inl, inr, Bool, true, false, cond, ◌&&◌, List, length, get_or, set, min, refl, sym, ◌∙◌, ap}
+use Rattle.std.proofs.Common.{arith, eqb, ltb, leb, lt-ltb, le-ltb, le-leb, ltb-true, leb-true, eq-eqb, ext_get_or}
 use Rattle.std.specs.Int.{div_ceil}
 use Rattle.std.proofs.lemmas.Bool.{cases_lt, ne_eqb}
 use Rattle.std.proofs.lemmas.Grind.{div_ceil_times}
@@ -10,24 +10,10 @@ use Rattle.std.proofs.lemmas.List.FromFn.{get_or-map-range_with_len, length-map-
 use Rattle.g1_words.specs.declared.region.Region.{Region}
 use Rattle.g1_words.specs.declared.region.Kind.TheVariants.{HumongousFirst, Continuation}
 use Rattle.g1_words.specs.Heap.{free_region, region_with}
+use Rattle.g1_words.proofs.Logic.{same_test}
 use Rattle.g1_trace.specs.Mutator.{run_region}
 use Rattle.g1_trace.specs.Placing.{table_heap, run_taken}
 use Rattle.g1_trace.proofs.Views.{equal_or_not}
-
-pub same_list : {A : Type 0} (d : A) (xs ys : List A) → length xs ≡ length ys → ((k : ℕ) → k < length xs → get_or xs k d ≡ get_or ys k d) → xs ≡ ys
-same_list d [] [] n f = refl
-same_list d [] (y ∷ ys) n f = absurd (omega (arith, n))
-same_list d (x ∷ xs) [] n f = absurd (omega (arith, n))
-same_list d (x ∷ xs) (y ∷ ys) n f =
-    let first : x ≡ y = f 0 (omega arith) in
-    let rest = same_list d xs ys (omega (arith, n)) (λ k lt. f (suc k) (omega (arith, lt))) in
-    λ t. first t ∷ rest t
-
-same_bool : (a b : Bool) → (a ≡ true → b ≡ true) → (b ≡ true → a ≡ true) → a ≡ b
-same_bool true true f g = refl
-same_bool true false f g = sym (f refl)
-same_bool false true f g = g refl
-same_bool false false f g = refl
 
 -- the two ways to round up
 pub rounded_up : (w size : ℕ) → 0 < w → div_ceil size w ≡ (size + (w - 1)) / w
@@ -55,11 +41,11 @@ module _ (w : ℕ) (regions : List Region) (r size : ℕ) where
 
   -- nothing is taken yet
   pub none_taken : regions ≡ run_taken w regions r size 0
-  none_taken = same_list free_region regions (run_taken w regions r size 0) (sym (taken_size 0))
+  none_taken = ext_get_or free_region regions (run_taken w regions r size 0) (sym (taken_size 0))
       (λ q lt. sym (at_taken 0 q lt ∙ ap (λ b. cond b (run_region (table_heap w regions) r size q) (get_or regions q free_region)) (not_first q)))
 
   others_same : (i q : ℕ) → q ≢ r + i → (leb r q && ltb q (r + (i + 1))) ≡ (leb r q && ltb q (r + i))
-  others_same i q n = ap (λ b. leb r q && b) (same_bool (ltb q (r + (i + 1))) (ltb q (r + i))
+  others_same i q n = ap (λ b. leb r q && b) (same_test (ltb q (r + (i + 1))) (ltb q (r + i))
       (λ t. let l = ltb-true q (r + (i + 1)) t in lt-ltb q (r + i) (elim (cases_lt q (r + i)) [ inl lt ↦ lt | inr ge ↦ (let e : q ≡ r + i = omega (arith, ge, l) in absurd (n e)) ]))
       (λ t. let l = ltb-true q (r + i) t in lt-ltb q (r + (i + 1)) (omega (arith, l))))
 
@@ -68,7 +54,7 @@ module _ (w : ℕ) (regions : List Region) (r size : ℕ) where
       → x ≡ region_with (cond (eqb i 0) HumongousFirst Continuation) (min w (size - i * w)) → set table (r + i) x ≡ run_taken w regions r size (i + 1)
   one_taken i table x lt e is =
       ap (λ xs. set xs (r + i) x) e
-      ∙ same_list free_region (set (run_taken w regions r size i) (r + i) x) (run_taken w regions r size (i + 1))
+      ∙ ext_get_or free_region (set (run_taken w regions r size i) (r + i) x) (run_taken w regions r size (i + 1))
       (length-set (run_taken w regions r size i) (r + i) x ∙ taken_size i ∙ sym (taken_size (i + 1)))
       (λ q l. let small : q < length regions = (let a = length-set (run_taken w regions r size i) (r + i) x in let b = taken_size i in omega (arith, l, a, b)) in
       elim (equal_or_not q (r + i)) [

@@ -1,5 +1,5 @@
 -- Lines that are read, done and answered in turn: the beginning, one line more, the end, and the first bad line.
-use Rattle.std.proofs.Common.{◌≡◌, ℕ, ◌+◌, ◌≤◌, inl, inr, List, [], ◌∷◌, ◌++◌, length, flat_map, refl, sym, ◌∙◌, ap, subst, arith, append_assoc, length-append}
+use Rattle.std.proofs.Common.{◌≡◌, ℕ, ◌+◌, ◌≤◌, inl, inr, List, [], ◌∷◌, ◌++◌, length, flat_map, refl, sym, ◌∙◌, ap, subst, arith, append_assoc, length-append, append-nil}
 use Rattle.std.proofs.lemmas.Grind.{flat_map-append}
 use Rattle.g1_words.specs.declared.fault.Fault.{Fault}
 use Rattle.g1_words.specs.declared.fault.Fault.TheVariants.{Line}
@@ -17,7 +17,7 @@ use Rattle.g1_trace.specs.Running.{IsHeapSize}
 use Rattle.g1_trace.specs.TraceText.{AllFit, numbers_of, command_line, heap_line, IsBadRest, IsFirstBadLine, IsText}
 use Rattle.g1_trace.specs.Telling.{reply_line, reply_lines, IsTold, IsRefusal, IsOutsideLimits, BeginsWith, IsBegun, BeginsOutside}
 use Rattle.g1_trace.specs.Laws.{OneTold, StartShows, StepShows}
-use Rattle.g1_trace.proofs.GoesOn.{append-nil, append-one}
+use Rattle.g1_trace.proofs.GoesOn.{append-one}
 use Rattle.g1_trace.proofs.Texts.{IsRead, shorter, read_more, read_end, bad_later}
 use Rattle.g1_trace.proofs.OneText.{one_first, one_trace}
 use Rattle.g1_trace.proofs.OneRun.{one_run}

@@ -26,11 +26,6 @@ one_split (a ∷ at) (b ∷ bs) xs ys n m p q e =
     let rest = one_split at bs xs ys (no_space_tail a at n) (no_space_tail b bs m) p q (ap (drop 1) e) in
     ((λ t. first t ∷ rest.0 t), rest.1)
 
-pub take_drop : (i : ℕ) (xs : List ℕ) → take i xs ++ drop i xs ≡ xs
-take_drop zero xs = refl
-take_drop (suc i) [] = refl
-take_drop (suc i) (x ∷ xs) = ap (λ ys. x ∷ ys) (take_drop i xs)
-
 pub get_take : (i k : ℕ) (xs : List ℕ) → k < length (take i xs) → (get_or (take i xs) k 0 ≡ get_or xs k 0) × (k < i)
 get_take zero k xs lt = absurd (omega (arith, lt))
 get_take (suc i) k [] lt = absurd (omega (arith, lt))

@@ -1,5 +1,5 @@
 -- What the roots reach lies within the heap, and its words have 64 bits by far.
-use Rattle.std.proofs.Common.{◌≢◌, ℕ, ◌+◌, ◌*◌, ◌<◌, ◌≤◌, List, [], ◌∷◌, ◌++◌, flat_map, length, get_or, Contains, sym, subst, arith}
+use Rattle.std.proofs.Common.{◌≢◌, ℕ, ◌+◌, ◌*◌, ◌<◌, ◌≤◌, List, ◌++◌, flat_map, length, get_or, Contains, sym, subst, arith}
 use Rattle.std.proofs.Math.Nat.{mul-le-mul_right}
 use Rattle.std.proofs.lemmas.Bool.Decides.{Decides-eqb}
 use Rattle.std.proofs.lemmas.List.Elements.{Contains-get_or}
@@ -11,16 +11,13 @@ use Rattle.g1_words.specs.Heap.{Heap, object_at}
 use Rattle.g1_words.specs.References.{root_targets, targets}
 use Rattle.g1_words.specs.Valid.{IsValid}
 use Rattle.g1_words.proofs.Firsts.{Distinct, Distinct-firsts}
-use Rattle.g1_words.proofs.Members.{In, Contains-from_in, in_from_has}
-use Rattle.g1_words.proofs.Ordered.{Ordered, pairs_from_ordered}
+use Rattle.g1_words.proofs.Members.{Contains-from_in, in_from_has}
+use Rattle.g1_words.proofs.Ordered.{pairs_from_ordered}
 use Rattle.g1_same.specs.Same.{IsRenaming}
 use Rattle.g1_words.proofs.Sound.{object_in}
+use Rattle.g1_words.proofs.Lists.{Distinct-differ}
 use Rattle.g1_same.proofs.Heaps.{live_object}
 use Rattle.g1judge.specs.Judged.{words_of}
-
-differ : (l : List ℕ) → Distinct l → Ordered (λ x y. x ≢ y) l
-differ [] d = tt
-differ (a ∷ l) d = ((λ y i e. d.0 (subst (In l) (sym e) i)), differ l d.1)
 
 module _ (g h : Heap) (olds news : List ℕ) (valid : IsValid g) (r : IsRenaming g h olds news) where
   abbrev size : ℕ → ℕ
@@ -37,7 +34,7 @@ module _ (g h : Heap) (olds news : List ℕ) (valid : IsValid g) (r : IsRenaming
 
   few : length olds ≤ length g.words
   few = length-le_from_distinct_below olds (length g.words)
-      (IsDistinct-from_AllPairs Decides-eqb olds (pairs_from_ordered (λ x y. x ≢ y) olds (differ olds distinct)))
+      (IsDistinct-from_AllPairs Decides-eqb olds (pairs_from_ordered (λ x y. x ≢ y) olds (Distinct-differ olds distinct)))
       (λ q e. within q (Contains-from_in olds q (in_from_has olds q e)))
 
   small : (i d : ℕ) → i < length olds → size (get_or olds i d) ≤ most_words

@@ -1,10 +1,10 @@
-use Rattle.std.proofs.Common.{◌≡◌, ◌∙◌, ◌<◌, [], List, String, Global, length, get_or, map, ap, sym, arith}
+use Rattle.std.proofs.Common.{◌≡◌, ◌∙◌, ◌<◌, [], String, Global, length, get_or, map, ap, sym, arith}
 use Rattle.std.specs.Prelude.{is_some}
 use Rattle.std.proofs.lemmas.Bool.{ltb-true}
 use Rattle.std.proofs.lemmas.List.{drop_more, get_or-map, length-map}
 use Rattle.clap.specs.Words.{Text}
 use Rattle.g1_command.specs.Tied.{first_word}
-use Rattle.g1_command.proofs.Tied.{some_then}
+use Rattle.g1_words.proofs.Logic.{some_then}
 use Rattle.g1_command.proofs.lists.word_at.Goals as goal
 
 abbrev text : String Global → Text

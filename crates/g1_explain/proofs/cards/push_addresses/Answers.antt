@@ -2,15 +2,16 @@ use Rattle.std.proofs.Common.{◌∷◌, ◌++◌, [], arith, string_bytes}
 use Rattle.std.specs.Prelude.{decimal}
 use Rattle.g1_text.specs.Lines.{further}
 use Rattle.g1_explain.specs.Cards.{number_words}
-use Rattle.g1_text.proofs.Printed.{one_more, pushed}
+use Rattle.g1_text.proofs.Printed.{one_more}
 use Rattle.g1_explain.proofs.Parts.{numbers_none, numbers_some}
+use Rattle.g1_words.proofs.Logic.{last_push}
 use Rattle.g1_explain.proofs.cards.push_addresses.Goals as goal
 
 pub returns-then-is_empty : goal.returns-then-is_empty
 returns-then-is_empty c =
     let old = string_bytes c.args.text.now in
     let last = string_bytes c.push_str.new.self in
-    pushed c.push_str.result last (old ++ (32 ∷ 45 ∷ 10 ∷ [])) old (old ++ further (number_words c.args.addresses.now))
+    last_push c.push_str.result last (old ++ (32 ∷ 45 ∷ 10 ∷ [])) old (old ++ further (number_words c.args.addresses.now))
     (numbers_none old last c.args.addresses.now c.if-is_empty.ensures) c.push_str.ensures.bytes
 
 pub returns : goal.returns
@@ -18,7 +19,7 @@ returns c =
     let old = string_bytes c.args.text.now in
     let now = string_bytes c.loop-address.text in
     let last = string_bytes c.push_str-2.new.self in
-    pushed c.push_str-2.result last (now ++ 10 ∷ []) now (old ++ further (number_words c.args.addresses.now))
+    last_push c.push_str-2.result last (now ++ 10 ∷ []) now (old ++ further (number_words c.args.addresses.now))
     (numbers_some old now last c.args.addresses.now c.loop-address.address-index (omega (arith, c.loop-address-test.false)) c.if-is_empty.ensures c.loop-address.invariant) c.push_str-2.ensures.bytes
 
 pub loop-address-preserved : goal.loop-address-preserved

@@ -2,8 +2,8 @@ use Rattle.std.proofs.Common.{◌≡◌, ◌-◌, ◌∷◌, ◌++◌, ℕ, [], 
 use Rattle.std.specs.Prelude.{decimal}
 use Rattle.std.specs.List.{range_with_len}
 use Rattle.g1_text.specs.Lines.{further}
-use Rattle.g1_text.proofs.Printed.{pushed}
 use Rattle.g1_explain.proofs.HumongousLines.{range_step, range_end}
+use Rattle.g1_words.proofs.Logic.{last_push}
 use Rattle.g1_explain.proofs.humongous.push_range.Goals as goal
 
 pub loop-number-init : goal.loop-number-init
@@ -32,5 +32,5 @@ returns c =
       | inl le ↦ omega (arith, le, c.loop-number-test.false)
       | inr e ↦ omega (arith, e, c.loop-number-test.false)
     ] in
-    pushed c.push_str.result new (now ++ 10 ∷ []) now (old ++ further (map decimal (range_with_len c.args.first (c.args.last - c.args.first))))
+    last_push c.push_str.result new (now ++ 10 ∷ []) now (old ++ further (map decimal (range_with_len c.args.first (c.args.last - c.args.first))))
     (range_end old now new c.args.first n c.args.last same c.loop-number.invariant.text) c.push_str.ensures.bytes

@@ -1,11 +1,11 @@
 use Rattle.std.proofs.Common.{arith, refl, ap, sym, subst, suc, ◌≡◌, ◌+◌, ◌-◌, ◌++◌, ◌∙◌, [], ◌∷◌, List, All, map, length, length-append}
 use Rattle.std.specs.List.{range_with_len}
 use Rattle.std.proofs.lemmas.List.{map-append}
-use Rattle.g1_frontier.proofs.Names.{range_push}
 use Rattle.std.proofs.lemmas.List.Elements.{All-push}
 use Rattle.g1_claim.specs.declared.rule.Hand.{Hand}
 use Rattle.g1_frontier.specs.declared.offering.Holder.{Holder}
 use Rattle.g1_frontier.specs.Round.{IsFreshHolder}
+use Rattle.g1_words.proofs.Lists.{range_push}
 use Rattle.g1_frontier.proofs.round.give_out.Goals as goal
 
 pub returns : goal.returns

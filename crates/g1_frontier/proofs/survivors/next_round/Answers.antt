@@ -1,12 +1,11 @@
 use Rattle.std.proofs.Common.{arith, refl, ap, sym, subst, ◌≡◌, ◌+◌, ◌-◌, ◌<◌, ◌^◌, ◌∙◌, ◌++◌, ℕ, List, length, map, take, drop, sum_by, All, Contains}
 use Rattle.g1_words.specs.Heap.{objects, object_at}
 use Rattle.g1_frontier.specs.Scope.{place_in}
-use Rattle.std.proofs.lemmas.List.{length-map}
+use Rattle.std.proofs.lemmas.List.{length-map, take_rest}
 use Rattle.g1_frontier.specs.Items.{IsItem, AreRanks, all_pairs, object_items, slot_count, items_at, numbered_on}
 use Rattle.g1_frontier.proofs.Soughts.{items_numbered, sum_counts, numbered_length}
 use Rattle.g1_frontier.specs.Round.{Rises, AreAbove, AddsOffers, winners}
 use Rattle.g1_frontier.proofs.Searching.{rest_objects, ranks_fit, rest_are_items, rest_few, rest_rises, rest_ranks, rest_above, next_search}
-use Rattle.g1_frontier.proofs.Turns.{rest_is}
 use Rattle.g1_frontier.proofs.survivors.next_round.Goals as goal
 
 pub slot_counts_by-requires-clause-objects : goal.slot_counts_by-requires-clause-objects
@@ -14,7 +13,7 @@ slot_counts_by-requires-clause-objects g c κs within =
     let h = c.args.scope.now.heap.now in
     let s = c.args.search in
     let cut : take (length c.deref.result.now - s.from) (drop s.from c.deref.result.now) ≡ drop s.from s.found.items =
-    ap (λ (l : List ℕ). take (length l - s.from) (drop s.from l)) c.deref.ensures.value ∙ rest_is s.found.items s.from in
+    ap (λ (l : List ℕ). take (length l - s.from) (drop s.from l)) c.deref.ensures.value ∙ take_rest s.found.items s.from in
     subst (All (λ a. Contains (objects h) (object_at h a))) (sym cut) (rest_objects h c.requires.scope.valid c.args.scope.now.window.now c.requires.scope.regions s c.requires.search)
 
 pub number_on-next-requires : goal.number_on-next-requires
@@ -22,7 +21,7 @@ number_on-next-requires g c =
     let h = c.args.scope.now.heap.now in
     let s = c.args.search in
     let cut : take (length c.deref.result.now - s.from) (drop s.from c.deref.result.now) ≡ drop s.from s.found.items =
-    ap (λ (l : List ℕ). take (length l - s.from) (drop s.from l)) c.deref.ensures.value ∙ rest_is s.found.items s.from in
+    ap (λ (l : List ℕ). take (length l - s.from) (drop s.from l)) c.deref.ensures.value ∙ take_rest s.found.items s.from in
     let part : List ℕ = take (length c.deref.result.now - s.from) (drop s.from c.deref.result.now) in
     let total : sum_by (λ (n : ℕ). n) c.in_ok-bases.bases.items ≡ sum_by (slot_count h) (drop s.from s.found.items) =
     ap (sum_by (λ (n : ℕ). n)) c.in_ok-bases.ensures.ok ∙ sum_counts h part ∙ ap (sum_by (slot_count h)) cut in
@@ -40,7 +39,7 @@ round_in-requires-clause-items g c κs within =
     let h = c.args.scope.now.heap.now in
     let s = c.args.search in
     let cut : take (length c.deref.result.now - s.from) (drop s.from c.deref.result.now) ≡ drop s.from s.found.items =
-    ap (λ (l : List ℕ). take (length l - s.from) (drop s.from l)) c.deref.ensures.value ∙ rest_is s.found.items s.from in
+    ap (λ (l : List ℕ). take (length l - s.from) (drop s.from l)) c.deref.ensures.value ∙ take_rest s.found.items s.from in
     let part : List ℕ = take (length c.deref.result.now - s.from) (drop s.from c.deref.result.now) in
     let listed : items_at part c.as_slice.result.now ≡ object_items h s.next (drop s.from s.found.items) =
     ap (items_at part) (c.as_slice.ensures.value ∙ c.number_on-next.ensures.numbers ∙ ap (numbered_on s.next) c.in_ok-bases.ensures.ok) ∙ items_numbered h s.next part ∙ ap (object_items h s.next) cut in
@@ -51,7 +50,7 @@ round_in-requires-clause-few g c κs within =
     let h = c.args.scope.now.heap.now in
     let s = c.args.search in
     let cut : take (length c.deref.result.now - s.from) (drop s.from c.deref.result.now) ≡ drop s.from s.found.items =
-    ap (λ (l : List ℕ). take (length l - s.from) (drop s.from l)) c.deref.ensures.value ∙ rest_is s.found.items s.from in
+    ap (λ (l : List ℕ). take (length l - s.from) (drop s.from l)) c.deref.ensures.value ∙ take_rest s.found.items s.from in
     let part : List ℕ = take (length c.deref.result.now - s.from) (drop s.from c.deref.result.now) in
     let listed : items_at part c.as_slice.result.now ≡ object_items h s.next (drop s.from s.found.items) =
     ap (items_at part) (c.as_slice.ensures.value ∙ c.number_on-next.ensures.numbers ∙ ap (numbered_on s.next) c.in_ok-bases.ensures.ok) ∙ items_numbered h s.next part ∙ ap (object_items h s.next) cut in
@@ -62,7 +61,7 @@ round_in-requires-clause-rise g c κs within =
     let h = c.args.scope.now.heap.now in
     let s = c.args.search in
     let cut : take (length c.deref.result.now - s.from) (drop s.from c.deref.result.now) ≡ drop s.from s.found.items =
-    ap (λ (l : List ℕ). take (length l - s.from) (drop s.from l)) c.deref.ensures.value ∙ rest_is s.found.items s.from in
+    ap (λ (l : List ℕ). take (length l - s.from) (drop s.from l)) c.deref.ensures.value ∙ take_rest s.found.items s.from in
     let part : List ℕ = take (length c.deref.result.now - s.from) (drop s.from c.deref.result.now) in
     let listed : items_at part c.as_slice.result.now ≡ object_items h s.next (drop s.from s.found.items) =
     ap (items_at part) (c.as_slice.ensures.value ∙ c.number_on-next.ensures.numbers ∙ ap (numbered_on s.next) c.in_ok-bases.ensures.ok) ∙ items_numbered h s.next part ∙ ap (object_items h s.next) cut in
@@ -73,7 +72,7 @@ round_in-requires-clause-ranks g c κs within =
     let h = c.args.scope.now.heap.now in
     let s = c.args.search in
     let cut : take (length c.deref.result.now - s.from) (drop s.from c.deref.result.now) ≡ drop s.from s.found.items =
-    ap (λ (l : List ℕ). take (length l - s.from) (drop s.from l)) c.deref.ensures.value ∙ rest_is s.found.items s.from in
+    ap (λ (l : List ℕ). take (length l - s.from) (drop s.from l)) c.deref.ensures.value ∙ take_rest s.found.items s.from in
     let part : List ℕ = take (length c.deref.result.now - s.from) (drop s.from c.deref.result.now) in
     let listed : items_at part c.as_slice.result.now ≡ object_items h s.next (drop s.from s.found.items) =
     ap (items_at part) (c.as_slice.ensures.value ∙ c.number_on-next.ensures.numbers ∙ ap (numbered_on s.next) c.in_ok-bases.ensures.ok) ∙ items_numbered h s.next part ∙ ap (object_items h s.next) cut in
@@ -84,7 +83,7 @@ round_in-requires-clause-above g c κs within =
     let h = c.args.scope.now.heap.now in
     let s = c.args.search in
     let cut : take (length c.deref.result.now - s.from) (drop s.from c.deref.result.now) ≡ drop s.from s.found.items =
-    ap (λ (l : List ℕ). take (length l - s.from) (drop s.from l)) c.deref.ensures.value ∙ rest_is s.found.items s.from in
+    ap (λ (l : List ℕ). take (length l - s.from) (drop s.from l)) c.deref.ensures.value ∙ take_rest s.found.items s.from in
     let part : List ℕ = take (length c.deref.result.now - s.from) (drop s.from c.deref.result.now) in
     let listed : items_at part c.as_slice.result.now ≡ object_items h s.next (drop s.from s.found.items) =
     ap (items_at part) (c.as_slice.ensures.value ∙ c.number_on-next.ensures.numbers ∙ ap (numbered_on s.next) c.in_ok-bases.ensures.ok) ∙ items_numbered h s.next part ∙ ap (object_items h s.next) cut in
@@ -97,7 +96,7 @@ returns-clause-ok g c =
     let s = c.args.search in
     let window : List ℕ = c.args.scope.now.window.now in
     let cut : take (length c.deref.result.now - s.from) (drop s.from c.deref.result.now) ≡ drop s.from s.found.items =
-    ap (λ (l : List ℕ). take (length l - s.from) (drop s.from l)) c.deref.ensures.value ∙ rest_is s.found.items s.from in
+    ap (λ (l : List ℕ). take (length l - s.from) (drop s.from l)) c.deref.ensures.value ∙ take_rest s.found.items s.from in
     let part : List ℕ = take (length c.deref.result.now - s.from) (drop s.from c.deref.result.now) in
     let listed : items_at part c.as_slice.result.now ≡ object_items h s.next (drop s.from s.found.items) =
     ap (items_at part) (c.as_slice.ensures.value ∙ c.number_on-next.ensures.numbers ∙ ap (numbered_on s.next) c.in_ok-bases.ensures.ok) ∙ items_numbered h s.next part ∙ ap (object_items h s.next) cut in

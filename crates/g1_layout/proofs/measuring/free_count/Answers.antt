@@ -2,7 +2,7 @@ use Rattle.std.proofs.Common.{◌≡◌, ◌+◌, ℕ, true, false, length, filt
 use Rattle.std.specs.List.{range_with_len}
 use Rattle.std.proofs.lemmas.List.{length_push}
 use Rattle.g1_words.specs.Heap.{is_free, kind}
-use Rattle.g1_layout.proofs.Lists.{filter_more_no, filter_more_yes}
+use Rattle.g1_words.proofs.Lists.{filter_range_no, filter_range_yes}
 use Rattle.g1_layout.proofs.measuring.free_count.Goals as goal
 use Rattle.g1_layout.proofs.measuring.free_count.Goals.{then-is_free, else-is_free}
 
@@ -14,11 +14,11 @@ loop-r-preserved c =
     elim c.if-is_free.branch [
       | then-is_free w ↦
           let e : is_free (kind h r) ≡ true = cc in
-          let n : length (filter p (range_with_len 0 (r + 1))) ≡ length (filter p (range_with_len 0 r)) + 1 = ap length (filter_more_yes p r e) ∙ length_push (filter p (range_with_len 0 r)) r in
+          let n : length (filter p (range_with_len 0 (r + 1))) ≡ length (filter p (range_with_len 0 r)) + 1 = ap length (filter_range_yes p r e) ∙ length_push (filter p (range_with_len 0 r)) r in
           record { counted = omega (arith, n, w.count-is, c.loop-r.invariant.counted); few = omega (arith, w.count-is, c.loop-r.invariant.few) }
       | else-is_free w ↦
           let e : is_free (kind h r) ≡ false = cc in
-          let n : length (filter p (range_with_len 0 (r + 1))) ≡ length (filter p (range_with_len 0 r)) = ap length (filter_more_no p r e) in
+          let n : length (filter p (range_with_len 0 (r + 1))) ≡ length (filter p (range_with_len 0 r)) = ap length (filter_range_no p r e) in
           record { counted = omega (arith, n, w.count-is, c.loop-r.invariant.counted); few = omega (arith, w.count-is, c.loop-r.invariant.few) }
     ]
 

@@ -1,7 +1,7 @@
 use Rattle.std.proofs.Common.{◌≡◌, ◌++◌, ◌∷◌, [], ℕ, true, false, filter, arith, ap, sym, ◌∙◌}
 use Rattle.std.specs.List.{range_with_len}
 use Rattle.g1_words.specs.Heap.{is_free, kind}
-use Rattle.g1_layout.proofs.Lists.{filter_more_no, filter_more_yes}
+use Rattle.g1_words.proofs.Lists.{filter_range_no, filter_range_yes}
 use Rattle.g1_layout.proofs.measuring.free_regions.Goals as goal
 use Rattle.g1_layout.proofs.measuring.free_regions.Goals.{then-is_free+in_ok-push, else-is_free}
 
@@ -13,10 +13,10 @@ loop-r-preserved c =
     elim c.if-is_free.branch [
       | then-is_free+in_ok-push w ↦
           let e : is_free (kind h r) ≡ true = cc in
-          ap (λ v. v.items) w.free-is ∙ w.in_ok-push.ensures.items ∙ ap (λ xs. xs ++ r ∷ []) c.loop-r.invariant ∙ sym (filter_more_yes p r e)
+          ap (λ v. v.items) w.free-is ∙ w.in_ok-push.ensures.items ∙ ap (λ xs. xs ++ r ∷ []) c.loop-r.invariant ∙ sym (filter_range_yes p r e)
       | else-is_free w ↦
           let e : is_free (kind h r) ≡ false = cc in
-          ap (λ v. v.items) w.free-is ∙ c.loop-r.invariant ∙ sym (filter_more_no p r e)
+          ap (λ v. v.items) w.free-is ∙ c.loop-r.invariant ∙ sym (filter_range_no p r e)
     ]
 
 pub returns : goal.returns

@@ -5,8 +5,8 @@ use Rattle.g1_words.specs.Heap.{object_at, objects}
 use Rattle.g1_words.specs.Layout.{sizes_of}
 use Rattle.g1_words.specs.Survivors.{Survivors, firsts}
 use Rattle.g1_words.proofs.LiveBytes.{live_bytes_unique}
+use Rattle.g1_words.proofs.Lists.{all_from_in}
 use Rattle.g1_frontier.specs.Found.{IsSeen}
-use Rattle.g1_frontier.proofs.Scopes.{all_from_in}
 use Rattle.g1_mark.specs.Marked.{used}
 use Rattle.g1_mark.proofs.Counting.{found_objects, found_once, live_counted}
 use Rattle.g1_mark.proofs.live.count_live_bytes.Goals as goal

@@ -1,9 +1,10 @@
 use Rattle.std.proofs.Common.{◌≡◌, ◌∙◌, ◌*◌, ◌/◌, ◌++◌, ◌∷◌, [], ap, sym, arith, filter, length}
 use Rattle.std.specs.List.{range_with_len}
 use Rattle.g1_rem.specs.EntryCards.{is_left}
-use Rattle.g1_rem.proofs.EntryCards.{filtered_push, filtered_pass, left_between, left_there, left_inside}
+use Rattle.g1_rem.proofs.EntryCards.{left_between, left_there, left_inside}
 use Rattle.g1_rem.proofs.entry_cards.left_over.Goals as goal
 use Rattle.g1_rem.proofs.entry_cards.left_over.Goals.{then-not-is_set+in_ok-push, else-not-is_set}
+use Rattle.g1_words.proofs.Lists.{filter_range_yes, filter_range_no}
 
 pub cards-init : goal.cards-init
 cards-init c = (c.new-left.ensures.items, omega arith)
@@ -25,10 +26,10 @@ cards-preserved c =
       elim c.if-not-is_set.branch [
         | then-not-is_set+in_ok-push v ↦
             ap (λ l. l.items) v.left-is ∙ v.in_ok-push.ensures.items ∙ ap (λ l. l ++ c.in-Some.card ∷ []) before
-            ∙ sym (filtered_push (is_left h cards regions) n (left_there h valid cards regions n c.region_of_card-region.result home next.set (sym c.is_set.ensures ∙ v.if-not-is_set.true)))
+            ∙ sym (filter_range_yes (is_left h cards regions) n (left_there h valid cards regions n c.region_of_card-region.result home next.set (sym c.is_set.ensures ∙ v.if-not-is_set.true)))
         | else-not-is_set v ↦
             ap (λ l. l.items) v.left-is ∙ before
-            ∙ sym (filtered_pass (is_left h cards regions) n (left_inside h valid cards regions n c.region_of_card-region.result home next.set (sym c.is_set.ensures ∙ v.if-not-is_set.false)))
+            ∙ sym (filter_range_no (is_left h cards regions) n (left_inside h valid cards regions n c.region_of_card-region.result home next.set (sym c.is_set.ensures ∙ v.if-not-is_set.false)))
       ],
       omega (arith, next.within),
     )

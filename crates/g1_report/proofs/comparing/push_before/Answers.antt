@@ -2,7 +2,8 @@ use Rattle.std.proofs.Common.{◌++◌, ◌∙◌, ap, append_assoc, string_byte
 use Rattle.std.specs.Prelude.{codes}
 use Rattle.g1_report.specs.Wording.{word_text, kind_text, kind_before, before_text}
 use Rattle.g1_report.specs.Given.{compared}
-use Rattle.g1_report.proofs.Joined.{joined, pushed}
+use Rattle.g1_report.proofs.Joined.{joined}
+use Rattle.g1_words.proofs.Logic.{last_push}
 use Rattle.g1_report.proofs.comparing.push_before.Goals as goal
 
 pub returns : goal.returns
@@ -15,7 +16,7 @@ returns c = λ h.
     let word = word_text s.objects_before c.args.word in
     let kind = kind_text (kind_before s c.args.word) in
     let end = codes " before" in
-    pushed c.push_str.result last (second ++ end) second (old ++ before_text s c.args.word)
+    last_push c.push_str.result last (second ++ end) second (old ++ before_text s c.args.word)
     (λ e. joined old first last (codes ": " ++ word) (kind ++ end) (c.in_ok-push_word.ensures h.in_order.objects_before)
     (joined first second last kind end (c.in_ok-push_type.ensures ∙ ap (λ k. first ++ kind_text k) (c.kind_before.ensures h)) e)
     ∙ ap (λ xs. old ++ xs) (append_assoc (codes ": ") word (kind ++ end)))

@@ -2,7 +2,8 @@ use Rattle.std.proofs.Common.{◌++◌, ◌∙◌, ap, append_assoc, string_byte
 use Rattle.std.specs.Prelude.{codes, decimal}
 use Rattle.g1_report.specs.Wording.{word_name, word_name_text, value_text, values_text}
 use Rattle.g1_report.specs.Given.{compared}
-use Rattle.g1_report.proofs.Joined.{joined, pushed}
+use Rattle.g1_report.proofs.Joined.{joined}
+use Rattle.g1_words.proofs.Logic.{last_push}
 use Rattle.g1_report.proofs.comparing.push_data.Goals as goal
 
 pub returns : goal.returns
@@ -22,7 +23,7 @@ returns c = λ h.
     let end = codes " after" in
     let r2 = (codes " before, " ++ v) ++ end in
     let r1 = (codes " is " ++ u) ++ r2 in
-    pushed c.push_str.result last (t3 ++ end) t3 (old ++ values_text s ends.before k ends.word_before ends.word_after)
+    last_push c.push_str.result last (t3 ++ end) t3 (old ++ values_text s ends.before k ends.word_before ends.word_after)
     (λ e. joined old t0 last (codes "; data word " ++ decimal k) (name ++ r1) c.in_ok-write.ensures.bytes
     (joined t0 t1 last name r1 (c.in_ok-push_word_name.ensures ∙ ap (λ n. t0 ++ word_name_text n) (c.word_name.ensures h))
     (joined t1 t2 last (codes " is " ++ u) r2 (c.in_ok-push_value.ensures h.names) (joined t2 t3 last (codes " before, " ++ v) end (c.in_ok-push_value-2.ensures h.names) e)))

@@ -2,7 +2,9 @@ use Rattle.std.proofs.Common.{◌++◌, ◌∙◌, ap, string_bytes}
 use Rattle.std.specs.Prelude.{codes}
 use Rattle.g1_report.specs.Wording.{how_word, path_text, before_text, after_text, detail_text, place_line}
 use Rattle.g1_report.specs.Given.{compared}
-use Rattle.g1_report.proofs.Joined.{joined, in_front, pushed}
+use Rattle.g1_report.proofs.Joined.{joined}
+use Rattle.g1_words.proofs.Lists.{in_front}
+use Rattle.g1_words.proofs.Logic.{last_push}
 use Rattle.g1_report.proofs.comparing.push_how_line.Goals as goal
 
 pub returns : goal.returns
@@ -23,7 +25,7 @@ returns c = λ h.
     let a = after_text s y ++ d in
     let b = before_text s x ++ a in
     let head = codes "differ " ++ (how_word how ++ codes " at ") in
-    pushed c.push_str.result last (t5 ++ codes "\n") t5 (old ++ place_line s c.args.path.0 c.args.path.1.now how x y)
+    last_push c.push_str.result last (t5 ++ codes "\n") t5 (old ++ place_line s c.args.path.0 c.args.path.1.now how x y)
     (λ e. joined old t1 last head (path ++ b) c.in_ok-push_differ.ensures
     (joined t1 t2 last path b (c.in_ok-push_path.ensures h)
     (joined t2 t3 last (before_text s x) a (c.in_ok-push_before.ensures h)

@@ -4,7 +4,8 @@ use Rattle.std.specs.List.{join_with_byte}
 use Rattle.std.specs.Str.{byte}
 use Rattle.std.proofs.lemmas.Result.{on_ok_weaker}
 use Rattle.g1_report.specs.Program.{texts}
-use Rattle.g1_report.proofs.Joined.{joined, in_front}
+use Rattle.g1_report.proofs.Joined.{joined}
+use Rattle.g1_words.proofs.Lists.{in_front}
 use Rattle.g1_report.proofs.comparing.push_text.Goals as goal
 
 pub returns : goal.returns

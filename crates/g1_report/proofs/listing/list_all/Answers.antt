@@ -4,8 +4,9 @@ use Rattle.g1_report.specs.Listed.{counts_line, kind_of, IsShown}
 use Rattle.g1_report.specs.Given.{compared}
 use Rattle.g1_report.proofs.Taken.{taken_first, taken_on, taken_more, taken_part, taken_behind}
 use Rattle.g1_report.proofs.Behind.{takes_text, takes_on, takes_no_end, takes_end}
-use Rattle.g1_report.proofs.Counting.{counted, counted_none, counted_more, kind_small, shown, some_then}
+use Rattle.g1_report.proofs.Counting.{counted, counted_none, counted_more, kind_small, shown}
 use Rattle.g1_report.proofs.Passed.{of_heaps}
+use Rattle.g1_words.proofs.Logic.{some_then}
 use Rattle.g1_report.proofs.listing.list_all.Goals as goal
 
 pub returns-then-not-branch-2-clause-first : goal.returns-then-not-branch-2-clause-first

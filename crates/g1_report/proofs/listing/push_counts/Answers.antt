@@ -1,7 +1,9 @@
 use Rattle.std.proofs.Common.{◌++◌, ◌∙◌, ap, string_bytes}
 use Rattle.std.specs.Prelude.{codes, decimal, slice_index}
 use Rattle.g1_report.specs.Listed.{count_text, counts_line}
-use Rattle.g1_report.proofs.Joined.{joined, in_front, pushed}
+use Rattle.g1_report.proofs.Joined.{joined}
+use Rattle.g1_words.proofs.Lists.{in_front}
+use Rattle.g1_words.proofs.Logic.{last_push}
 use Rattle.g1_report.proofs.listing.push_counts.Goals as goal
 
 pub returns : goal.returns
@@ -36,7 +38,7 @@ returns c =
     let r1 = k1 ++ r2 in
     let k0 = count_text (codes "roots") (slice_index ns 0) in
     let r0 = k0 ++ r1 in
-    pushed c.push_str.result last (t8 ++ r8) t8 (old ++ counts_line ns)
+    last_push c.push_str.result last (t8 ++ r8) t8 (old ++ counts_line ns)
     (λ e. joined old t0 last (codes "differences " ++ (decimal all ++ codes ":")) r0 c.in_ok-push_sum.ensures
     (joined t0 t1 last k0 r1 c.in_ok-push_count.ensures (joined t1 t2 last k1 r2 c.in_ok-push_count-2.ensures (joined t2 t3 last k2 r3 c.in_ok-push_count-3.ensures (joined t3 t4 last k3 r4 c.in_ok-push_count-4.ensures (joined t4 t5 last k4 r5 c.in_ok-push_count-5.ensures (joined t5 t6 last k5 r6 c.in_ok-push_count-6.ensures (joined t6 t7 last k6 r7 c.in_ok-push_count-7.ensures (joined t7 t8 last k7 r8 c.in_ok-push_count-8.ensures e))))))))
     ∙ ap (λ xs. old ++ xs) (in_front (codes "differences ") (decimal all) (codes ":") r0)

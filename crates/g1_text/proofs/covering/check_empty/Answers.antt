@@ -1,8 +1,8 @@
 use Rattle.std.proofs.Common.{◌≡◌, ◌<◌, ℕ, [], length, map, get_or, sym, ◌∙◌, ap, arith, Vec, Global}
 use Rattle.std.proofs.lemmas.Bool.Decides.{nat_tests}
+use Rattle.std.proofs.lemmas.List.{length-map}
 use Rattle.g1_text.specs.Drafts.{content, numbers}
 use Rattle.g1_text.specs.Late.{IsWrongSet}
-use Rattle.g1_text.proofs.Gathering.{map_count}
 use Rattle.g1_text.proofs.SetLines.{set_at}
 use Rattle.g1_text.proofs.covering.check_empty.Goals as goal
 
@@ -13,7 +13,7 @@ returns-then-not-is_empty-clause-beside c =
     let set = c.set-item.result in
     let same = c.deref-set-items.ensures.value in
     let all = ap length same in
-    let count = map_count (λ (v : Vec ℕ Global). v.items) sets in
+    let count = length-map sets (λ (v : Vec ℕ Global). v.items) in
     let lt : k < length sets = omega (arith, all, c.loop-region-test.true) in
     let full : 0 < length set.items = grind (arith, nat_tests, c.if-not-is_empty.ensures, set.ok.0) in
     let there : (get_or sets k set).items ≡ set.items = ap (λ xs. (get_or xs k set).items) (sym same) ∙ ap (λ (v : Vec ℕ Global). v.items) (sym c.set-item.is) in

@@ -4,7 +4,8 @@ use Rattle.std.proofs.lemmas.List.{take-map, get_or-map, length-map}
 use Rattle.g1_text.specs.Graphs.{NamedRoot}
 use Rattle.g1_text.specs.ByName.{read_root, read_holder}
 use Rattle.g1_text.specs.Carried.{root_value, root_targets, stale_from, stale_at}
-use Rattle.g1_text.proofs.Pushing.{push_mapped, push_stale, root_read, root_count}
+use Rattle.g1_text.proofs.Pushing.{push_mapped, push_stale, root_read}
+use Rattle.g1_text.proofs.ByName.{root_count}
 use Rattle.g1_text.proofs.filling.fill_roots.Goals as goal
 
 abbrev no_line : ℕ × Bor (List ℕ)

@@ -1,4 +1,5 @@
 use Rattle.std.proofs.Common.{◌≡◌, List, ℕ, inl, inr, sym, ◌∙◌, ap, subst}
+use Rattle.std.proofs.lemmas.List.{length-map}
 use Rattle.g1_words.specs.declared.limits.Limits.TheVariants.{Wide}
 use Rattle.g1_words.specs.declared.fault.Fault.{Fault}
 use Rattle.g1_words.specs.declared.fault.Fault.TheVariants.{Memory}
@@ -12,7 +13,6 @@ use Rattle.g1_image.proofs.NoFault.{no_fault}
 use Rattle.g1_text.specs.Content.{Content, IsContentOf, file_with}
 use Rattle.g1_text.specs.Drafts.{content, numbers, line_of_object, address_of_object}
 use Rattle.g1_text.proofs.Counted.{made}
-use Rattle.g1_text.proofs.Gathering.{map_count}
 use Rattle.g1_text.proofs.Refusing.{faulty_late}
 use Rattle.g1_text.proofs.making.check_and_pack.Goals as goal
 
@@ -43,7 +43,7 @@ returns-in-Ok-clause-only c = λ fit.
 pub returns-in-Err-clause-late : goal.returns-in-Err-clause-late
 returns-in-Err-clause-late c = λ same stands.
     let d = c.args.draft.now in
-    let many = map_count line_of_object d.objects.items ∙ sym (map_count address_of_object d.objects.items) in
+    let many = length-map d.objects.items line_of_object ∙ sym (length-map d.objects.items address_of_object) in
     let s = content c.args.draft.now in
     faulty_late (numbers c.args.draft.now) s c.trace.result c.in-Err.fault same stands many c.in_ok-settle.ensures.only c.trace.ensures.line c.trace.ensures.memory
     (λ fit. subst (λ b. MayFailWithin Wide b c.in-Err.fault) (c.as_slice.ensures.value ∙ c.in_ok-bytes.ensures fit) c.in-Err.ensures.err) c.trace.ensures.root c.trace.ensures.dirty c.trace.ensures.region c.trace.ensures.slot

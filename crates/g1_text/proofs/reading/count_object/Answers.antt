@@ -1,8 +1,9 @@
 use Rattle.std.proofs.Common.{◌≡◌, ◌+◌, ◌-◌, ℕ, zero, suc, List, [], ◌∷◌, ◌++◌, get_or, map, set, refl, sym, ◌∙◌, ap, vec_len, arith}
+use Rattle.std.proofs.lemmas.List.{length-map}
 use Rattle.g1_text.specs.Content.{Counts}
 use Rattle.g1_text.specs.Drafts.{counts_of, line_of_region}
 use Rattle.g1_text.proofs.Ends.{last_set}
-use Rattle.g1_text.proofs.Gathering.{map_set, map_at, map_count}
+use Rattle.g1_text.proofs.Gathering.{map_set, map_at}
 use Rattle.g1_text.proofs.reading.count_object.Goals as goal
 
 pub returns-in-Some-clause-counts : goal.returns-in-Some-clause-counts
@@ -10,7 +11,7 @@ returns-in-Some-clause-counts c = λ earlier q e fits.
     let v = c.args.regions.now in
     let last = c.in-Some.last.now in
     let n = vec_len v in
-    let count = map_count counts_of v.items in
+    let count = length-map v.items counts_of in
     let seen : counts_of last ≡ get_or (map counts_of v.items) (n - 1) (counts_of last) = ap counts_of c.in-Some.ensures.value ∙ sym (map_at counts_of v.items (n - 1) last) in
     let both = last_set (map counts_of v.items) earlier (counts_of last) q n e (v.ok.0 ∙ sym count) seen in
     let found = ap (λ (t : Counts). t.found) both.0 in

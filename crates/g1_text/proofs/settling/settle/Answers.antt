@@ -1,12 +1,13 @@
 use Rattle.std.proofs.Common.{◌<◌, ℕ, get_or, length, map, inl, inr, refl, sym, ◌∙◌, ap, subst, arith}
 use Rattle.std.specs.Prelude.{None, All}
+use Rattle.std.proofs.lemmas.List.{length-map}
 use Rattle.g1_text.specs.declared.draft.Told.{Told}
 use Rattle.g1_text.specs.Content.{CountsAgree}
 use Rattle.g1_text.specs.Drafts.{content, counts_of, line_of_region, numbers}
 use Rattle.g1_text.specs.Late.{IsWrongHeading, IsWrongRegion, counts_at}
 use Rattle.g1_text.proofs.Counted.{all_counts}
 use Rattle.g1_text.proofs.Results.{not_both}
-use Rattle.g1_text.proofs.Gathering.{map_at, map_count}
+use Rattle.g1_text.proofs.Gathering.{map_at}
 use Rattle.g1_text.proofs.settling.settle.Goals as goal
 
 pub returns-in-Err-settle_region-clause-ok : goal.returns-in-Err-settle_region-clause-ok
@@ -16,7 +17,7 @@ returns-in-Err-settle_region-clause-ok c = λ agrees.
     let k = c.loop-told.told-index in
     let none : Told = record { line = 0; region = 0; top = None; objects = None; cards = None; found = 0 } in
     let same = c.deref-told-items.ensures.value in
-    let count = map_count counts_of items in
+    let count = length-map items counts_of in
     let all = ap length same in
     let lt : k < length (map counts_of items) = omega (arith, count, all, c.loop-told-test.true) in
     let one = subst (CountsAgree s) (map_at counts_of items k none) (agrees.regions k (counts_of none) lt) in
@@ -45,7 +46,7 @@ returns-in-Err-settle_region-clause-late c =
     let k = c.loop-told.told-index in
     let none : Told = record { line = 0; region = 0; top = None; objects = None; cards = None; found = 0 } in
     let same = c.deref-told-items.ensures.value in
-    let count = map_count counts_of items in
+    let count = length-map items counts_of in
     let all = ap length same in
     let lt : k < length s.counts = omega (arith, count, all, c.loop-told-test.true) in
     let this : CountsAgree s (counts_at s k) → CountsAgree s (counts_of (get_or c.deref-told-items.result.now k none)) =

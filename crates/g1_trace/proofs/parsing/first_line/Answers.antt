@@ -1,17 +1,11 @@
 use Rattle.std.proofs.Common.{◌≡◌, ℕ, [], ◌∷◌, ◌++◌, drop, sym, ◌∙◌, ap}
-use Rattle.std.specs.Prelude.{Option, Some, None, IfSome, IfNone, codes}
+use Rattle.std.specs.Prelude.{Some, None, codes}
 use Rattle.std.proofs.lemmas.Bool.Decides.{Decides-eqb}
+use Rattle.std.proofs.lemmas.Option.{IfSome_then}
 use Rattle.std.proofs.lemmas.Slice.Eq.{strip_prefix_is}
 use Rattle.g1_trace.specs.TraceText.{spaced, heap_line, AllFit, IsHeapLine}
+use Rattle.g1_words.proofs.Logic.{IfNone-weaker}
 use Rattle.g1_trace.proofs.parsing.first_line.Goals as goal
-
-IfSome-weaken : {A : Type 0} (o : Option A) (P Q : A → Type 0) → ((a : A) → P a → Q a) → IfSome o P → IfSome o Q
-IfSome-weaken (Some a) P Q f h = f a h
-IfSome-weaken None P Q f h = h
-
-IfNone-weaken : {A : Type 0} (o : Option A) (P Q : Type 0) → (P → Q) → IfNone o P → IfNone o Q
-IfNone-weaken (Some a) P Q f h = h
-IfNone-weaken None P Q f h = f h
 
 pub returns-in-None-clause-none : goal.returns-in-None-clause-none
 returns-in-None-clause-none c = λ (w, k, n, roots, fits, is).
@@ -20,11 +14,11 @@ returns-in-None-clause-none c = λ (w, k, n, roots, fits, is).
 pub returns-in-Some-clause-some : goal.returns-in-Some-clause-some
 returns-in-Some-clause-some c =
     let begins : c.args.line.now ≡ codes "heap" ++ c.in-Some.rest.now = strip_prefix_is Decides-eqb c.args.line.now (codes "heap") (Some c.in-Some.rest) c.in-Some.ensures.cases in
-    IfSome-weaken c.four.result (λ r. c.in-Some.rest.now ≡ spaced (r.0 ∷ r.1 ∷ r.2 ∷ r.3 ∷ [])) (λ r. c.args.line.now ≡ heap_line r.0 r.1 r.2 r.3)
-    (λ r is. begins ∙ ap (λ xs. codes "heap" ++ xs) is) c.four.ensures.some
+    IfSome_then c.four.result {P = λ r. c.in-Some.rest.now ≡ spaced (r.0 ∷ r.1 ∷ r.2 ∷ r.3 ∷ [])} {Q = λ r. c.args.line.now ≡ heap_line r.0 r.1 r.2 r.3} c.four.ensures.some
+    (λ r is. begins ∙ ap (λ xs. codes "heap" ++ xs) is)
 
 pub returns-in-Some-clause-none : goal.returns-in-Some-clause-none
 returns-in-Some-clause-none c =
     let begins : c.args.line.now ≡ codes "heap" ++ c.in-Some.rest.now = strip_prefix_is Decides-eqb c.args.line.now (codes "heap") (Some c.in-Some.rest) c.in-Some.ensures.cases in
-    IfNone-weaken c.four.result ((a b d e : ℕ) → AllFit (a ∷ b ∷ d ∷ e ∷ []) → c.in-Some.rest.now ≡ spaced (a ∷ b ∷ d ∷ e ∷ []) → ⊥) (IsHeapLine c.args.line.now → ⊥)
+    IfNone-weaker c.four.result ((a b d e : ℕ) → AllFit (a ∷ b ∷ d ∷ e ∷ []) → c.in-Some.rest.now ≡ spaced (a ∷ b ∷ d ∷ e ∷ []) → ⊥) (IsHeapLine c.args.line.now → ⊥)
     (λ none (w, k, n, roots, fits, is). none w k n roots fits (ap (drop 4) (sym begins ∙ is))) c.four.ensures.none

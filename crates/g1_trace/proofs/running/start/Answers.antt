@@ -1,22 +1,21 @@
 use Rattle.std.proofs.Common.{◌≡◌, ◌⊎◌, ◌<◌, ◌≤◌, inl, inr, ◌∙◌, ap, subst, arith}
-use Rattle.std.proofs.lemmas.Result.{IfErr-weaker}
+use Rattle.std.proofs.lemmas.Result.{IfErr-weaker, IfOk-weaker}
 use Rattle.g1_words.specs.Geometry.{Geometry, IsWithinLimits, most_roots}
 use Rattle.g1_words.specs.declared.fault.Fault.TheVariants.{Memory, Geometry as Outside}
 use Rattle.g1_trace.specs.Run.{empty_image}
 use Rattle.g1_trace.specs.Running.{IsHeapSize}
-use Rattle.g1_trace.proofs.GoesOn.{IfOk-weaken}
 use Rattle.g1_trace.proofs.running.start.Goals as goal
 
 pub returns-in-Ok-clause-ok : goal.returns-in-Ok-clause-ok
 returns-in-Ok-clause-ok c =
     let geometry : c.in-Ok.geometry ≡ record { w = c.args.w; k = c.args.k; n = c.args.n } = (λ t. record { w = c.in-Ok.ensures.ok.0 t; k = c.in-Ok.ensures.ok.1 t; n = c.in-Ok.ensures.ok.2 t }) in
-    IfOk-weaken c.new-in-Ok.result _ (λ m. m ≡ empty_image (record { w = c.args.w; k = c.args.k; n = c.args.n }) c.args.roots) (λ m made. made.0
+    IfOk-weaker c.new-in-Ok.result _ (λ m. m ≡ empty_image (record { w = c.args.w; k = c.args.k; n = c.args.n }) c.args.roots) (λ m made. made.0
     ∙ ap (λ (x : Geometry). empty_image x c.args.roots) geometry) c.new-in-Ok.ensures.ok
 
 pub returns-in-Ok-clause-limits : goal.returns-in-Ok-clause-limits
 returns-in-Ok-clause-limits c =
     let geometry : c.in-Ok.geometry ≡ record { w = c.args.w; k = c.args.k; n = c.args.n } = (λ t. record { w = c.in-Ok.ensures.ok.0 t; k = c.in-Ok.ensures.ok.1 t; n = c.in-Ok.ensures.ok.2 t }) in
-    IfOk-weaken c.new-in-Ok.result (λ m. (m ≡ empty_image c.in-Ok.geometry c.args.roots) × (c.args.roots ≤ most_roots)) (λ m. IsHeapSize (record { w = c.args.w; k = c.args.k; n = c.args.n }) c.args.roots)
+    IfOk-weaker c.new-in-Ok.result (λ m. (m ≡ empty_image c.in-Ok.geometry c.args.roots) × (c.args.roots ≤ most_roots)) (λ m. IsHeapSize (record { w = c.args.w; k = c.args.k; n = c.args.n }) c.args.roots)
     (λ m made. record { sizes = subst (λ (x : Geometry). IsWithinLimits x.w x.k x.n) geometry c.in-Ok.ensures.limits; roots = made.1 }) c.new-in-Ok.ensures.ok
 
 pub returns-in-Ok-clause-refused : goal.returns-in-Ok-clause-refused

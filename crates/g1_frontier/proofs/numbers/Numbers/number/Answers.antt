@@ -2,10 +2,10 @@ use Rattle.std.proofs.Common.{arith, ap, sym, ◌≡◌, ◌<◌, ◌+◌, ◌-�
 use Rattle.std.proofs.lemmas.Nat.{and_mask, one_shl}
 use Rattle.std.specs.Int.Bits.{bit_and}
 use Rattle.std.specs.Int.Count.{ones}
+use Rattle.std.proofs.lemmas.List.{get_or_default}
 use Rattle.g1_frontier.specs.declared.numbers.Block.{Block}
 use Rattle.g1_frontier.specs.Numbers.{number_at, starts_of}
 use Rattle.g1_frontier.proofs.Counts.{no_block, block_at, number_by_block, number_few, marks_long}
-use Rattle.g1_frontier.proofs.Scopes.{get_any}
 use Rattle.g1_frontier.proofs.numbers.Numbers.number.Goals as goal
 use Rattle.g1_frontier.proofs.numbers.Numbers.number.Goals.{After-self, After-from}
 
@@ -23,7 +23,7 @@ told c =
     let k : ℕ = c.args.word % 64 in
     let b : Block = c.index-block.result.now in
     let lt : c.args.word < 64 * length blocks = omega (arith, c.requires, ap length c.self.view_is, marks_long blocks c.self.invariant.0) in
-    let at : b ≡ block_at blocks (c.args.word / 64) = c.index-block.ensures ∙ get_any blocks (c.args.word / 64) b no_block (omega (arith, lt)) in
+    let at : b ≡ block_at blocks (c.args.word / 64) = c.index-block.ensures ∙ get_or_default blocks (c.args.word / 64) b no_block (omega (arith, lt)) in
     let mask : 1 * 2 ^ k % 2 ^ 64 - 1 ≡ 2 ^ k - 1 = ap (λ x. x - 1) (one_shl k 64 (omega arith)) in
     let below : c.from.result ≡ ones (b.starts % 2 ^ k) = c.from.ensures ∙ ap (λ m. ones (bit_and b.starts m)) mask ∙ ap ones (and_mask b.starts k) in
     ap (λ x. b.before + x) below ∙ (λ i. (at i).before + ones ((at i).starts % 2 ^ k)) ∙ sym (number_by_block blocks c.self.invariant.0 c.args.word lt)

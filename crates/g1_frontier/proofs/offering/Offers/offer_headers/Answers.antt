@@ -2,13 +2,14 @@ use Rattle.std.proofs.Common.{◌<◌, ◌^◌, ◌∙◌, ℕ, List, ap, sym, g
 use Rattle.std.proofs.lemmas.List.{take_all, get_or-map}
 use Rattle.g1_words.specs.Heap.{object_at}
 use Rattle.g1_words.specs.declared.object.Object.{Object as Header}
+use Rattle.g1_words.proofs.Indices.{get_or-In}
 use Rattle.g1_frontier.specs.declared.item.Item.{Item}
 use Rattle.g1_frontier.specs.declared.item.Item.TheVariants.{Root}
 use Rattle.g1_frontier.specs.Items.{IsItem, AreRanks, items_at}
 use Rattle.g1_frontier.specs.Offering.{HasTried}
 use Rattle.g1_frontier.specs.Scope.{place_in, pairs_in, all_pairs_in}
 use Rattle.g1_frontier.proofs.Offerings.{tried_none, tried_more}
-use Rattle.g1_frontier.proofs.Scopes.{In-get, all_part}
+use Rattle.g1_frontier.proofs.Scopes.{all_part}
 use Rattle.g1_frontier.proofs.Soughts.{items_length, items_get}
 use Rattle.g1_frontier.proofs.offering.Offers.offer_headers.Goals as goal
 
@@ -46,7 +47,7 @@ offer_object-requires-clause-ranks c =
     let i : ℕ = c.loop-index.index in
     let long = items_length c.args.addresses.now c.args.bases.now c.requires.paired in
     subst (λ x. AreRanks (pairs_in s x)) (items_get c.args.addresses.now c.args.bases.now i 0 c.loop-index-test.true c.requires.paired)
-    (all_part (λ q. q.0 < 2 ^ 32) (pairs_in s) xs (get_or xs i (Root 0)) c.requires.ranks (In-get xs i (Root 0) (omega (arith, long, c.loop-index-test.true))))
+    (all_part (λ q. q.0 < 2 ^ 32) (pairs_in s) xs (get_or xs i (Root 0)) c.requires.ranks (get_or-In xs i (Root 0) (omega (arith, long, c.loop-index-test.true))))
 
 pub loop-index-preserved : goal.loop-index-preserved
 loop-index-preserved c =

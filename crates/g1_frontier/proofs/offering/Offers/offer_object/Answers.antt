@@ -5,10 +5,11 @@ use Rattle.g1_words.specs.Heap.{word, object_at, slots}
 use Rattle.g1_words.specs.Valid.{IsReference}
 use Rattle.g1_words.proofs.Computed.{In-range}
 use Rattle.g1_words.proofs.Members.{In}
+use Rattle.g1_words.proofs.Lists.{range_until}
 use Rattle.g1_frontier.specs.Items.{AreRanks}
 use Rattle.g1_frontier.specs.Scope.{place_in, aims_in}
 use Rattle.g1_frontier.specs.Offering.{HasTried}
-use Rattle.g1_frontier.proofs.Names.{object_in_words, object_reference, range_more}
+use Rattle.g1_frontier.proofs.Names.{object_in_words, object_reference}
 use Rattle.g1_frontier.proofs.Offerings.{tried_none, tried_append}
 use Rattle.g1_frontier.proofs.Scopes.{all_part}
 use Rattle.g1_frontier.proofs.offering.Offers.offer_object.Goals as goal
@@ -58,7 +59,7 @@ loop-slot-preserved c =
     let one : HasTried (place_in s) (f p) c.loop-slot.holder c.offer_named.new.holder =
     subst (λ x. HasTried (place_in s) (aims_in s (c.args.base + (p - first)) x) c.loop-slot.holder c.offer_named.new.holder) (c.at.ensures ∙ ap (λ l. get_or l p 0) c.words-words.ensures.same) c.in_ok-offer_named.ensures in
     subst (λ ps. HasTried (place_in s) ps c.args.holder.now c.offer_named.new.holder)
-    (flat_map_more f [] (range_with_len first (p - first)) p ∙ ap (flat_map f) (range_more first p c.loop-slot.auto.slot))
+    (flat_map_more f [] (range_with_len first (p - first)) p ∙ ap (flat_map f) (range_until first p c.loop-slot.auto.slot))
     (tried_append (place_in s) (flat_map f (range_with_len first (p - first))) (f p) c.args.holder.now c.loop-slot.holder c.offer_named.new.holder c.loop-slot.invariant one)
 
 pub returns : goal.returns

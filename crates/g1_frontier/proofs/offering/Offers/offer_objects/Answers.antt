@@ -3,12 +3,13 @@ use Rattle.std.proofs.lemmas.List.Elements.{All-take, All-drop}
 use Rattle.std.proofs.lemmas.List.{take_all}
 use Rattle.std.specs.List.{All}
 use Rattle.g1_words.specs.Heap.{objects, object_at}
+use Rattle.g1_words.proofs.Indices.{taken_in}
 use Rattle.g1_frontier.specs.declared.item.Item.{Item}
 use Rattle.g1_frontier.specs.Items.{IsItem, AreRanks, items_at}
 use Rattle.g1_frontier.specs.Offering.{HasTried}
 use Rattle.g1_frontier.specs.Scope.{place_in, pairs_in, all_pairs_in}
 use Rattle.g1_frontier.proofs.Offerings.{tried_none, tried_next}
-use Rattle.g1_frontier.proofs.Scopes.{In-take, In-drop, all_some}
+use Rattle.g1_frontier.proofs.Scopes.{In-drop, all_some}
 use Rattle.g1_frontier.proofs.Soughts.{items_length, items_objects, items_part, paired_part}
 use Rattle.g1_frontier.proofs.offering.Offers.offer_objects.Goals as goal
 
@@ -48,7 +49,7 @@ offer_headers-requires-clause-ranks c =
     let xs : List Item = items_at c.args.addresses.now c.args.bases.now in
     let n : ℕ = c.min-to.result - c.loop-from.from in
     subst (λ l. AreRanks (all_pairs_in s l)) (sym (items_part n c.loop-from.from c.args.addresses.now c.args.bases.now))
-    (all_some (λ q. q.0 < 2 ^ 32) (pairs_in s) xs (take n (drop c.loop-from.from xs)) (λ x i. In-drop c.loop-from.from xs x (In-take n (drop c.loop-from.from xs) x i)) c.requires.ranks)
+    (all_some (λ q. q.0 < 2 ^ 32) (pairs_in s) xs (take n (drop c.loop-from.from xs)) (λ x i. In-drop c.loop-from.from xs x (taken_in n (drop c.loop-from.from xs) x i)) c.requires.ranks)
 
 pub loop-from-preserved : goal.loop-from-preserved
 loop-from-preserved c =

@@ -5,9 +5,10 @@ use Rattle.g1_words.specs.Heap.{word, objects, slots}
 use Rattle.g1_words.specs.Valid.{IsReference}
 use Rattle.g1_words.proofs.Computed.{In-range}
 use Rattle.g1_words.proofs.Members.{In, In-from_contains}
+use Rattle.g1_words.proofs.Lists.{range_push}
 use Rattle.g1_frontier.specs.Scope.{names_in}
 use Rattle.g1_frontier.specs.Queue.{HasNoted}
-use Rattle.g1_frontier.proofs.Names.{slot_reference, range_push}
+use Rattle.g1_frontier.proofs.Names.{slot_reference}
 use Rattle.g1_frontier.proofs.Queues.{noted_none, noted_append}
 use Rattle.g1_frontier.proofs.queue.Queue.note_object.Goals as goal
 

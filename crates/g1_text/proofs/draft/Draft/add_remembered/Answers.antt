@@ -1,5 +1,5 @@
-use Rattle.std.proofs.Common.{◌≡◌, ◌<◌, ◌^◌, ℕ, zero, suc, List, [], ◌∷◌, ◌++◌, length, get_or, set, refl, sym, ◌∙◌, ap, subst, arith, Vec, Global}
-use Rattle.std.proofs.lemmas.List.{length-map}
+use Rattle.std.proofs.Common.{◌≡◌, ◌^◌, ℕ, List, [], ◌∷◌, ◌++◌, get_or, set, sym, ◌∙◌, ap, subst, arith, Vec, Global}
+use Rattle.std.proofs.lemmas.List.{length-map, get_or_default}
 use Rattle.std.proofs.lemmas.Result.{err_from_is_err_and}
 use Rattle.g1_text.specs.Short.{RememberedAs, TellsCards, IsShortLine}
 use Rattle.g1_text.proofs.Spelled.{front_and_rest, behind_word, one_front}
@@ -10,11 +10,6 @@ use Rattle.std.specs.Prelude.{codes}
 use Rattle.g1_text.specs.Forms.{Number, Cards, Single, Spells, IsBelow, ◌▸◌, HasFirst}
 use Rattle.g1_text.proofs.Fronts.{begins_with, then_all, read_one}
 use Rattle.g1_text.proofs.draft.Draft.add_remembered.Goals as goal
-
-any_default : {A : Type 0} (xs : List A) (n : ℕ) (d e : A) → n < length xs → get_or xs n d ≡ get_or xs n e
-any_default [] n d e lt = absurd (omega (arith, lt))
-any_default (x ∷ xs) zero d e lt = refl
-any_default (x ∷ xs) (suc n) d e lt = any_default xs n d e (omega (arith, lt))
 
 -- the number of the region, and the cards behind it
 told : (r : ℕ) (cards : List ℕ) {words : List (List ℕ)} → IsShortLine (RememberedAs r cards) (codes "remembered" ∷ words)
@@ -55,7 +50,7 @@ returns-clause-short c = λ r cards after e takes.
     let old = c.in-Some.set.now in
     let seen : old.items ≡ get_or s.remembered c.in_ok-region.region old.items =
     ap (λ (v : Vec ℕ Global). v.items) c.in-Some.ensures.value ∙ sym (map_at (λ (v : Vec ℕ Global). v.items) sets c.in_ok-region.region old) in
-    let there : old.items ≡ get_or s.remembered r [] = seen ∙ ap (λ n. get_or s.remembered n old.items) same ∙ any_default s.remembered r old.items [] takes.0 in
+    let there : old.items ≡ get_or s.remembered r [] = seen ∙ ap (λ n. get_or s.remembered n old.items) same ∙ get_or_default s.remembered r old.items [] takes.0 in
     let written = map_set (λ (v : Vec ℕ Global). v.items) sets c.in_ok-region.region c.add_cards.new.cards ∙ (λ i. set s.remembered (same i) (added i))
     ∙ ap (λ xs. set s.remembered r (xs ++ cards)) there in
     (λ i. record s { remembered = written i }) ∙ sym takes.3
