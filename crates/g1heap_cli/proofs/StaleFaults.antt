@@ -2,7 +2,7 @@
 use Rattle.std.proofs.Common.{◌≡◌, ◌<◌, ℕ, ◌+◌, ◌*◌, ◌^◌, inl, inr, List, [], ◌∷◌, length, set, slice_index, arith, refl, sym, ap, subst, ◌∙◌}
 use Rattle.std.proofs.Common.{get_or-set_other, get_or-set_same, length-set}
 use Rattle.std.specs.Prelude.{Some, None}
-use Rattle.std.proofs.lemmas.Bool.{cases_lt}
+use Rattle.std.proofs.lemmas.Bool.{cases_lt, cases_eq}
 use Rattle.std.proofs.lemmas.List.{get_or_past}
 use Rattle.g1_words.specs.Heap.{Heap, region, start, end}
 use Rattle.g1_words.specs.Valid.{AllShaped, IsObject, Tiles, IsFirst, HoldsBy, IsReference, IsShapedBy}
@@ -19,7 +19,7 @@ use Rattle.g1_image.specs.Faults.{FaultWithin, IsFirstBreach, IsGoodRoot, IsGood
 use Rattle.g1_image.specs.Stale.{IsStaleRoot, IsStaleSlot, IsTextWithout, nulled, without}
 use Rattle.g1_image.proofs.DecidedReferences.{decided_reference}
 use Rattle.g1_image.proofs.OneFile.{one_file}
-use Rattle.g1_image.proofs.Rows.{eq_or, has_header}
+use Rattle.g1_image.proofs.Rows.{has_header}
 use Rattle.g1_image.proofs.Slots.{ends_within}
 use Rattle.g1_image.proofs.StaleWords.{Gathers, gathers_of}
 use Rattle.g1heap_cli.specs.Compared.{first_place}
@@ -32,7 +32,7 @@ unnulled : (found : List (ℕ × ℕ)) (words : List ℕ) (k v : ℕ) → 0 < v 
 unnulled [] words k v some is = is
 unnulled (e ∷ found) words k v some is =
     let set_there : slice_index (set words e.0 0) k ≡ v = unnulled found (set words e.0 0) k v some is in
-    elim (eq_or k e.0) [
+    elim (cases_eq k e.0) [
       | inl here ↦ elim (cases_lt e.0 (length words)) [
         | inl lt ↦ absurd (let z : slice_index (set words e.0 0) k ≡ 0 = ap (slice_index (set words e.0 0)) here ∙ get_or-set_same words e.0 0 0 lt in omega (arith, z, set_there, some))
         | inr ge ↦ absurd (let z : slice_index (set words e.0 0) k ≡ 0 = get_or_past (set words e.0 0) k 0 (omega (arith, ge, here, length-set words e.0 0)) in omega (arith, z, set_there, some))
