@@ -1,6 +1,7 @@
 -- Every object and every slot lies in a used region.
 use Rattle.std.proofs.Common.{◌≡◌, ◌≢◌, ◌<◌, ℕ, ◌+◌, ◌-◌, Bool, true, cond, not, List, [], ◌∷◌, ◌++◌, filter, flat_map, Contains, arith, refl, sym, ap, subst, ◌∙◌}
 use Rattle.std.specs.List.{range_with_len}
+use Rattle.std.proofs.lemmas.List.Elements.{filter-append}
 use Rattle.std.proofs.lemmas.List.Kept.{IsStrictlyIncreasing-filter}
 use Rattle.g1_words.specs.declared.object.Object.{Object}
 use Rattle.g1_words.specs.declared.region.Kind.{Kind}
@@ -26,14 +27,11 @@ is_used Ordinary d = refl
 is_used HumongousFirst d = refl
 is_used Continuation d = refl
 
-filter_append : (p : ℕ → Bool) (xs ys : List ℕ) → filter p (xs ++ ys) ≡ filter p xs ++ filter p ys
-filter_append p xs ys = Rattle.g1_frontier.proofs.Seeds.filter_append p xs ys
-
 -- one region more
 pub used_more : (p : ℕ → Bool) (r : ℕ) (front more : List ℕ) (b : Bool) → front ≡ filter p (range_with_len 0 r) → p r ≡ b
     → more ≡ front ++ cond b (r ∷ []) [] → more ≡ filter p (range_with_len 0 (r + 1))
 used_more p r front more b e t f =
-    f ∙ (λ i. e i ++ cond (sym t i) (r ∷ []) []) ∙ sym (filter_append p (range_with_len 0 r) (r ∷ [])) ∙ ap (filter p) grown
+    f ∙ (λ i. e i ++ cond (sym t i) (r ∷ []) []) ∙ sym (filter-append p (range_with_len 0 r) (r ∷ [])) ∙ ap (filter p) grown
   where
     grown : range_with_len 0 r ++ r ∷ [] ≡ range_with_len 0 (r + 1)
     grown =
