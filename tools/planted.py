@@ -2,8 +2,9 @@
 """planted.py [--every] [--jobs N] --all | CRATE ..
 
 Tries the wrong bodies crates/CRATE/planted/*.edit, of all crates or of those that are named: the prover has to refuse
-each function in which one is planted. With --every it also tries those in planted/beside/, which the gate leaves out. It takes the libraries that `rt ci` left in crates/*/out, or builds those that
-are not there, or are older than their sources and not what `rt ci` keeps for them.
+each function in which one is planted. With --every it also tries those in planted/beside/, which the
+gate leaves out. It takes the libraries that `rt ci` left in crates/*/out, or builds those that are not there, or are
+older than their sources and not what `rt ci` keeps for them.
 
 A row is a must-fail edit (`rt help`) whose first line says what it turns:
 
