@@ -17,7 +17,7 @@ use Rattle.g1_image.specs.Image.{Image, IsImage, IsLog, IsRememberedSet, IsUsedC
 use Rattle.g1_after.specs.Moved.{IsMoved, remembered_moved}
 use Rattle.g1_words.proofs.Bounds.{card_in_region, cards_in_region}
 use Rattle.g1_words.proofs.Indices.{range_bounds}
-use Rattle.g1_words.proofs.Members.{Contains-from_in, In, In-from_contains, any_member, filter_member, flat_map_cases, in_from_has, map_cases}
+use Rattle.g1_words.proofs.Members.{any_member, filter_member, flat_map_cases, Contains-from_has, map_cases}
 use Rattle.g1_words.proofs.Ordered.{pairs_from_ordered}
 use Rattle.g1_words.proofs.Shapes.{IsBuilt, built, valid_of}
 use Rattle.g1_words.proofs.Sound.{IsSound}
@@ -87,12 +87,12 @@ exact_card h valid r c t =
     let q = map_cases (λ a. record { slot = p.0; target = a }) (named (word h p.0)) e p.2 in
     let slot : p.0 ≡ e.slot = ap (λ (x : Ref). x.slot) q.2 in
     let f = range_bounds (o.0.at + 1) o.0.refs p.0 p.1 in
-    let s = home h valid o.0 (Contains-from_in (objects h) o.0 o.1) in
+    let s = home h valid o.0 o.1 in
     let fits = stands_refs h valid s.0 o.0 s.2 in
     let x : ℕ = p.0 - o.0.at in
     let sum : o.0.at + x ≡ e.slot = omega arith in
     let used = word_used h valid s.0 o.0 x s.2 (omega arith) in
-    let t = home h valid (object_at h e.target) (valid.slot_named e (Contains-from_in (refs h) e m.1)) in
+    let t = home h valid (object_at h e.target) (valid.slot_named e m.1) in
     let there : t.0 ≡ r = sym (home_region h valid t.0 (object_at h e.target) t.2) ∙ to in (
       (λ z. used.1 (ap (λ y. kind h (region_of h y)) sum ∙ ap (kind h) (sym at) ∙ z)),
       (λ z. false≢true (sym away ∙ eq-eqb (region_of h e.slot) r (sym at ∙ z))),
@@ -155,8 +155,8 @@ module _ (i : Image) (set l : List ℕ) (j : Image) (valid : IsBuilt i.heap) (or
       c < j.heap.geometry.n * j.heap.geometry.w / j.heap.geometry.k → is_refined i r c ≡ true → card_in i.heap set c ≡ false → Right r c
   by_refined r c lt a b below t out = elim (or_cases (has (remembered_of i r) c) (has i.log c && is_exact i.heap r c) t) [
     | inl x ↦
-        let m : In (remembered_of i r) c = in_from_has (remembered_of i r) c x in
-        let u = card_of_set i image r c lt (Contains-from_in (remembered_of i r) c m) in
+        let m : Contains (remembered_of i r) c = Contains-from_has (remembered_of i r) c x in
+        let u = card_of_set i image r c lt m in
         let shape = other_shape i set l j valid ordinary survivors room moved r lt a b in (
           (below, stays_used c (in_heap (c * i.heap.geometry.k / i.heap.geometry.w) u.0) u.0 out),
           (λ z. u.1 (sym (same_kc c) ∙ z)),
@@ -173,16 +173,16 @@ module _ (i : Image) (set l : List ℕ) (j : Image) (valid : IsBuilt i.heap) (or
         )
   ]
 
-  right_in : (r c : ℕ) → r < i.heap.geometry.n → In (remembered_of j r) c → Right r c
+  right_in : (r c : ℕ) → r < i.heap.geometry.n → Contains (remembered_of j r) c → Right r c
   right_in r c lt m = elim (cases_Bool (has set r)) [
-    | inl t ↦ absurd (subst (λ xs. In xs c) (remembered_set r lt t) m)
+    | inl t ↦ absurd (subst (λ xs. Contains xs c) (remembered_set r lt t) m)
     | inr a ↦ elim (cases_Bool (has (to_space i.heap l) r)) [
       | inl t ↦
-          let f = filter_member (is_exact j.heap r) (range_with_len 0 (j.heap.geometry.n * j.heap.geometry.w / j.heap.geometry.k)) c (subst (λ xs. In xs c) (rem_goal r lt a t) m) in
+          let f = filter_member (is_exact j.heap r) (range_with_len 0 (j.heap.geometry.n * j.heap.geometry.w / j.heap.geometry.k)) c (subst (λ xs. Contains xs c) (rem_goal r lt a t) m) in
           let b = range_bounds 0 (j.heap.geometry.n * j.heap.geometry.w / j.heap.geometry.k) c f.0 in
           by_exact r c (omega arith) f.1
       | inr b ↦
-          let f = filter_member (test r) (range_with_len 0 (i.heap.geometry.n * i.heap.geometry.w / i.heap.geometry.k)) c (subst (λ xs. In xs c) (rem_other r lt a b) m) in
+          let f = filter_member (test r) (range_with_len 0 (i.heap.geometry.n * i.heap.geometry.w / i.heap.geometry.k)) c (subst (λ xs. Contains xs c) (rem_other r lt a b) m) in
           let g = range_bounds 0 (i.heap.geometry.n * i.heap.geometry.w / i.heap.geometry.k) c f.0 in
           let n = cards_same in
           let below : c < j.heap.geometry.n * j.heap.geometry.w / j.heap.geometry.k = omega arith in
@@ -222,8 +222,8 @@ module _ (i : Image) (set l : List ℕ) (j : Image) (valid : IsBuilt i.heap) (or
   below_n : (r : ℕ) → r < j.heap.geometry.n → r < i.heap.geometry.n
   below_n r lt = let n = (ap (λ (g : Geometry). g.n) moved.geometry) in omega (arith, n)
 
-  there : (r k d : ℕ) → k < length (remembered_of j r) → In (remembered_of j r) (get_or (remembered_of j r) k d)
-  there r k d lt = In-from_contains (remembered_of j r) (get_or (remembered_of j r) k d) (k, lt, get_or_default (remembered_of j r) k (get_or (remembered_of j r) k d) d lt)
+  there : (r k d : ℕ) → k < length (remembered_of j r) → Contains (remembered_of j r) (get_or (remembered_of j r) k d)
+  there r k d lt = (k, lt, get_or_default (remembered_of j r) k (get_or (remembered_of j r) k d) d lt)
 
   set_moved : (r : ℕ) → r < j.heap.geometry.n → IsRememberedSet j.heap r (remembered_of j r)
   set_moved r lt = record {

@@ -1,5 +1,5 @@
 -- What holds of the image after the pause: the survivors moved, and the unnamed humongous objects freed.
-use Rattle.std.proofs.Common.{◌≡◌, ◌↔◌, ℕ, ◌+◌, ◌/◌, ◌<◌, inl, inr, Bool, true, false, not, ◌||◌, List, ◌++◌, length, get_or, flat_map, Contains, refl, sym, ◌∙◌, ap, subst, arith, eqb, add-zero}
+use Rattle.std.proofs.Common.{◌≡◌, ◌↔◌, ℕ, ◌+◌, ◌/◌, ◌<◌, inl, inr, Bool, true, false, not, ◌||◌, List, ◌++◌, length, get_or, Contains, refl, sym, ◌∙◌, ap, subst, arith, eqb, add-zero}
 use Rattle.std.specs.List.{range_with_len}
 use Rattle.std.proofs.lemmas.List.{ext_get_or}
 use Rattle.std.proofs.lemmas.List.Folds.{list_any-append}
@@ -7,8 +7,8 @@ use Rattle.std.proofs.lemmas.List.FromFn.{get_or-map-range_with_len, length-map-
 use Rattle.std.proofs.lemmas.Bool.{false_from_ne_true, not-true}
 use Rattle.g1_image.specs.Cards.{IsTracked}
 use Rattle.g1_image.specs.Image.{Image}
-use Rattle.g1_words.proofs.Computed.{In-range}
-use Rattle.g1_words.proofs.Members.{Contains-from_in, In, In-filter, In-flat_map, In-from_contains, filter_member}
+use Rattle.g1_words.proofs.Computed.{Contains-range}
+use Rattle.g1_words.proofs.Members.{Contains-filter, Contains-flat_map, filter_member}
 use Rattle.g1_words.proofs.OneToOne.{kept_cases, outside_stays, survivor_fits, survivor_in_set}
 use Rattle.g1_words.proofs.Shapes.{IsBuilt, built, valid_of}
 use Rattle.g1_words.proofs.Sound.{IsSound, sound}
@@ -83,7 +83,7 @@ module _ (i : Image) (set l : List ℕ) (b : Image) (valid : IsValid i.heap) (a 
       unnamed_not_free b.heap built_between r t (set_shape i set l b (built i.heap valid) a.ordinary a.survivors a.room m r (omega arith) inset).0)
 
   -- nor is a region that a survivor went to
-  survivor_not_freed : (x : ℕ) → In l x → in_set b.heap freed (forward i.heap l x) ≡ false
+  survivor_not_freed : (x : ℕ) → Contains l x → in_set b.heap freed (forward i.heap l x) ≡ false
   survivor_not_freed x c = false_from_ne_true (in_set b.heap freed (forward i.heap l x)) (λ t.
       let s : IsSound i.heap = sound i.heap valid in
       let pos = (survivor_fits i.heap set l s a.ordinary a.survivors a.room x c).0 in
@@ -94,7 +94,7 @@ module _ (i : Image) (set l : List ℕ) (b : Image) (valid : IsValid i.heap) (a 
       (ap (kind b.heap) (same ∙ at) ∙ goal_kind i set l b s a.ordinary a.survivors a.room m g.0 g.1))
 
   -- a kept object stands in a freed region exactly where it stood in one
-  freed_stays : (k : Object) → In (kept i.heap set l) k → in_set b.heap freed (forward i.heap l k.at) ≡ in_set i.heap freed k.at
+  freed_stays : (k : Object) → Contains (kept i.heap set l) k → in_set b.heap freed (forward i.heap l k.at) ≡ in_set i.heap freed k.at
   freed_stays k c =
       let s : IsSound i.heap = sound i.heap valid in
       elim (kept_cases i.heap set l s a.ordinary a.survivors a.room k c) [
@@ -106,24 +106,24 @@ module _ (i : Image) (set l : List ℕ) (b : Image) (valid : IsValid i.heap) (a 
       ]
 
   -- an object that remains is a kept one that goes to no freed region
-  pub remaining_kept : (k : Object) → Contains (remaining i.heap set l freed) k → In (kept i.heap set l) k × (in_set b.heap freed (forward i.heap l k.at) ≡ false)
+  pub remaining_kept : (k : Object) → Contains (remaining i.heap set l freed) k → Contains (kept i.heap set l) k × (in_set b.heap freed (forward i.heap l k.at) ≡ false)
   remaining_kept k c =
-      let f = filter_member (λ (o : Object). not (in_set i.heap freed o.at)) (kept i.heap set l) k (In-from_contains (remaining i.heap set l freed) k c) in
+      let f = filter_member (λ (o : Object). not (in_set i.heap freed o.at)) (kept i.heap set l) k c in
       (f.0, freed_stays k f.0 ∙ not-true (in_set i.heap freed k.at) f.1)
 
   -- and such a one remains
-  pub kept_remains : (k : Object) → In (kept i.heap set l) k → in_set b.heap freed (forward i.heap l k.at) ≡ false → Contains (remaining i.heap set l freed) k
+  pub kept_remains : (k : Object) → Contains (kept i.heap set l) k → in_set b.heap freed (forward i.heap l k.at) ≡ false → Contains (remaining i.heap set l freed) k
   kept_remains k c out =
-      Contains-from_in (remaining i.heap set l freed) k (In-filter (λ (o : Object). not (in_set i.heap freed o.at)) (kept i.heap set l) k c (ap not (sym (freed_stays k c) ∙ out)))
+      Contains-filter (λ (o : Object). not (in_set i.heap freed o.at)) (kept i.heap set l) k c (ap not (sym (freed_stays k c) ∙ out))
 
   -- the words of an object that isn't freed stay
-  words_left : (k : Object) → In (kept i.heap set l) k → in_set b.heap freed (forward i.heap l k.at) ≡ false
+  words_left : (k : Object) → Contains (kept i.heap set l) k → in_set b.heap freed (forward i.heap l k.at) ≡ false
       → words_at (heap_left b.heap) (forward i.heap l k.at) k.size ≡ words_at b.heap (forward i.heap l k.at) k.size
   words_left k c out =
       let f : ℕ → ℕ = forward i.heap l in
       let s : IsSound i.heap = sound i.heap valid in
       let there : Contains (objects b.heap) (moved_object f k) =
-      Contains-from_in (objects b.heap) (moved_object f k) (kept_is_moved i set l b s a.ordinary a.survivors a.room m k c) in
+      kept_is_moved i set l b s a.ordinary a.survivors a.room m k c in
       let size : length (words_at (heap_left b.heap) (f k.at) k.size) ≡ k.size = length-map-range_with_len (word (heap_left b.heap)) (f k.at) k.size in
       let size' : length (words_at b.heap (f k.at) k.size) ≡ k.size = length-map-range_with_len (word b.heap) (f k.at) k.size in
       ext_get_or 0 (words_at (heap_left b.heap) (f k.at) k.size) (words_at b.heap (f k.at) k.size) (size ∙ sym size')
@@ -145,13 +145,12 @@ module _ (i : Image) (set l : List ℕ) (b : Image) (valid : IsValid i.heap) (a 
       let f : ℕ → ℕ = forward i.heap l in
       let v : IsBuilt i.heap = built i.heap valid in
       let r = (refs_moved i set l b v a.ordinary a.survivors a.room m e).0 c in
-      let w = slot_word i set l b v a.ordinary a.survivors a.room m r.owner r.m r.target (In-from_contains (kept i.heap set l) r.owner r.is_kept) r.above r.within r.names in
+      let w = slot_word i set l b v a.ordinary a.survivors a.room m r.owner r.m r.target r.is_kept r.above r.within r.names in
       let above = r.above in let within = r.within in
       no_slot_into_set i set l b (sound i.heap valid) a.ordinary a.survivors a.room m r.owner e.target r.is_kept
-      (Contains-from_in (flat_map (λ p. named (word b.heap p)) (range_with_len (f r.owner.at + 1) r.owner.refs)) e.target
-      (In-flat_map (λ p. named (word b.heap p)) (range_with_len (f r.owner.at + 1) r.owner.refs) (f r.owner.at + r.m) e.target
-      (In-range (f r.owner.at + 1) r.owner.refs (f r.owner.at + r.m) (omega arith) (omega arith))
-      (subst (λ x. In (named x) e.target) (sym w) (inl (sym r.target_at)))))
+      (Contains-flat_map (λ p. named (word b.heap p)) (range_with_len (f r.owner.at + 1) r.owner.refs) (f r.owner.at + r.m) e.target
+      (Contains-range (f r.owner.at + 1) r.owner.refs (f r.owner.at + r.m) (omega arith) (omega arith))
+      (subst (λ x. Contains (named x) e.target) (sym w) (inl (sym r.target_at))))
 
 -- each object that remains is a copy
 pub copies_paused : CopiesPaused
@@ -159,7 +158,7 @@ copies_paused i set l j valid a p o c =
     let b : Image = p.between in
     let k = remaining_kept i set l b valid a p.moved o c in
     subst (λ (x : Image). IsCopy (forward i.heap l) i.heap x.heap o) (sym p.freed)
-    (words_left i set l b valid a p.moved o k.0 k.1 ∙ p.moved.copies o (Contains-from_in (kept i.heap set l) o k.0))
+    (words_left i set l b valid a p.moved o k.0 k.1 ∙ p.moved.copies o k.0)
 
 -- the objects after are exactly the kept ones that weren't freed, each where it was moved
 pub objects_paused : ObjectsPaused
@@ -173,11 +172,11 @@ objects_paused i set l j valid a p o =
           let u = left.0 c in
           let k = moved.0 u.0 in
           let at : o.at ≡ f k.0.at = ap (λ (x : Object). x.at) k.2 in
-          (k.0, kept_remains i set l b valid a p.moved k.0 (In-from_contains (kept i.heap set l) k.0 k.1) (ap (in_set b.heap (unnamed_regions b.heap)) (sym at) ∙ u.1), k.2)),
+          (k.0, kept_remains i set l b valid a p.moved k.0 k.1 (ap (in_set b.heap (unnamed_regions b.heap)) (sym at) ∙ u.1), k.2)),
       (λ k.
           let r = remaining_kept i set l b valid a p.moved k.0 k.1 in
           let at : o.at ≡ f k.0.at = ap (λ (x : Object). x.at) k.2 in
-          left.1 (moved.1 (k.0, Contains-from_in (kept i.heap set l) k.0 r.0, k.2), ap (in_set b.heap (unnamed_regions b.heap)) at ∙ r.1)),
+          left.1 (moved.1 (k.0, r.0, k.2), ap (in_set b.heap (unnamed_regions b.heap)) at ∙ r.1)),
     )
 
 -- the image after is tracked

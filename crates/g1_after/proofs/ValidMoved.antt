@@ -1,5 +1,5 @@
 -- The image after keeps the rules of a valid heap.
-use Rattle.std.proofs.Common.{◌≡◌, ◌≢◌, ℕ, suc, ◌+◌, ◌-◌, ◌*◌, ◌/◌, ◌%◌, ◌^◌, ◌<◌, ◌≤◌, ◌⊎◌, inl, inr, true, false, List, length, get_or, filter, flat_map, min, Contains, refl, sym, ◌∙◌, ap}
+use Rattle.std.proofs.Common.{◌≡◌, ◌≢◌, ℕ, suc, ◌+◌, ◌-◌, ◌*◌, ◌/◌, ◌%◌, ◌^◌, ◌<◌, ◌≤◌, ◌⊎◌, inl, inr, true, false, List, length, get_or, filter, flat_map, min, Contains, refl, sym, ◌∙◌, ap, zero}
 use Rattle.std.proofs.Common.{subst, arith, eqb, add-zero}
 use Rattle.std.proofs.lemmas.Bool.{cases_Bool, cases_lt, false≢true}
 use Rattle.std.proofs.lemmas.Nat.{div-mul-add}
@@ -11,8 +11,8 @@ use Rattle.g1_after.proofs.SameGraphs.{live_found, named_survives}
 use Rattle.g1_after.proofs.ToSpace.{goal_is_free, goal_kind, goal_top, object_copied, survivor_kept, survivor_object, to_space_objects, to_space_tiled}
 use Rattle.g1_image.specs.Image.{Image}
 use Rattle.g1_after.specs.Moved.{IsMoved}
-use Rattle.g1_words.proofs.Computed.{In-range}
-use Rattle.g1_words.proofs.Members.{Contains-from_in, In, In-filter, In-flat_map, In-from_contains, In-map, filter_member, in_from_has, map_cases}
+use Rattle.g1_words.proofs.Computed.{Contains-range}
+use Rattle.g1_words.proofs.Members.{Contains-filter, Contains-flat_map, Contains-map, filter_member, Contains-from_has, map_cases}
 use Rattle.g1_words.proofs.OneToOne.{kept_cases, outside_stays, survivor_fits, survivor_in_set, target_in_refs}
 use Rattle.g1_words.proofs.Shapes.{BeginsRun, IsBuilt, IsBuiltBy, IsPlain, IsTiled, TakesRun}
 use Rattle.g1_words.proofs.Sound.{IsSound}
@@ -36,25 +36,25 @@ module _ (i : Image) (set l : List ℕ) (j : Image) (valid : IsBuilt i.heap) (or
   sound_before = built_is_sound i.heap valid
 
   -- a survivor was plain
-  pub survivor_plain : (a : ℕ) → In l a → IsPlain i.heap (object_at i.heap a)
+  pub survivor_plain : (a : ℕ) → Contains l a → IsPlain i.heap (object_at i.heap a)
   survivor_plain a k =
       let o : Object = object_at i.heap a in
       let m = home i.heap valid o (survivor_object i set l j sound_before ordinary survivors room moved a k) in
       let one : kind i.heap (region_of i.heap a) ≡ Ordinary = ordinary (region_of i.heap a)
-      (Contains-from_in set (region_of i.heap a) (in_from_has set (region_of i.heap a) (survivor_in_set i.heap set l sound_before ordinary survivors room a k))) in
+      (Contains-from_has set (region_of i.heap a) (survivor_in_set i.heap set l sound_before ordinary survivors room a k)) in
       let at : region_of i.heap a ≡ m.0 = home_region i.heap valid m.0 o m.2 in
       let one' : kind i.heap m.0 ≡ Ordinary = ap (kind i.heap) (sym at) ∙ one in
       elim m.2.2 [ inl x ↦ x.plain | inr x ↦ let clash : HumongousFirst ≡ Ordinary = sym x.kind ∙ one' in cc ]
 
-  pub kept_refs : (k : Object) → In (kept i.heap set l) k → k.refs < k.size
+  pub kept_refs : (k : Object) → Contains (kept i.heap set l) k → k.refs < k.size
   kept_refs k m = sound_before.slots_fit k (kept_is_object i.heap set l sound_before ordinary survivors room k m)
 
   -- a word of a kept object outside the set lies in a used region that isn't in the set
-  pub outside_word : (k : Object) (m : ℕ) → In (objects i.heap) k → in_set i.heap set k.at ≡ false → m < k.size
+  pub outside_word : (k : Object) (m : ℕ) → Contains (objects i.heap) k → in_set i.heap set k.at ≡ false → m < k.size
       → (region_of i.heap (k.at + m) < i.heap.geometry.n) × (kind i.heap (region_of i.heap (k.at + m)) ≢ Free)
       × (k.at + m < region_of i.heap (k.at + m) * i.heap.geometry.w + top i.heap (region_of i.heap (k.at + m))) × (has set (region_of i.heap (k.at + m)) ≡ false)
   outside_word k m c out lt =
-      let s = home i.heap valid k (Contains-from_in (objects i.heap) k c) in
+      let s = home i.heap valid k c in
       let u = word_used i.heap valid s.0 k m s.2 lt in (
         u.0,
         u.1,
@@ -63,7 +63,7 @@ module _ (i : Image) (set l : List ℕ) (j : Image) (valid : IsBuilt i.heap) (or
           | inr f ↦ f
           | inl t ↦
               let one : kind i.heap (region_of i.heap (k.at + m)) ≡ Ordinary = ordinary (region_of i.heap (k.at + m))
-              (Contains-from_in set (region_of i.heap (k.at + m)) (in_from_has set (region_of i.heap (k.at + m)) t)) in
+              (Contains-from_has set (region_of i.heap (k.at + m)) t) in
               let w = word_in_ordinary i.heap valid s.0 k m s.2 lt one in
               let same : region_of i.heap (k.at + m) ≡ region_of i.heap k.at = w.1 ∙ sym (home_region i.heap valid s.0 k s.2) in
               absurd (false≢true (sym out ∙ ap (has set) (sym same) ∙ t))
@@ -85,7 +85,7 @@ module _ (i : Image) (set l : List ℕ) (j : Image) (valid : IsBuilt i.heap) (or
   pub humongous_shape : (r : ℕ) → r < i.heap.geometry.n → kind i.heap r ≢ Free → kind i.heap r ≢ Ordinary → (kind j.heap r ≡ kind i.heap r) × (top j.heap r ≡ top i.heap r)
   humongous_shape r lt a b =
       other_shape r lt
-      (elim (cases_Bool (has set r)) [ inr f ↦ f | inl t ↦ absurd (b (ordinary r (Contains-from_in set r (in_from_has set r t)))) ])
+      (elim (cases_Bool (has set r)) [ inr f ↦ f | inl t ↦ absurd (b (ordinary r (Contains-from_has set r t))) ])
       (used_not_to_space i.heap set l sound_before ordinary survivors room r a)
 
   -- an object outside the set stays as it is
@@ -98,13 +98,13 @@ module _ (i : Image) (set l : List ℕ) (j : Image) (valid : IsBuilt i.heap) (or
   first_stays : (r : ℕ) → r < i.heap.geometry.n → kind i.heap r ≡ HumongousFirst → BeginsRun i.heap r → object_at j.heap (r * j.heap.geometry.w) ≡ object_at i.heap (r * i.heap.geometry.w)
   first_stays r lt two first =
       let o : Object = object_at i.heap (r * i.heap.geometry.w) in
-      let k : In (objects_in i.heap r) o = run_object i.heap (w_pos i.heap valid) r two first in
-      let c : Contains (objects i.heap) o = Contains-from_in (objects i.heap) o (In-flat_map (objects_in i.heap) (regions i.heap) r o (In-range 0 i.heap.geometry.n r (omega arith) (omega arith)) k) in
+      let k : Contains (objects_in i.heap r) o = run_object i.heap (w_pos i.heap valid) r two first in
+      let c : Contains (objects i.heap) o = Contains-flat_map (objects_in i.heap) (regions i.heap) r o (Contains-range 0 i.heap.geometry.n r (omega arith) (omega arith)) k in
       let at : region_of i.heap o.at ≡ r = home_region i.heap valid r o (stands i.heap valid r o k) in
       let out : has set r ≡ false = elim (cases_Bool (has set r)) [
         | inr f ↦ f
         | inl t ↦ let clash : Ordinary ≡ HumongousFirst =
-            sym (ordinary r (Contains-from_in set r (in_from_has set r t))) ∙ two in cc
+            sym (ordinary r (Contains-from_has set r t)) ∙ two in cc
       ] in
       ap (λ y. object_at j.heap (r * y)) (ap (λ (g : Geometry). g.w) moved.geometry) ∙ object_stays o c (ap (has set) at ∙ out)
 
@@ -113,12 +113,12 @@ module _ (i : Image) (set l : List ℕ) (j : Image) (valid : IsBuilt i.heap) (or
   other_by r Ordinary lt a b e s =
       let t = (other_shape r lt a b).1 in
       let w = (ap (λ (g : Geometry). g.w) moved.geometry) in
-      let here : In (regions i.heap) r = In-range 0 i.heap.geometry.n r (omega arith) (omega arith) in
+      let here : Contains (regions i.heap) r = Contains-range 0 i.heap.geometry.n r (omega arith) (omega arith) in
       let os : objects_in j.heap r ≡ objects_in i.heap r = objects_stay i set l j sound_before ordinary survivors room moved r lt a b in
       let tiled : IsTiled j.heap (r * i.heap.geometry.w) (objects_in i.heap r) (r * i.heap.geometry.w + top i.heap r) =
       tiled_same i.heap j.heap (r * i.heap.geometry.w) (objects_in i.heap r) (r * i.heap.geometry.w + top i.heap r) w
-      (λ o m. object_stays o (Contains-from_in (objects i.heap) o (In-flat_map (objects_in i.heap) (regions i.heap) r o here m))
-      (ap (has set) (sound_before.in_region r o (Contains-from_in (objects_in i.heap r) o m)) ∙ a)) s.2 in
+      (λ o m. object_stays o (Contains-flat_map (objects_in i.heap) (regions i.heap) r o here m)
+      (ap (has set) (sound_before.in_region r o m) ∙ a)) s.2 in
       let x = s.0 in let y = s.1 in (
         omega arith,
         omega arith,
@@ -162,11 +162,11 @@ module _ (i : Image) (set l : List ℕ) (j : Image) (valid : IsBuilt i.heap) (or
             (subst (λ y. (r - first) * y < (object_at i.heap (first * i.heap.geometry.w)).size) (sym (ap (λ (g : Geometry). g.w) moved.geometry)) s.3),
       )
 
-  placed_plain : (t : ℕ) → t < need i.heap l → (o : Object) → In (objects_in j.heap (get_or (free_regions i.heap) t 0)) o → IsPlain j.heap o
+  placed_plain : (t : ℕ) → t < need i.heap l → (o : Object) → Contains (objects_in j.heap (get_or (free_regions i.heap) t 0)) o → IsPlain j.heap o
   placed_plain t here o m =
       let r : ℕ = get_or (free_regions i.heap) t 0 in
       let e = to_space_objects i set l j sound_before ordinary survivors room moved t here in
-      let c = map_cases (λ a. moved_object (forward i.heap l) (object_at i.heap a)) (filter (λ a. eqb (region_of i.heap (forward i.heap l a)) r) l) o (subst (λ xs. In xs o) e m) in
+      let c = map_cases (λ a. moved_object (forward i.heap l) (object_at i.heap a)) (filter (λ a. eqb (region_of i.heap (forward i.heap l a)) r) l) o (subst (λ xs. Contains xs o) e m) in
       let d = (filter_member (λ a. eqb (region_of i.heap (forward i.heap l a)) r) l c.0 c.1).0 in
       subst (λ (x : Object). IsPlain j.heap x) c.2 (subst (λ y. ((object_at i.heap c.0).refs < (object_at i.heap c.0).size)
       × (4 * (object_at i.heap c.0).size ≤ 3 * y)) (sym (ap (λ (g : Geometry). g.w) moved.geometry)) (survivor_plain c.0 d))
@@ -189,7 +189,7 @@ module _ (i : Image) (set l : List ℕ) (j : Image) (valid : IsBuilt i.heap) (or
   ]
 
   -- where a survivor stands
-  pub survivor_there : (a : ℕ) → In l a → (t : ℕ) × (t < need i.heap l) × In (objects_in j.heap (get_or (free_regions i.heap) t 0)) (moved_object (forward i.heap l) (object_at i.heap a))
+  pub survivor_there : (a : ℕ) → Contains l a → (t : ℕ) × (t < need i.heap l) × Contains (objects_in j.heap (get_or (free_regions i.heap) t 0)) (moved_object (forward i.heap l) (object_at i.heap a))
   survivor_there a k =
       let f : ℕ → ℕ = forward i.heap l in
       let pos = (survivor_fits i.heap set l sound_before ordinary survivors room a k).0 in
@@ -199,13 +199,13 @@ module _ (i : Image) (set l : List ℕ) (j : Image) (valid : IsBuilt i.heap) (or
       let e = to_space_objects i set l j sound_before ordinary survivors room moved t.0 t.1 in (
         t.0,
         t.1,
-        subst (λ xs. In xs (moved_object f (object_at i.heap a))) (sym e)
-            (In-map (λ a. moved_object f (object_at i.heap a)) (filter (λ a. eqb (region_of i.heap (f a)) r) l) a
-            (In-filter (λ a. eqb (region_of i.heap (f a)) r) l a k (eq-eqb (region_of i.heap (f a)) r at))),
+        subst (λ xs. Contains xs (moved_object f (object_at i.heap a))) (sym e)
+            (Contains-map (λ a. moved_object f (object_at i.heap a)) (filter (λ a. eqb (region_of i.heap (f a)) r) l) a
+            (Contains-filter (λ a. eqb (region_of i.heap (f a)) r) l a k (eq-eqb (region_of i.heap (f a)) r at))),
       )
 
   -- a word of a survivor lies in its region, below top
-  pub survivor_word : (a m : ℕ) → In l a → m < (object_at i.heap a).size
+  pub survivor_word : (a m : ℕ) → Contains l a → m < (object_at i.heap a).size
       → (t : ℕ) × (t < need i.heap l) × (region_of i.heap (forward i.heap l a + m) ≡ get_or (free_regions i.heap) t 0)
       × (forward i.heap l a + m < get_or (free_regions i.heap) t 0 * i.heap.geometry.w + top j.heap (get_or (free_regions i.heap) t 0))
   survivor_word a m k lt =
@@ -228,7 +228,7 @@ module _ (i : Image) (set l : List ℕ) (j : Image) (valid : IsBuilt i.heap) (or
       omega arith
 
   -- each word of a moved object lies in the heap
-  pub moved_below : (k : Object) (m : ℕ) → In (kept i.heap set l) k → m < k.size → forward i.heap l k.at + m < i.heap.geometry.n * i.heap.geometry.w
+  pub moved_below : (k : Object) (m : ℕ) → Contains (kept i.heap set l) k → m < k.size → forward i.heap l k.at + m < i.heap.geometry.n * i.heap.geometry.w
   moved_below k m c lt = elim (kept_cases i.heap set l sound_before ordinary survivors room k c) [
     | inl x ↦ let u = outside_word k m x.1 x.0 lt in
         subst (λ y. y + m < i.heap.geometry.n * i.heap.geometry.w) (sym (outside_stays i.heap set l sound_before ordinary survivors room k.at x.0)) (below_total (k.at + m) u.0)
@@ -239,33 +239,32 @@ module _ (i : Image) (set l : List ℕ) (j : Image) (valid : IsBuilt i.heap) (or
         subst (λ y. forward i.heap l y + m < i.heap.geometry.n * i.heap.geometry.w) at (below_total (forward i.heap l x.0 + m) (subst (λ y. y < i.heap.geometry.n) (sym u.2) g.1))
   ]
 
-  kept_if : (b : ℕ) → Contains (objects i.heap) (object_at i.heap b) → (in_set i.heap set b ≡ true → In l b) → In (kept i.heap set l) (object_at i.heap b)
+  kept_if : (b : ℕ) → Contains (objects i.heap) (object_at i.heap b) → (in_set i.heap set b ≡ true → Contains l b) → Contains (kept i.heap set l) (object_at i.heap b)
   kept_if b c f = elim (cases_Bool (in_set i.heap set b)) [
     | inl t ↦ survivor_kept i set l j sound_before ordinary survivors room moved b (f t)
-    | inr o ↦ kept_outside i set l j sound_before ordinary survivors room moved (object_at i.heap b) (In-from_contains (objects i.heap) (object_at i.heap b) c) o
+    | inr o ↦ kept_outside i set l j sound_before ordinary survivors room moved (object_at i.heap b) c o
   ]
 
   -- what a root or a slot of a kept object names is kept
-  pub root_kept : (b : ℕ) → In (root_targets i.heap) b → In (kept i.heap set l) (object_at i.heap b)
+  pub root_kept : (b : ℕ) → Contains (root_targets i.heap) b → Contains (kept i.heap set l) (object_at i.heap b)
   root_kept b m =
-      let c : Contains (root_targets i.heap) b = Contains-from_in (root_targets i.heap) b m in
-      kept_if b (valid.root_named b c) (λ t. In-from_contains l b ((survivors.reached b).1 (live_found i.heap set l sound_before ordinary survivors b (seed c) t)))
+      let c : Contains (root_targets i.heap) b = m in
+      kept_if b (valid.root_named b c) (λ t. ((survivors.reached b).1 (live_found i.heap set l sound_before ordinary survivors b (seed c) t)))
 
-  pub slot_kept : (k : Object) (b : ℕ) → In (kept i.heap set l) k → In (flat_map (λ p. named (word i.heap p)) (slots k)) b → In (kept i.heap set l) (object_at i.heap b)
+  pub slot_kept : (k : Object) (b : ℕ) → Contains (kept i.heap set l) k → Contains (flat_map (λ p. named (word i.heap p)) (slots k)) b → Contains (kept i.heap set l) (object_at i.heap b)
   slot_kept k b c m =
-      let e = target_in_refs i.heap set k b (In-from_contains (objects i.heap) k (kept_is_object i.heap set l sound_before ordinary survivors room k c)) m in
-      kept_if b (subst (λ x. Contains (objects i.heap) (object_at i.heap x)) e.2 (valid.slot_named e.0 (Contains-from_in (refs i.heap) e.0 e.1)))
+      let e = target_in_refs i.heap set k b (kept_is_object i.heap set l sound_before ordinary survivors room k c) m in
+      kept_if b (subst (λ x. Contains (objects i.heap) (object_at i.heap x)) e.2 (valid.slot_named e.0 e.1))
       (λ t. named_survives i.heap set l sound_before ordinary survivors k b c m t)
 
-  pub slot_names : (k : Object) (m b : ℕ) → 0 < m → m ≤ k.refs → word i.heap (k.at + m) ≡ suc b → In (flat_map (λ p. named (word i.heap p)) (slots k)) b
+  pub slot_names : (k : Object) (m b : ℕ) → 0 < m → m ≤ k.refs → word i.heap (k.at + m) ≡ suc b → Contains (flat_map (λ p. named (word i.heap p)) (slots k)) b
   slot_names k m b p le e =
-      In-flat_map (λ p. named (word i.heap p)) (slots k) (k.at + m) b (In-range (k.at + 1) k.refs (k.at + m) (omega arith) (omega arith))
-      (subst (λ x. In (named x) b) (sym e) (inl refl))
+      Contains-flat_map (λ p. named (word i.heap p)) (slots k) (k.at + m) b (Contains-range (k.at + 1) k.refs (k.at + m) (omega arith) (omega arith))
+      (subst (λ x. Contains (named x) b) (sym e) (zero, omega arith, refl))
 
   -- the object stands in the image after
-  pub object_moved : (b : ℕ) → In (kept i.heap set l) (object_at i.heap b) → Contains (objects j.heap) (object_at j.heap (forward i.heap l b))
+  pub object_moved : (b : ℕ) → Contains (kept i.heap set l) (object_at i.heap b) → Contains (objects j.heap) (object_at j.heap (forward i.heap l b))
   object_moved b k =
       let e : object_at j.heap (forward i.heap l b) ≡ moved_object (forward i.heap l) (object_at i.heap b) =
       object_copied i set l j sound_before ordinary survivors room moved (object_at i.heap b) k (kept_is_object i.heap set l sound_before ordinary survivors room (object_at i.heap b) k) refl in
-      Contains-from_in (objects j.heap) (object_at j.heap (forward i.heap l b))
-      (subst (λ (x : Object). In (objects j.heap) x) (sym e) (kept_is_moved i set l j sound_before ordinary survivors room moved (object_at i.heap b) k))
+      subst (λ (x : Object). Contains (objects j.heap) x) (sym e) (kept_is_moved i set l j sound_before ordinary survivors room moved (object_at i.heap b) k)

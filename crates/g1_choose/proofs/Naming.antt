@@ -9,9 +9,8 @@ use Rattle.g1_words.specs.declared.region.Kind.{Kind}
 use Rattle.g1_words.specs.declared.region.Kind.TheVariants.{Free, Ordinary, HumongousFirst, Continuation}
 use Rattle.g1_words.specs.declared.region.Region.{Region}
 use Rattle.g1_words.specs.Heap.{Heap, kind, pinned, regions, free_region}
-use Rattle.g1_words.proofs.Members.{In, In-from_contains, Contains-from_in}
-use Rattle.g1_words.proofs.Indices.{In-take, take_cases}
-use Rattle.g1_words.proofs.Computed.{In-range}
+use Rattle.g1_words.proofs.Indices.{Contains-take, take_cases}
+use Rattle.g1_words.proofs.Computed.{Contains-range}
 use Rattle.g1_choose.specs.Named.{AreTakeable, IsBadAt, IsFirstBad}
 
 -- of the regions of a heap, those of the list are marked
@@ -79,7 +78,7 @@ all_good h list good =
           ];
       distinct = λ i j d lt len e.
           let first : get_or list i 0 ≡ get_or list j 0 = get_or_default list i 0 d (omega arith) ∙ e ∙ get_or_default list j d 0 len in
-          good j len (inr (inr (inr (subst (Contains (take j list)) first (Contains-from_in (take j list) (get_or list i 0) (In-take j list i 0 lt (omega arith)))))));
+          good j len (inr (inr (inr (subst (Contains (take j list)) first (Contains-take j list i 0 lt (omega arith))))));
     }
 
 -- a valid heap's regions are below its number of regions
@@ -90,12 +89,12 @@ ordinary_within h r count e = elim (cases_lt r h.geometry.n) [
 ]
 
 -- and its regions are the heap's
-pub all_within : (h : Heap) (list : List ℕ) → ((i : ℕ) → i < length list → IsBadAt h list i → ⊥) → (r : ℕ) → In list r → In (regions h) r
+pub all_within : (h : Heap) (list : List ℕ) → ((i : ℕ) → i < length list → IsBadAt h list i → ⊥) → (r : ℕ) → Contains list r → Contains (regions h) r
 all_within h list good r m =
-    let k = Contains-from_in list r m in
+    let k = m in
     let same : slice_index list k.0 ≡ r = get_or_default list k.0 0 r k.1 ∙ k.2 in
     elim (cases_lt r h.geometry.n) [
-      | inl lt ↦ In-range 0 h.geometry.n r (omega arith) (omega arith)
+      | inl lt ↦ Contains-range 0 h.geometry.n r (omega arith) (omega arith)
       | inr ge ↦ absurd (good k.0 k.1 (inl (omega (arith, same, ge))))
     ]
 
@@ -107,7 +106,7 @@ ordinary_or_not Ordinary = inl refl
 ordinary_or_not HumongousFirst = inr (λ e. cc)
 ordinary_or_not Continuation = inr (λ e. cc)
 
-in_or_not : (xs : List ℕ) (r : ℕ) → In xs r ⊎ (In xs r → ⊥)
+in_or_not : (xs : List ℕ) (r : ℕ) → Contains xs r ⊎ (Contains xs r → ⊥)
 in_or_not [] r = inr (λ i. i)
 in_or_not (x ∷ xs) r = elim (cases_eq x r) [
   | inl e ↦ inl (inl e)
@@ -124,12 +123,12 @@ bad_or_good h list i =
         | inl ordinary ↦ elim (true_or_false (pinned h r)) [
           | inl pin ↦ inl (inr (inr (inl pin)))
           | inr free ↦ elim (in_or_not (take i list) r) [
-            | inl again ↦ inl (inr (inr (inr (Contains-from_in (take i list) r again))))
+            | inl again ↦ inl (inr (inr (inr again)))
             | inr new ↦ inr (λ bad. elim bad [
               | inl past ↦ omega arith
               | inr b ↦ elim b [
                 | inl other ↦ other ordinary
-                | inr d ↦ elim d [ inl pin ↦ both pin free | inr again ↦ new (In-from_contains (take i list) r again) ]
+                | inr d ↦ elim d [ inl pin ↦ both pin free | inr again ↦ new again ]
               ]
             ])
           ]
@@ -168,7 +167,7 @@ accepted_not_bad h list i count a bad =
         | inr d ↦ elim d [
           | inl pin ↦ both pin (a.unpinned r there)
           | inr again ↦
-              let k = take_cases i list r 0 (In-from_contains (take i list) r again) in
+              let k = take_cases i list r 0 again in
               a.distinct k.0 i 0 k.1 bad.within k.3
         ]
       ]

@@ -3,7 +3,7 @@ use Rattle.std.proofs.Common.{◌≡◌, ◌≢◌, ◌≤◌, ◌<◌, ℕ, zer
 use Rattle.std.proofs.Common.{filter, flat_map, take, drop, Contains, arith, refl, sym, ap, ◌∙◌, eqb, ne_eqb, append-nil, All, subst}
 use Rattle.std.specs.List.{range_with_len, slice_range}
 use Rattle.std.proofs.lemmas.List.{get_or-drop, get_or-map, get_or-take, length-drop, length-map, length-take-le, map-append, take_more}
-use Rattle.std.proofs.lemmas.List.Elements.{filter-append}
+use Rattle.std.proofs.lemmas.List.Elements.{filter-append, Contains-append_cases, Contains-append_right, Contains-get_or}
 use Rattle.std.proofs.lemmas.List.FromFn.{get_or-map-range_with_len, length-map-range_with_len, length-range_with_len}
 use Rattle.std.proofs.lemmas.List.Sums.{count_by-le-length, length-filter}
 use Rattle.std.proofs.lemmas.Grind.{flat_map-append, same_number_lists}
@@ -15,8 +15,8 @@ use Rattle.g1_words.specs.declared.object.Object.{Object}
 use Rattle.g1_words.specs.Heap.{Heap, is_free, kind, object_at, regions, start, word}
 use Rattle.g1_words.specs.Layout.{forward, free_regions, laid, need, places, sizes_of}
 use Rattle.g1_words.specs.Valid.{IsValid}
-use Rattle.g1_words.proofs.Indices.{get_or-In, is_free_region, range_bounds}
-use Rattle.g1_words.proofs.Members.{In, In-append_cases, In-append_right, Contains-from_in, filter_member, map_cases}
+use Rattle.g1_words.proofs.Indices.{is_free_region, range_bounds}
+use Rattle.g1_words.proofs.Members.{filter_member, map_cases}
 use Rattle.g1_words.specs.Copy.{renamed, renamed_words, words_at}
 use Rattle.g1_after.specs.Made.{moved_word}
 use Rattle.g1_layout.proofs.Conditions.{can_lay}
@@ -68,10 +68,10 @@ module _ (xs : List ℕ) (at place : ℕ) where
 
   -- the first k stand no higher than the k-th
   pub first_below : (before : List (ℕ × ℕ)) (k : ℕ) → All (λ x. x.0 ≤ place) before → All (λ x. x.0 ≤ place + k + 1) (before ++ first_slots k)
-  first_below before k low = λ m d lt. below (get_or (before ++ first_slots k) m d) (get_or-In (before ++ first_slots k) m d lt) where
-    below : (x : ℕ × ℕ) → In (before ++ first_slots k) x → x.0 ≤ place + k + 1
-    below x i = elim (In-append_cases before (first_slots k) x i) [
-      | inl old ↦ let c = Contains-from_in before x old in let le : x.0 ≤ place = subst (λ (z : ℕ × ℕ). z.0 ≤ place) c.2 (low c.0 x c.1) in omega (arith, le)
+  first_below before k low = λ m d lt. below (get_or (before ++ first_slots k) m d) (Contains-get_or (before ++ first_slots k) m d lt) where
+    below : (x : ℕ × ℕ) → Contains (before ++ first_slots k) x → x.0 ≤ place + k + 1
+    below x i = elim (Contains-append_cases before (first_slots k) x i) [
+      | inl old ↦ let c = old in let le : x.0 ≤ place = subst (λ (z : ℕ × ℕ). z.0 ≤ place) c.2 (low c.0 x c.1) in omega (arith, le)
       | inr new ↦
           let m = map_cases slot_there (filter filled (range_with_len 1 k)) x new in
           let f = filter_member filled (range_with_len 1 k) m.0 m.1 in
@@ -103,13 +103,13 @@ renamed_null f (suc x) = apart (suc (f x)) (λ e. omega (arith, e)) ∙ sym (apa
 abbrev slots_by : (ℕ → ℕ) → ℕ → List ℕ → List (ℕ × ℕ)
 slots_by g p ks = map (λ k. (p + k, g k)) ks
 
-same_slots : (f g w : ℕ → ℕ) (p : ℕ) (ks : List ℕ) → ((k : ℕ) → In ks k → g k ≡ renamed f (w k))
+same_slots : (f g w : ℕ → ℕ) (p : ℕ) (ks : List ℕ) → ((k : ℕ) → Contains ks k → g k ≡ renamed f (w k))
     → slots_by g p (filter (λ k. not (eqb (g k) 0)) ks) ≡ slots_by (λ k. renamed f (w k)) p (filter (λ k. not (eqb (w k) 0)) ks)
 same_slots f g w p [] same = refl
 same_slots f g w p (k ∷ ks) same =
-    let e : g k ≡ renamed f (w k) = same k (inl refl) in
+    let e : g k ≡ renamed f (w k) = same k (zero, omega arith, refl) in
     let test : not (eqb (g k) 0) ≡ not (eqb (w k) 0) = ap (λ x. not (eqb x 0)) e ∙ ap not (renamed_null f (w k)) in
-    head e (not (eqb (g k) 0)) (not (eqb (w k) 0)) test (filter (λ k. not (eqb (g k) 0)) ks) (filter (λ k. not (eqb (w k) 0)) ks) (same_slots f g w p ks (λ j i. same j (inr i)))
+    head e (not (eqb (g k) 0)) (not (eqb (w k) 0)) test (filter (λ k. not (eqb (g k) 0)) ks) (filter (λ k. not (eqb (w k) 0)) ks) (same_slots f g w p ks (λ j i. same j (suc i.0, omega (arith, i.1), i.2)))
   where
     head : g k ≡ renamed f (w k) → (b c : Bool) → b ≡ c → (ys zs : List ℕ) → slots_by g p ys ≡ slots_by (λ k. renamed f (w k)) p zs
         → slots_by g p (cond b (k ∷ ys) ys) ≡ slots_by (λ k. renamed f (w k)) p (cond c (k ∷ zs) zs)
@@ -148,8 +148,8 @@ module _ (h : Heap) (l : List ℕ) where
       ∙ ap (flat_map (moved_slots h l)) (sym (take-add i (j - i) l) ∙ ap (λ n. take n l) whole)
 
   -- a member of a stretch is one of the first
-  pub between_first : (i j : ℕ) (x : ℕ × ℕ) → i ≤ j → In (copied_between h l i j) x → In (first_copied h l j) x
-  between_first i j x le k = subst (λ ys. In ys x) (first_between i j le) (In-append_right (first_copied h l i) (copied_between h l i j) x k)
+  pub between_first : (i j : ℕ) (x : ℕ × ℕ) → i ≤ j → Contains (copied_between h l i j) x → Contains (first_copied h l j) x
+  between_first i j x le k = subst (λ ys. Contains ys x) (first_between i j le) (Contains-append_right (first_copied h l i) (copied_between h l i j) x k)
 
 module _ (h : Heap) (set l : List ℕ) (valid : IsValid h) (can : CanPlace h set l) (room : need h l ≤ length (free_regions h)) where
   positive : 0 < h.geometry.w
@@ -199,7 +199,7 @@ module _ (h : Heap) (set l : List ℕ) (valid : IsValid h) (can : CanPlace h set
         ∙ placed_word h set l valid can room i k in_list less
 
     pub some_slots : (object_at h survivor).refs < (object_at h survivor).size
-    some_slots = survivor_slots h set l valid can room survivor (get_or-In l i 0 in_list)
+    some_slots = survivor_slots h set l valid can room survivor (Contains-get_or l i 0 in_list)
 
     -- the header tells its references
     pub refs_there : get_or words (offset i) 0 % 2 ^ 32 ≡ (object_at h survivor).refs
@@ -228,7 +228,7 @@ module _ (h : Heap) (set l : List ℕ) (valid : IsValid h) (can : CanPlace h set
         let next : offset i + k + 1 ≡ offset i + suc k = omega arith in
         let is : get_or words (offset i + k + 1) 0 ≡ renamed (forward h l) (word h (survivor + suc k)) =
         ap (λ m. get_or words m 0) next ∙ word_there (suc k) (omega (arith, less, some_slots)) ∙ renamed_slot (forward h l) h (object_at h survivor) (suc k) (omega arith) (omega (arith, less)) in
-        omega (arith, is, slot_named h set l valid can room survivor (suc k) (get_or-In l i 0 in_list) (omega arith) (omega (arith, less)))
+        omega (arith, is, slot_named h set l valid can room survivor (suc k) (Contains-get_or l i 0 in_list) (omega arith) (omega (arith, less)))
 
   -- there are no more free regions than regions
   pub need_most : need h l ≤ h.geometry.n
@@ -240,7 +240,7 @@ module _ (h : Heap) (set l : List ℕ) (valid : IsValid h) (can : CanPlace h set
 
   -- a region of to-space is one of the heap's
   pub region_below : (t : ℕ) → t < need h l → get_or (free_regions h) t 0 < h.geometry.n
-  region_below t there = (is_free_region h (get_or (free_regions h) t 0) (get_or-In (free_regions h) t 0 (omega (arith, there, room)))).1
+  region_below t there = (is_free_region h (get_or (free_regions h) t 0) (Contains-get_or (free_regions h) t 0 (omega (arith, there, room)))).1
 
   -- the words of a region end within those of to-space, which are few
   pub region_ends : (t : ℕ) → t < need h l → (t * h.geometry.w + h.geometry.w ≤ length (to_space_words h l)) × (t * h.geometry.w + h.geometry.w ≤ most_words)
@@ -371,7 +371,7 @@ module _ (h : Heap) (p : Plan) (made : IsPlanOf h p) where
           slots_inside : place + slice_index words at % 2 ^ 32 < h.geometry.n * h.geometry.w
           slots_inside =
               let goes = place_is ∙ ap (λ xs. get_or xs i 0) places_are ∙ sym (forward_at h p.set p.survivors valid can room i listed) in
-              let ends = place_within h p.set p.survivors valid can room (get_or p.survivors i 0) (get_or-In p.survivors i 0 listed) in
+              let ends = place_within h p.set p.survivors valid can room (get_or p.survivors i 0) (Contains-get_or p.survivors i 0 listed) in
               let some = some_slots h p.set p.survivors valid can room one.0 there i from to in
               omega (arith, refs_are, goes, ends, some)
 
@@ -391,8 +391,8 @@ module _ (h : Heap) (p : Plan) (made : IsPlanOf h p) where
               let goes : forward h p.survivors (get_or p.survivors i 0) ≡ place = forward_at h p.set p.survivors valid can room i listed ∙ sym (place_is ∙ ap (λ xs. get_or xs i 0) places_are) in
               let all = subst (λ q. All (λ x. x.0 ≤ q) (first_copied h p.survivors i)) goes (slots_before h p.set p.survivors valid can room i listed) in
               λ k d lt.
-              let m = between_first h p.survivors b i (get_or (copied_between h p.survivors b i) k d) le (get_or-In (copied_between h p.survivors b i) k d lt) in
-              let c = Contains-from_in (first_copied h p.survivors i) (get_or (copied_between h p.survivors b i) k d) m in
+              let m = between_first h p.survivors b i (get_or (copied_between h p.survivors b i) k d) le (Contains-get_or (copied_between h p.survivors b i) k d lt) in
+              let c = m in
               subst (λ (z : ℕ × ℕ). z.0 ≤ place) c.2 (all c.0 (get_or (copied_between h p.survivors b i) k d) c.1)
 
           -- one survivor more

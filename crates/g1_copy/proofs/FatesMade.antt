@@ -1,14 +1,15 @@
 -- The table of fates that is made for a plan.
-use Rattle.std.proofs.Common.{◌≡◌, ◌≢◌, ℕ, suc, ◌+◌, ◌<◌, ◌⊎◌, inl, inr, Bool, true, false, cond, ◌||◌, List, [], ◌∷◌, ◌++◌, All, AllPairs, Some, None, length, get_or, set, replicate}
+use Rattle.std.proofs.Common.{◌≡◌, ◌≢◌, ℕ, suc, ◌+◌, ◌<◌, ◌⊎◌, inl, inr, Bool, true, false, cond, ◌||◌, List, [], ◌∷◌, ◌++◌, All, AllPairs, Some, None, length, get_or, set, replicate, Contains, zero}
 use Rattle.std.proofs.Common.{position, refl, sym, ◌∙◌, ap, subst, arith, eqb}
 use Rattle.std.proofs.lemmas.Bool.{cases_Bool, cases_lt, false≢true}
 use Rattle.std.proofs.lemmas.List.{get_or-replicate, get_or-set_other, get_or-set_same, length-replicate, length-set}
 use Rattle.std.proofs.lemmas.List.Folds.{list_any-append}
+use Rattle.std.proofs.lemmas.List.Elements.{Contains-get_or}
 use Rattle.g1_layout.proofs.Conditions.{set_in_heap}
 use Rattle.g1_layout.specs.Plan.{Plan}
 use Rattle.g1_words.proofs.Firsts.{Distinct}
-use Rattle.g1_words.proofs.Indices.{get_or-In, is_free_region, taken_in}
-use Rattle.g1_words.proofs.Members.{In, has_from_in, in_from_has}
+use Rattle.g1_words.proofs.Indices.{is_free_region, taken_in}
+use Rattle.g1_words.proofs.Members.{has_from_contains, Contains-from_has}
 use Rattle.g1_words.proofs.NextFit.{distinct_places, free_distinct}
 use Rattle.g1_words.specs.Heap.{Heap}
 use Rattle.g1_words.specs.Layout.{free_regions, need, to_space}
@@ -28,10 +29,10 @@ eq_or a b = elim (cases_lt a b) [
   | inr ge ↦ elim (cases_lt b a) [ inl lt ↦ inr (inr lt) | inr le ↦ inl (omega arith) ]
 ]
 
-pub place_of : (xs : List ℕ) (x : ℕ) → In xs x → (t : ℕ) × (t < length xs) × (get_or xs t 0 ≡ x)
-place_of [] x m = absurd m
-place_of (y ∷ xs) x (inl e) = (0, omega arith, e)
-place_of (y ∷ xs) x (inr m) = let r = place_of xs x m in (suc r.0, omega (arith, r.1), r.2)
+pub place_of : (xs : List ℕ) (x : ℕ) → Contains xs x → (t : ℕ) × (t < length xs) × (get_or xs t 0 ≡ x)
+place_of [] x m = absurd (omega (arith, m.1))
+place_of (y ∷ xs) x (zero, b, e) = (0, omega arith, e)
+place_of (y ∷ xs) x (suc k, b, e) = let r = place_of xs x (k, omega (arith, b), e) in (suc r.0, omega (arith, r.1), r.2)
 
 -- the three fates
 
@@ -44,11 +45,11 @@ pub data HasFate (set to : List ℕ) (r : ℕ) : Type 0 where
 fate_at_tests : (set to : List ℕ) → Distinct to → (r : ℕ) (a b : Bool) → has set r ≡ a → has to r ≡ b → HasFate set to r
 fate_at_tests set to once r true b e f = is_freed e (λ q. cond (e q) Freed (filled_or_kept (position (λ d. eqb d r) to)))
 fate_at_tests set to once r false true e f =
-    let k = place_of to r (in_from_has to r f) in
+    let k = place_of to r (Contains-from_has to r f) in
     let p : position (λ d. eqb d r) to ≡ Some k.0 = subst (λ y. position (λ d. eqb d y) to ≡ Some k.0) k.2 (is_position to k.0 once k.1) in
     is_filled k.0 k.1 k.2 e f (λ q. cond (e q) Freed (filled_or_kept (p q)))
 fate_at_tests set to once r false false e f =
-    let p : position (λ d. eqb d r) to ≡ None = no_position to r (λ m. false≢true (sym f ∙ has_from_in to r m)) in
+    let p : position (λ d. eqb d r) to ≡ None = no_position to r (λ m. false≢true (sym f ∙ has_from_contains to r m)) in
     is_kept e f (λ q. cond (e q) Freed (filled_or_kept (p q)))
 
 pub has_fate : (set to : List ℕ) → Distinct to → (r : ℕ) → HasFate set to r
@@ -135,9 +136,9 @@ pub freed_beside : (h : Heap) (set freed to : List ℕ) (one two : List Fate) �
 freed_beside h set freed to one two are new = record {
   one_each = new.size ∙ are.one_each;
   each = λ r lt. elim (cases_Bool (has freed r)) [
-    | inl t ↦ let k = place_of freed r (in_from_has freed r t) in ap (fate_at two) (sym k.2) ∙ new.replaced k.0 k.1 ∙ sym (fate_freed set freed to r t)
+    | inl t ↦ let k = place_of freed r (Contains-from_has freed r t) in ap (fate_at two) (sym k.2) ∙ new.replaced k.0 k.1 ∙ sym (fate_freed set freed to r t)
     | inr e ↦
-        new.others r (λ t less g. false≢true (sym e ∙ ap (has freed) (sym g) ∙ has_from_in freed (get_or freed t 0) (get_or-In freed t 0 less)))
+        new.others r (λ t less g. false≢true (sym e ∙ ap (has freed) (sym g) ∙ has_from_contains freed (get_or freed t 0) (Contains-get_or freed t 0 less)))
         ∙ are.each r lt ∙ sym (fate_beside set freed to r e)
   ];
 }
@@ -155,11 +156,11 @@ module _ (h : Heap) (chosen : List ℕ) (p : Plan) (valid : IsValid h) (pause : 
   pub to_space_is : p.to_space ≡ to_space h p.survivors
   to_space_is = ap (λ (q : Plan). q.to_space) pause.made.plan
 
-  to_space_free : (r : ℕ) → In (to_space h p.survivors) r → r < h.geometry.n
+  to_space_free : (r : ℕ) → Contains (to_space h p.survivors) r → r < h.geometry.n
   to_space_free r m = (is_free_region h r (taken_in (need h p.survivors) (free_regions h) r m)).1
 
   pub to_space_below : (to : List ℕ) → to ≡ p.to_space → All (λ r. r < h.geometry.n) to
-  to_space_below to e k d lt = to_space_free (get_or to k d) (subst (λ xs. In xs (get_or to k d)) (e ∙ to_space_is) (get_or-In to k d lt))
+  to_space_below to e k d lt = to_space_free (get_or to k d) (subst (λ xs. Contains xs (get_or to k d)) (e ∙ to_space_is) (Contains-get_or to k d lt))
 
   pub once : Distinct (to_space h p.survivors)
   once = Distinct-take (need h p.survivors) (free_regions h) (free_distinct h w_positive)
@@ -172,7 +173,7 @@ module _ (h : Heap) (chosen : List ℕ) (p : Plan) (valid : IsValid h) (pause : 
       (filled : AreReplaced (length to) (λ t. get_or to t 0) (λ t. Filled t) start one)
       (freed : AreReplaced (length chosen) (λ t. get_or chosen t 0) (λ t. Freed) one two) where
     off : (xs : List ℕ) (r : ℕ) → has xs r ≡ false → (t : ℕ) → t < length xs → get_or xs t 0 ≡ r → ⊥
-    off xs r e t lt g = false≢true (sym e ∙ ap (has xs) (sym g) ∙ has_from_in xs (get_or xs t 0) (get_or-In xs t 0 lt))
+    off xs r e t lt g = false≢true (sym e ∙ ap (has xs) (sym g) ∙ has_from_contains xs (get_or xs t 0) (Contains-get_or xs t 0 lt))
 
     to_is : to ≡ to_space h p.survivors
     to_is = same ∙ to_space_is
@@ -180,7 +181,7 @@ module _ (h : Heap) (chosen : List ℕ) (p : Plan) (valid : IsValid h) (pause : 
     each_fate : (r : ℕ) → r < h.geometry.n → fate_at two r ≡ fate_of chosen (to_space h p.survivors) r
     each_fate r lt = elim (has_fate chosen (to_space h p.survivors) once r) [
       | is_freed a f ↦
-          let k = place_of chosen r (in_from_has chosen r a) in
+          let k = place_of chosen r (Contains-from_has chosen r a) in
           ap (fate_at two) (sym k.2) ∙ freed.replaced k.0 k.1 ∙ sym f
       | is_filled t less at a b f ↦
           let here : get_or to t 0 ≡ r = ap (λ xs. get_or xs t 0) to_is ∙ at in

@@ -8,11 +8,11 @@ use Rattle.g1_words.specs.Geometry.{most_words}
 use Rattle.g1_words.proofs.Bounds.{object_within}
 use Rattle.g1_words.proofs.Computed.{contains_has, has_contains}
 use Rattle.g1_words.proofs.Indices.{is_free_region, taken_in}
-use Rattle.g1_words.proofs.Members.{In-from_contains, Contains-from_in, in_from_has, has_from_in}
+use Rattle.g1_words.proofs.Members.{Contains-from_has, has_from_contains}
 use Rattle.g1_words.proofs.OneToOne.{moved_stays}
 use Rattle.g1_words.proofs.Sound.{sound}
 use Rattle.g1_words.specs.Heap.{Heap, object_at, objects, region_of, word}
-use Rattle.g1_words.specs.Layout.{forward, free_regions, moved_to, need, places, to_space}
+use Rattle.g1_words.specs.Layout.{forward, free_regions, moved_to, need, places}
 use Rattle.g1_words.specs.Lists.{has}
 use Rattle.g1_words.specs.Valid.{IsReference, IsValid}
 use Rattle.g1_words.specs.declared.object.Object.{Object}
@@ -80,15 +80,15 @@ module _ (h : Heap) (set l : List ℕ) (valid : IsValid h) (can : CanPlace h set
   pub forward_below : (a : ℕ) → a < h.geometry.n * h.geometry.w → forward h l a < h.geometry.n * h.geometry.w
   forward_below a lt = elim (bool_cases (has l a)) [
     | inl t ↦
-        let k = within_region h set l valid can room a (Contains-from_in l a (in_from_has l a t)) in
+        let k = within_region h set l valid can room a (Contains-from_has l a t) in
         let free = is_free_region h (region_of h (forward h l a)) (taken_in (need h l) (free_regions h) (region_of h (forward h l a))
-        (In-from_contains (to_space h l) (region_of h (forward h l a)) k.0)) in
+        k.0) in
         let parts : forward h l a / h.geometry.w * h.geometry.w + forward h l a % h.geometry.w ≡ forward h l a = div-add-mod' (forward h l a) h.geometry.w in
         let below : (forward h l a / h.geometry.w + 1) * h.geometry.w ≤ h.geometry.n * h.geometry.w = mul-le-mul_right h.geometry.w (omega (arith, free.1)) in
         let offset : forward h l a % h.geometry.w < h.geometry.w = mod-lt (forward h l a) (omega (arith, valid.limits.w_least)) in
         omega (arith, parts, below, offset)
     | inr f ↦
-        let stays : forward h l a ≡ a = moved_stays l (places h l) a (λ i. let clash : true ≡ false = sym (has_from_in l a i) ∙ f in cc) in
+        let stays : forward h l a ≡ a = moved_stays l (places h l) a (λ i. let clash : true ≡ false = sym (has_from_contains l a i) ∙ f in cc) in
         omega arith
   ]
 

@@ -21,10 +21,9 @@ use Rattle.g1_copy.specs.Gathered.{placed_words}
 use Rattle.g1_copy.specs.Plans.{IsPlanOf}
 use Rattle.g1_layout.specs.Plan.{Plan}
 use Rattle.g1_layout.specs.declared.plan.Run.{Run}
-use Rattle.g1_words.proofs.Indices.{get_or-In}
-use Rattle.g1_words.proofs.Members.{Contains-from_in}
 use Rattle.g1_layout.proofs.Running.{count_places}
 use Rattle.std.proofs.Common.{Contains}
+use Rattle.std.proofs.lemmas.List.Elements.{Contains-get_or}
 
 -- ---- a part of a list written over
 
@@ -202,7 +201,7 @@ module _ (h : Heap) (p : Plan) (valid : IsValid h) (made : IsPlanOf h p) (u : Ru
       let at : get_or p.places i 0 ≡ get_or (places h l) i 0 = ap (λ ps. get_or ps i 0) (places_of_plan h p made) in
       let lay = can_lay h p.set l valid made.placeable in
       let w = valid.limits.w_least in
-      let one : Contains l (get_or l i 0) = Contains-from_in l (get_or l i 0) (get_or-In l i 0 m.0) in
+      let one : Contains l (get_or l i 0) = Contains-get_or l i 0 m.0 in
       record {
         index = m.0;
         one_each = ap length (places_of_plan h p made) ∙ count_places h l (omega arith) lay made.room;

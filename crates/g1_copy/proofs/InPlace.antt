@@ -7,6 +7,7 @@ use Rattle.std.proofs.lemmas.Nat.{div-mul-add}
 use Rattle.std.proofs.Math.Nat.{mul-div_left}
 use Rattle.std.proofs.lemmas.List.{ext_get_or, get_or-take, get_or-replicate, length-replicate, length-take-le}
 use Rattle.std.proofs.lemmas.List.FromFn.{get_or-map-range_with_len, length-map-range_with_len}
+use Rattle.std.proofs.lemmas.List.Elements.{Contains-get_or}
 use Rattle.g1_after.proofs.CopyWords.{copied_word}
 use Rattle.g1_after.proofs.Existence.{made_is_moved}
 use Rattle.g1_after.proofs.ObjectsOf.{kept_outside, region_cases}
@@ -17,9 +18,9 @@ use Rattle.g1_words.specs.Copy.{is_taken, renamed, renamed_words}
 use Rattle.g1_image.specs.Image.{Image}
 use Rattle.g1_after.specs.Made.{image_moved, moved_word}
 use Rattle.g1_after.specs.Moved.{IsMoved}
-use Rattle.g1_words.proofs.Computed.{In-range}
-use Rattle.g1_words.proofs.Indices.{get_or-In, is_free_region, range_bounds}
-use Rattle.g1_words.proofs.Members.{Contains-from_in, In, In-filter, In-flat_map, In-map, and_true, any_member, filter_member, flat_map_cases, has_from_in, in_from_has, map_cases}
+use Rattle.g1_words.proofs.Computed.{Contains-range}
+use Rattle.g1_words.proofs.Indices.{is_free_region, range_bounds}
+use Rattle.g1_words.proofs.Members.{Contains-filter, Contains-flat_map, Contains-map, and_true, any_member, filter_member, flat_map_cases, has_from_contains, Contains-from_has, map_cases}
 use Rattle.g1_words.proofs.NextFit.{free_distinct}
 use Rattle.g1_words.proofs.OneToOne.{outside_stays}
 use Rattle.g1_words.proofs.Shapes.{IsBuilt}
@@ -46,8 +47,8 @@ bool_cases : (b : Bool) → (b ≡ true) ⊎ (b ≡ false)
 bool_cases true = inl refl
 bool_cases false = inr refl
 
-not_in : (xs : List ℕ) (r : ℕ) → has xs r ≡ false → In xs r → ⊥
-not_in xs r e m = false≢true (sym e ∙ has_from_in xs r m)
+not_in : (xs : List ℕ) (r : ℕ) → has xs r ≡ false → Contains xs r → ⊥
+not_in xs r e m = false≢true (sym e ∙ has_from_contains xs r m)
 
 pub not_true : (b : Bool) → not b ≡ true → b ≡ false
 not_true true e = absurd (false≢true e)
@@ -67,12 +68,12 @@ module _ (f : ℕ → ℕ) (h : Heap) where
 -- a patch names the new word of a slot outside the set whose target survives
 pub record IsPatch (h : Heap) (set l : List ℕ) (p v : ℕ) : Type 0 where
   pub target : ℕ
-  pub reference : In (refs h) (record { slot = p; target = target })
-  pub survives : In l target
+  pub reference : Contains (refs h) (record { slot = p; target = target })
+  pub survives : Contains l target
   pub outside : in_set h set p ≡ false
   pub value : v ≡ suc (forward h l target)
 
-pub patch_is : (h : Heap) (set l : List ℕ) (p v : ℕ) → In (all_patches h set l) (p, v) → IsPatch h set l p v
+pub patch_is : (h : Heap) (set l : List ℕ) (p v : ℕ) → Contains (all_patches h set l) (p, v) → IsPatch h set l p v
 patch_is h set l p v m =
     let c = map_cases (patch h l) (filter (λ e. not (in_set h set e.slot) && has l e.target) (refs h)) (p, v) m in
     let e : Ref = c.0 in
@@ -82,19 +83,19 @@ patch_is h set l p v m =
     let new : suc (forward h l e.target) ≡ v = ap (λ (x : ℕ × ℕ). x.1) c.2 in
     record {
       target = e.target;
-      reference = subst (λ y. In (refs h) (record { slot = y; target = e.target })) at f.0;
-      survives = in_from_has l e.target t.1;
+      reference = subst (λ y. Contains (refs h) (record { slot = y; target = e.target })) at f.0;
+      survives = Contains-from_has l e.target t.1;
       outside = ap (in_set h set) (sym at) ∙ not_true (in_set h set e.slot) t.0;
       value = sym new;
     }
 
-is_patch : (h : Heap) (set l : List ℕ) (p v : ℕ) → IsPatch h set l p v → In (all_patches h set l) (p, v)
+is_patch : (h : Heap) (set l : List ℕ) (p v : ℕ) → IsPatch h set l p v → Contains (all_patches h set l) (p, v)
 is_patch h set l p v k =
     let e : Ref = record { slot = p; target = k.target } in
-    let test : (not (in_set h set p) && has l k.target) ≡ true = λ q. not (k.outside q) && has_from_in l k.target k.survives q in
-    let m : In (all_patches h set l) (p, suc (forward h l k.target)) =
-    In-map (patch h l) (filter (λ e. not (in_set h set e.slot) && has l e.target) (refs h)) e (In-filter (λ e. not (in_set h set e.slot) && has l e.target) (refs h) e k.reference test) in
-    subst (λ y. In (all_patches h set l) (p, y)) (sym k.value) m
+    let test : (not (in_set h set p) && has l k.target) ≡ true = λ q. not (k.outside q) && has_from_contains l k.target k.survives q in
+    let m : Contains (all_patches h set l) (p, suc (forward h l k.target)) =
+    Contains-map (patch h l) (filter (λ e. not (in_set h set e.slot) && has l e.target) (refs h)) e (Contains-filter (λ e. not (in_set h set e.slot) && has l e.target) (refs h) e k.reference test) in
+    subst (λ y. Contains (all_patches h set l) (p, y)) (sym k.value) m
 
 module _ (i : Image) (set l : List ℕ) (valid : IsBuilt i.heap) (ordinary : AllOrdinary i.heap set) (survivors : Survivors i.heap set l) (room : need i.heap l ≤ length (free_regions i.heap)) where
   abbrev j : Image
@@ -154,7 +155,7 @@ module _ (i : Image) (set l : List ℕ) (valid : IsBuilt i.heap) (ordinary : All
     goal = get_or (free_regions i.heap) t 0
 
     goal_free : (kind i.heap goal ≡ Free) × (goal < i.heap.geometry.n)
-    goal_free = is_free_region i.heap goal (get_or-In (free_regions i.heap) t 0 (omega (arith, here, room)))
+    goal_free = is_free_region i.heap goal (Contains-get_or (free_regions i.heap) t 0 (omega (arith, here, room)))
 
     goal_word : (m : ℕ) → m < i.heap.geometry.w → word j.heap (goal * i.heap.geometry.w + m) ≡ get_or (placed_words i.heap l goal) m 0
     goal_word m lt =
@@ -185,7 +186,7 @@ module _ (i : Image) (set l : List ℕ) (valid : IsBuilt i.heap) (ordinary : All
         flat_slice (placed_words i.heap l) i.heap.geometry.w wide (to_space i.heap l) t there ∙ ap (placed_words i.heap l) at in
         let off : has set goal ≡ false = elim (bool_cases (has set goal)) [
           | inr f ↦ f
-          | inl t ↦ let clash : Ordinary ≡ Free = sym (ordinary goal (Contains-from_in set goal (in_from_has set goal t))) ∙ goal_free.0 in cc
+          | inl t ↦ let clash : Ordinary ≡ Free = sym (ordinary goal (Contains-from_has set goal t)) ∙ goal_free.0 in cc
         ] in
         same ∙ sym from ∙ (λ q. by_fate i.heap.geometry.w gathered patches goal (cond (sym off q) Freed (filled_or_kept (sym p q))) (slice_of i.heap.geometry.w goal i.heap.words))
 
@@ -198,7 +199,7 @@ module _ (i : Image) (set l : List ℕ) (valid : IsBuilt i.heap) (ordinary : All
       let b = map_cases (λ a. record { slot = q.0; target = a }) (named (word i.heap q.0)) e q.2 in
       let at : q.0 ≡ p = ap (λ (x : Ref). x.slot) b.2 in
       let goes : b.0 ≡ k.target = ap (λ (x : Ref). x.target) b.2 in
-      let c : Contains (objects i.heap) o.0 = Contains-from_in (objects i.heap) o.0 o.1 in
+      let c : Contains (objects i.heap) o.0 = o.1 in
       let r = range_bounds (o.0.at + 1) o.0.refs q.0 q.1 in
       let m : ℕ = q.0 - o.0.at in
       let fits = s.slots_fit o.0 c in
@@ -207,7 +208,7 @@ module _ (i : Image) (set l : List ℕ) (valid : IsBuilt i.heap) (ordinary : All
         | inr f ↦ f
         | inl t ↦
             let one : kind i.heap (region_of i.heap o.0.at) ≡ Ordinary = ordinary (region_of i.heap o.0.at)
-            (Contains-from_in set (region_of i.heap o.0.at) (in_from_has set (region_of i.heap o.0.at) t)) in
+            (Contains-from_has set (region_of i.heap o.0.at) t) in
             let h = home i.heap valid o.0 c in
             let hr = home_region i.heap valid h.0 o.0 h.2 in
             elim h.2.2 [
@@ -242,21 +243,21 @@ module _ (i : Image) (set l : List ℕ) (valid : IsBuilt i.heap) (ordinary : All
             let at : region_of i.heap o.at ≡ q = home_region i.heap valid q o (stands i.heap valid q o c.4) in
             let clear : has set q ≡ false = elim c.2 [
               | inl e ↦ ap (has set) e ∙ a
-              | inr two ↦ elim (bool_cases (has set q)) [ inr f ↦ f | inl t ↦ let clash : Ordinary ≡ HumongousFirst = sym (ordinary q (Contains-from_in set q (in_from_has set q t))) ∙ two in cc ]
+              | inr two ↦ elim (bool_cases (has set q)) [ inr f ↦ f | inl t ↦ let clash : Ordinary ≡ HumongousFirst = sym (ordinary q (Contains-from_has set q t)) ∙ two in cc ]
             ] in
             let out : in_set i.heap set o.at ≡ false = ap (has set) at ∙ clear in
-            let here : In (objects i.heap) o = In-flat_map (objects_in i.heap) (regions i.heap) q o (In-range 0 i.heap.geometry.n q (omega arith) (let n = c.1 in omega arith)) c.4 in
-            let k : In (kept i.heap set l) o = kept_outside i set l j s ordinary survivors room moved o here out in
+            let here : Contains (objects i.heap) o = Contains-flat_map (objects_in i.heap) (regions i.heap) q o (Contains-range 0 i.heap.geometry.n q (omega arith) (let n = c.1 in omega arith)) c.4 in
+            let k : Contains (kept i.heap set l) o = kept_outside i set l j s ordinary survivors room moved o here out in
             let stays = outside_stays i.heap set l s ordinary survivors room o.at out in
             let sum : o.at + x ≡ r * i.heap.geometry.w + m = c.7 in
             let to : forward i.heap l o.at + x ≡ r * i.heap.geometry.w + m = omega arith in
-            elim (copied_word i set l j moved o x k (s.slots_fit o (Contains-from_in (objects i.heap) o here)) c.6) [
+            elim (copied_word i set l j moved o x k (s.slots_fit o here) c.6) [
               | inl y ↦ inl (ap (word i.heap) (sym sum) ∙ sym y.0 ∙ ap (word j.heap) to)
               | inr y ↦ slot_at r m o x k here y.0 y.1 sum (sym (ap (word j.heap) to) ∙ y.2) a below (word i.heap (o.at + x)) refl
             ]
       ]
     where
-      slot_at : (r m : ℕ) (o : Object) (x : ℕ) → In (kept i.heap set l) o → In (objects i.heap) o → 0 < x → x ≤ o.refs → o.at + x ≡ r * i.heap.geometry.w + m
+      slot_at : (r m : ℕ) (o : Object) (x : ℕ) → Contains (kept i.heap set l) o → Contains (objects i.heap) o → 0 < x → x ≤ o.refs → o.at + x ≡ r * i.heap.geometry.w + m
           → word j.heap (r * i.heap.geometry.w + m) ≡ renamed (forward i.heap l) (word i.heap (o.at + x)) → has set r ≡ false → m < i.heap.geometry.w → (y : ℕ) → word i.heap (o.at + x) ≡ y
           → (word i.heap (r * i.heap.geometry.w + m) ≡ word j.heap (r * i.heap.geometry.w + m)) ⊎ IsPatch i.heap set l (r * i.heap.geometry.w + m) (word j.heap (r * i.heap.geometry.w + m))
       slot_at r m o x k here p le sum w a below zero e = inl (ap (word i.heap) (sym sum) ∙ e ∙ sym (w ∙ ap (renamed (forward i.heap l)) e))
@@ -271,13 +272,13 @@ module _ (i : Image) (set l : List ℕ) (valid : IsBuilt i.heap) (ordinary : All
             | inl t ↦
                 let q : ℕ = r * i.heap.geometry.w + m in
                 let v : word i.heap q ≡ suc b = ap (word i.heap) (sym sum) ∙ e in
-                let there : In (refs_at i.heap q) (record { slot = q; target = b }) = In-map (λ a. record {
+                let there : Contains (refs_at i.heap q) (record { slot = q; target = b }) = Contains-map (λ a. record {
                   slot = q;
                   target = a;
-                }) (named (word i.heap q)) b (subst (λ z. In (named z) b) (sym v) (inl refl)) in
-                let ref : In (refs i.heap) (record { slot = q; target = b }) =
-                In-flat_map (λ o. flat_map (refs_at i.heap) (slots o)) (objects i.heap) o (record { slot = q; target = b }) here
-                (In-flat_map (refs_at i.heap) (slots o) q (record { slot = q; target = b }) (In-range (o.at + 1) o.refs q (omega arith) (omega arith)) there) in
+                }) (named (word i.heap q)) b (subst (λ z. Contains (named z) b) (sym v) (zero, omega arith, refl)) in
+                let ref : Contains (refs i.heap) (record { slot = q; target = b }) =
+                Contains-flat_map (λ o. flat_map (refs_at i.heap) (slots o)) (objects i.heap) o (record { slot = q; target = b }) here
+                (Contains-flat_map (refs_at i.heap) (slots o) q (record { slot = q; target = b }) (Contains-range (o.at + 1) o.refs q (omega arith) (omega arith)) there) in
                 inr (record {
                   target = b;
                   reference = ref;

@@ -1,5 +1,5 @@
 -- The cards of slots that lead into each region, slot by slot.
-use Rattle.std.proofs.Common.{◌≡◌, ◌≢◌, ◌≤◌, ◌<◌, ℕ, zero, suc, ◌+◌, ◌-◌, ◌*◌, ◌/◌, Bool, true, false, not, cond, ◌&&◌, ◌||◌, List, [], ◌∷◌, ◌++◌, map, filter, replicate, length, get_or}
+use Rattle.std.proofs.Common.{◌≡◌, ◌≢◌, ◌≤◌, ◌<◌, ℕ, zero, suc, ◌+◌, ◌-◌, ◌*◌, ◌/◌, Bool, true, false, not, cond, ◌&&◌, ◌||◌, List, [], ◌∷◌, ◌++◌, map, filter, replicate, length, get_or, Contains}
 use Rattle.std.proofs.Common.{set, take, All, inl, inr, arith, refl, sym, ap, subst, ◌∙◌, eqb, eqb-true, eq-eqb, ne_eqb}
 use Rattle.std.specs.List.{range_with_len}
 use Rattle.std.specs.List.Sorted.{IsStrictlyIncreasing}
@@ -8,11 +8,12 @@ use Rattle.std.proofs.lemmas.List.Folds.{list_any-append}
 use Rattle.std.proofs.lemmas.List.Kept.{AllPairs-from_increasing}
 use Rattle.std.proofs.lemmas.List.FromFn.{get_or-map-range_with_len}
 use Rattle.std.proofs.Math.Nat.{le-div_iff_mul-le, div-mul-le_self, div-lt_iff_lt-mul}
+use Rattle.std.proofs.lemmas.List.Elements.{Contains-get_or}
 use Rattle.g1_words.specs.Valid.{IsValid}
 use Rattle.g1_words.proofs.Bounds.{card_below, cards_in_region}
 use Rattle.g1_words.specs.Heap.{Heap, card_of, region_of}
-use Rattle.g1_words.proofs.Indices.{get_or-In, range_bounds}
-use Rattle.g1_words.proofs.Members.{In, Contains-from_in, any_member, and_true, or_true, filter_member}
+use Rattle.g1_words.proofs.Indices.{range_bounds}
+use Rattle.g1_words.proofs.Members.{any_member, and_true, or_true, filter_member}
 use Rattle.g1_image.specs.Cards.{cards_where, leads_into}
 use Rattle.g1_layout.proofs.Lists.{filter_more_no, filter_more_yes}
 use Rattle.g1_rem.specs.Entering.{with_card}
@@ -21,12 +22,12 @@ use Rattle.g1_copy.specs.Links.{cards_by_region, is_linked, link}
 -- ---- lists
 
 -- two tests that agree on the members of a list filter it alike
-pub same_filter : (p q : ℕ → Bool) (xs : List ℕ) → ((x : ℕ) → In xs x → p x ≡ q x) → filter p xs ≡ filter q xs
+pub same_filter : (p q : ℕ → Bool) (xs : List ℕ) → ((x : ℕ) → Contains xs x → p x ≡ q x) → filter p xs ≡ filter q xs
 same_filter p q [] same = refl
-same_filter p q (x ∷ xs) same = ap (λ b. cond b (x ∷ filter p xs) (filter p xs)) (same x (inl refl)) ∙ ap (λ ys. cond (q x) (x ∷ ys) ys) (same_filter p q xs (λ y i. same y (inr i)))
+same_filter p q (x ∷ xs) same = ap (λ b. cond b (x ∷ filter p xs) (filter p xs)) (same x (zero, omega arith, refl)) ∙ ap (λ ys. cond (q x) (x ∷ ys) ys) (same_filter p q xs (λ y i. same y (suc i.0, omega (arith, i.1), i.2)))
 
 -- a test that no member passes
-pub none_pass : (p : ℕ → Bool) (xs : List ℕ) → ((x : ℕ) → In xs x → p x ≡ false) → filter p xs ≡ []
+pub none_pass : (p : ℕ → Bool) (xs : List ℕ) → ((x : ℕ) → Contains xs x → p x ≡ false) → filter p xs ≡ []
 none_pass p xs f = same_filter p (λ x. false) xs f ∙ all_out xs where
   all_out : (ys : List ℕ) → filter (λ x. false) ys ≡ []
   all_out [] = refl
@@ -94,7 +95,7 @@ pub cards_below : (test : ℕ → Bool) (c : ℕ) → All (λ d. d < c) (filter 
 cards_below test c = λ k d lt. omega (
   arith,
   range_bounds 0 c (get_or (filter test (range_with_len 0 c)) k d)
-      (filter_member test (range_with_len 0 c) (get_or (filter test (range_with_len 0 c)) k d) (get_or-In (filter test (range_with_len 0 c)) k d lt)).0,
+      (filter_member test (range_with_len 0 c) (get_or (filter test (range_with_len 0 c)) k d) (Contains-get_or (filter test (range_with_len 0 c)) k d lt)).0,
 )
 
 -- ---- one slot more
@@ -146,8 +147,8 @@ module _ (h : Heap) (before : List (ℕ × ℕ)) (p x : ℕ) where
         let g : card_of h y.0 ≤ card_of h p = (le-div_iff_mul-le some).1 (omega (arith, le, f)) in
         omega (arith, same, g)
       where
-        in_all : (ys : List (ℕ × ℕ)) (y : ℕ × ℕ) → All (λ z. z.0 ≤ p) ys → In ys y → y.0 ≤ p
-        in_all ys y f i = let c = Contains-from_in ys y i in subst (λ (z : ℕ × ℕ). z.0 ≤ p) c.2 (f c.0 y c.1)
+        in_all : (ys : List (ℕ × ℕ)) (y : ℕ × ℕ) → All (λ z. z.0 ≤ p) ys → Contains ys y → y.0 ≤ p
+        in_all ys y f i = let c = i in subst (λ (z : ℕ × ℕ). z.0 ≤ p) c.2 (f c.0 y c.1)
 
     module _ (inside : card_of h p < h.geometry.n * h.geometry.w / h.geometry.k) where
       abbrev so_far : ℕ → List ℕ
@@ -170,7 +171,7 @@ module _ (h : Heap) (before : List (ℕ × ℕ)) (p x : ℕ) where
           or_true_right true = refl
           or_true_right false = refl
 
-          lower : (d : ℕ) → In (range_with_len 0 (card_of h p)) d → (leads_into h r (link (p, x)) && eqb (card_of h p) d) ≡ false
+          lower : (d : ℕ) → Contains (range_with_len 0 (card_of h p)) d → (leads_into h r (link (p, x)) && eqb (card_of h p) d) ≡ false
           lower d i =
               let b = range_bounds 0 (card_of h p) d i in
               let e : eqb (card_of h p) d ≡ false = ne_eqb (card_of h p) d (λ s. omega (arith, s, b.1)) in

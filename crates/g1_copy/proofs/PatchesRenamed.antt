@@ -1,7 +1,8 @@
 -- The slots that lead into a set, their words renamed, are its patches.
-use Rattle.std.proofs.Common.{◌≡◌, ◌<◌, ◌+◌, ◌-◌, ◌^◌, ℕ, suc, Bool, true, false, not, ◌&&◌, List, [], ◌∷◌, ◌++◌, map, filter, length, take, drop, get_or, refl, sym, ◌∙◌, ap, subst, arith}
+use Rattle.std.proofs.Common.{◌≡◌, ◌<◌, ◌+◌, ◌-◌, ◌^◌, ℕ, suc, Bool, true, false, not, ◌&&◌, List, [], ◌∷◌, ◌++◌, map, filter, length, take, drop, get_or, refl, sym, ◌∙◌, ap, subst, arith, Contains}
 use Rattle.std.proofs.lemmas.Bool.{false≢true}
 use Rattle.std.proofs.lemmas.List.{get_or-append_right, get_or-drop, length-map, length-take-le}
+use Rattle.std.proofs.lemmas.List.Elements.{Contains-append_right, Contains-get_or}
 use Rattle.g1_words.specs.Copy.{renamed}
 use Rattle.g1_words.specs.Heap.{Heap}
 use Rattle.g1_words.specs.Layout.{forward, moved_to, places}
@@ -10,8 +11,7 @@ use Rattle.g1_words.specs.Live.{seed}
 use Rattle.g1_words.specs.References.{Ref, refs, root_targets}
 use Rattle.g1_words.specs.Survivors.{in_set, seeds, Survivors}
 use Rattle.g1_words.specs.Valid.{IsValid}
-use Rattle.g1_words.proofs.Indices.{get_or-In}
-use Rattle.g1_words.proofs.Members.{In, Contains-from_in, In-append_right, In-filter, In-from_contains, In-map, map_cases, filter_member, has_from_in, in_from_has, and_true}
+use Rattle.g1_words.proofs.Members.{Contains-filter, Contains-map, map_cases, filter_member, has_from_contains, Contains-from_has, and_true}
 use Rattle.g1_words.proofs.OneToOne.{reached_in_set}
 use Rattle.g1_layout.specs.Plan.{Plan}
 use Rattle.g1_rem.proofs.EntryCards.{filter_same_in}
@@ -33,11 +33,11 @@ module _ (h : Heap) (p : Plan) (valid : IsValid h) (pause : IsPauseOf h p.set p)
   places_is = ap (λ (q : Plan). q.places) pause.made.plan
 
   -- a patch's word fits 64 bits
-  patch_small : (x : ℕ × ℕ) → In (all_patches h p.set p.survivors) x → x.1 < 2 ^ 64
+  patch_small : (x : ℕ × ℕ) → Contains (all_patches h p.set p.survivors) x → x.1 < 2 ^ 64
   patch_small x i =
       let m = map_cases (patch h p.survivors) (filter (λ e. not (in_set h p.set e.slot) && has p.survivors e.target) (refs h)) x i in
       let t = and_true (not (in_set h p.set m.0.slot)) (has p.survivors m.0.target) (filter_member (λ e. not (in_set h p.set e.slot) && has p.survivors e.target) (refs h) m.0 m.1).1 in
-      let low = place_in_heap h p.set p.survivors valid pause.made.placeable pause.made.room m.0.target (in_from_has p.survivors m.0.target t.1) in
+      let low = place_in_heap h p.set p.survivors valid pause.made.placeable pause.made.room m.0.target (Contains-from_has p.survivors m.0.target t.1) in
       let word : suc (forward h p.survivors m.0.target) ≡ x.1 = ap (λ (y : ℕ × ℕ). y.1) m.2 in
       omega (arith, low, word, valid.limits.words_most)
 
@@ -46,7 +46,7 @@ module _ (h : Heap) (p : Plan) (valid : IsValid h) (pause : IsPauseOf h p.set p)
   leads_fit xs are k d lt =
       let x : ℕ × ℕ = get_or xs k d in
       let goes : ℕ × ℕ → ℕ × ℕ = λ (y : ℕ × ℕ). (y.0, renamed (forward h p.survivors) y.1) in
-      let there : In (all_patches h p.set p.survivors) (goes x) = subst (λ (ys : List (ℕ × ℕ)). In ys (goes x)) are (In-map goes xs x (get_or-In xs k d lt)) in
+      let there : Contains (all_patches h p.set p.survivors) (goes x) = subst (λ (ys : List (ℕ × ℕ)). Contains ys (goes x)) are (Contains-map goes xs x (Contains-get_or xs k d lt)) in
       subst (λ ps. renamed (moved_to p.survivors ps) x.1 < 2 ^ 64) (sym places_is) (patch_small (goes x) there)
 
   -- renamed they are the patches
@@ -64,17 +64,17 @@ module _ (h : Heap) (set l : List ℕ) (survivors : Survivors h set l) where
   crosses e = in_set h set e.target && not (in_set h set e.slot)
 
   -- what a slot outside the set references in it survives
-  target_found : (e : Ref) → In (refs h) e → crosses e ≡ true → has l e.target ≡ true
+  target_found : (e : Ref) → Contains (refs h) e → crosses e ≡ true → has l e.target ≡ true
   target_found e i t =
-      let named : In (map (λ (e : Ref). e.target) (filter crosses (refs h))) e.target = In-map (λ (e : Ref). e.target) (filter crosses (refs h)) e (In-filter crosses (refs h) e i t) in
-      let there : In (seeds h set) e.target = In-append_right (filter (in_set h set) (root_targets h)) (map (λ (e : Ref). e.target) (filter crosses (refs h))) e.target named in
-      has_from_in l e.target (In-from_contains l e.target ((survivors.reached e.target).1 (seed (Contains-from_in (seeds h set) e.target there))))
+      let named : Contains (map (λ (e : Ref). e.target) (filter crosses (refs h))) e.target = Contains-map (λ (e : Ref). e.target) (filter crosses (refs h)) e (Contains-filter crosses (refs h) e i t) in
+      let there : Contains (seeds h set) e.target = Contains-append_right (filter (in_set h set) (root_targets h)) (map (λ (e : Ref). e.target) (filter crosses (refs h))) e.target named in
+      has_from_contains l e.target ((survivors.reached e.target).1 (seed there))
 
   -- and what survives lies in the set
   found_in_set : (a : ℕ) → has l a ≡ true → in_set h set a ≡ true
-  found_in_set a t = reached_in_set h set a ((survivors.reached a).0 (Contains-from_in l a (in_from_has l a t)))
+  found_in_set a t = reached_in_set h set a ((survivors.reached a).0 (Contains-from_has l a t))
 
-  same_slots : (e : Ref) → In (refs h) e → crosses e ≡ (not (in_set h set e.slot) && has l e.target)
+  same_slots : (e : Ref) → Contains (refs h) e → crosses e ≡ (not (in_set h set e.slot) && has l e.target)
   same_slots e i = by (in_set h set e.target) (in_set h set e.slot) (has l e.target) refl refl refl
     where
       by : (t o s : Bool) → in_set h set e.target ≡ t → in_set h set e.slot ≡ o → has l e.target ≡ s → (t && not o) ≡ (not o && s)

@@ -1,11 +1,12 @@
 -- What is made ready for a pause is what its commit needs.
-use Rattle.std.proofs.Common.{◌≡◌, ℕ, ◌*◌, ◌<◌, inl, inr, not, ◌&&◌, List, [], ◌++◌, All, length, map, flat_map, get_or, refl, sym, ◌∙◌, ap, subst, arith}
+use Rattle.std.proofs.Common.{◌≡◌, ℕ, ◌*◌, ◌<◌, inl, inr, not, ◌&&◌, List, [], ◌++◌, All, length, map, flat_map, get_or, refl, sym, ◌∙◌, ap, subst, arith, Contains, zero}
 use Rattle.std.proofs.lemmas.Bool.{cases_lt}
 use Rattle.std.specs.List.{list_any, range_with_len}
 use Rattle.std.specs.List.Sorted.{IsStrictlyIncreasing}
 use Rattle.std.proofs.lemmas.List.{length-map}
 use Rattle.std.proofs.lemmas.List.FromFn.{length-map-range_with_len}
 use Rattle.std.specs.Prelude.{slice_index_or}
+use Rattle.std.proofs.lemmas.List.Elements.{Contains-get_or}
 use Rattle.g1_image.proofs.Covers.{cards_rise}
 use Rattle.g1_image.specs.Cards.{Covered, IsTracked, refined}
 use Rattle.g1_words.specs.Copy.{renamed}
@@ -17,8 +18,7 @@ use Rattle.g1_layout.specs.Plan.{Plan}
 use Rattle.g1_layout.specs.declared.plan.Run.{Run}
 use Rattle.g1_rem.specs.Starts.{card_count}
 use Rattle.g1_words.proofs.Computed.{range_below}
-use Rattle.g1_words.proofs.Indices.{get_or-In}
-use Rattle.g1_words.proofs.Members.{In, filter_member}
+use Rattle.g1_words.proofs.Members.{filter_member}
 use Rattle.g1_words.specs.Heap.{Heap, region, region_of, regions}
 use Rattle.g1_words.specs.Layout.{HasRoom, forward, to_space}
 use Rattle.g1_words.specs.Lists.{has}
@@ -46,8 +46,8 @@ module _ (h : Heap) (remembered : List (List ℕ)) (set cards : List ℕ) (is : 
   pub into_rise : IsStrictlyIncreasing cards
   into_rise = subst IsStrictlyIncreasing (sym is) (cards_rise h (λ c. list_any (λ r. has (slice_index_or remembered r []) c) set && not (in_set h set (c * h.geometry.k))))
 
-  card_is : (k d : ℕ) → k < length cards → In (cards_into h remembered set) (get_or cards k d)
-  card_is k d lt = subst (λ xs. In xs (get_or cards k d)) is (get_or-In cards k d lt)
+  card_is : (k d : ℕ) → k < length cards → Contains (cards_into h remembered set) (get_or cards k d)
+  card_is k d lt = subst (λ xs. Contains xs (get_or cards k d)) is (Contains-get_or cards k d lt)
 
   pub into_there : All (λ c. c < card_count h) cards
   into_there k d lt =

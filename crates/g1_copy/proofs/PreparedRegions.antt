@@ -1,9 +1,10 @@
 -- The table of regions and the roots that are made for a plan.
-use Rattle.std.proofs.Common.{◌≡◌, ℕ, zero, suc, ◌+◌, ◌<◌, ◌≤◌, inl, inr, ◌^◌, true, false, cond, List, [], ◌∷◌, ◌++◌, All, take, length, map, get_or, refl, sym, ◌∙◌, ap, subst, arith}
+use Rattle.std.proofs.Common.{◌≡◌, ℕ, zero, suc, ◌+◌, ◌<◌, ◌≤◌, inl, inr, ◌^◌, true, false, cond, List, [], ◌∷◌, ◌++◌, All, take, length, map, get_or, refl, sym, ◌∙◌, ap, subst, arith, Contains}
 use Rattle.std.specs.List.{range_with_len}
 use Rattle.std.proofs.lemmas.Bool.{cases_Bool}
 use Rattle.std.proofs.lemmas.List.{length-take-le, get_or-take, take_all, take_more}
 use Rattle.std.proofs.lemmas.List.FromFn.{get_or-map-range_with_len, length-map-range_with_len}
+use Rattle.std.proofs.lemmas.List.Elements.{Contains-get_or}
 use Rattle.g1_after.proofs.Existence.{made_is_moved}
 use Rattle.g1_after.proofs.ObjectsMoved.{region_moved}
 use Rattle.g1_after.proofs.RulesMoved.{valid_moved}
@@ -14,8 +15,8 @@ use Rattle.g1_after.specs.Made.{heap_moved, image_moved}
 use Rattle.g1_after.specs.Moved.{new_region}
 use Rattle.g1_layout.specs.Plan.{Plan, run_at, runs}
 use Rattle.g1_layout.specs.declared.plan.Run.{Run}
-use Rattle.g1_words.proofs.Indices.{get_or-In, is_free_region, not_has, range_bounds}
-use Rattle.g1_words.proofs.Members.{Contains-from_in, In, In-flat_map, has_from_in}
+use Rattle.g1_words.proofs.Indices.{is_free_region, not_has, range_bounds}
+use Rattle.g1_words.proofs.Members.{Contains-flat_map, has_from_contains}
 use Rattle.g1_words.proofs.Objects.{tops_fit}
 use Rattle.g1_words.proofs.Shapes.{IsBuilt, built, valid_of}
 use Rattle.g1_words.proofs.Sound.{sound}
@@ -34,9 +35,9 @@ use Rattle.g1_copy.specs.declared.fates.Fate.TheVariants.{Freed, Filled, Kept}
 use Rattle.g1_copy.proofs.FatesMade.{fate_beside, fate_freed, is_freed, is_filled, is_kept, has_fate, once, run_there}
 
 -- lists of regions that are told alike
-map_same_in : (f g : ℕ → Region) (xs : List ℕ) → ((x : ℕ) → In xs x → f x ≡ g x) → map f xs ≡ map g xs
+map_same_in : (f g : ℕ → Region) (xs : List ℕ) → ((x : ℕ) → Contains xs x → f x ≡ g x) → map f xs ≡ map g xs
 map_same_in f g [] e = refl
-map_same_in f g (x ∷ xs) e = λ q. e x (inl refl) q ∷ map_same_in f g xs (λ y k. e y (inr k)) q
+map_same_in f g (x ∷ xs) e = λ q. e x (zero, omega arith, refl) q ∷ map_same_in f g xs (λ y k. e y (suc k.0, omega (arith, k.1), k.2)) q
 
 -- the regions that are made, one more at a time
 pub regions_more : (f : ℕ → Region) (n r : ℕ) (made : List Region) (x : Region) → r < n → made ≡ take r (map f (range_with_len 0 n)) → x ≡ f r →
@@ -67,17 +68,17 @@ module _ (h : Heap) (chosen : List ℕ) (p : Plan) (valid : IsValid h) (pause : 
   run_is t u lt = get_or-map-range_with_len (run_at h p.survivors) 0 (need h p.survivors) t t u lt (omega arith)
 
   free_there : (t : ℕ) → t < need h p.survivors → (kind h (get_or (free_regions h) t 0) ≡ Free) × (get_or (free_regions h) t 0 < h.geometry.n)
-  free_there t lt = is_free_region h (get_or (free_regions h) t 0) (get_or-In (free_regions h) t 0 (omega (arith, room, lt)))
+  free_there t lt = is_free_region h (get_or (free_regions h) t 0) (Contains-get_or (free_regions h) t 0 (omega (arith, room, lt)))
 
   -- a free region isn't one of the set
   free_off : (r : ℕ) → kind h r ≡ Free → has chosen r ≡ false
-  free_off r e = not_has chosen r (λ m. let clash : Free ≡ Ordinary = sym e ∙ ordinary r (Contains-from_in chosen r m) in cc)
+  free_off r e = not_has chosen r (λ m. let clash : Free ≡ Ordinary = sym e ∙ ordinary r m in cc)
 
   to_space_has : (t : ℕ) → t < need h p.survivors → has (to_space h p.survivors) (get_or (free_regions h) t 0) ≡ true
   to_space_has t lt =
       let long : length (to_space h p.survivors) ≡ need h p.survivors = length-take-le (need h p.survivors) (free_regions h) room in
       let at : get_or (to_space h p.survivors) t 0 ≡ get_or (free_regions h) t 0 = get_or-take (need h p.survivors) (free_regions h) t 0 lt in
-      has_from_in (to_space h p.survivors) (get_or (free_regions h) t 0) (subst (In (to_space h p.survivors)) at (get_or-In (to_space h p.survivors) t 0 (omega (arith, long, lt))))
+      has_from_contains (to_space h p.survivors) (get_or (free_regions h) t 0) (subst (Contains (to_space h p.survivors)) at (Contains-get_or (to_space h p.survivors) t 0 (omega (arith, long, lt))))
 
   -- an image with this heap
   abbrev image : Image
@@ -176,21 +177,21 @@ module _ (h : Heap) (chosen : List ℕ) (p : Plan) (valid : IsValid h) (pause : 
   places_is : p.places ≡ places h p.survivors
   places_is = ap (λ (q : Plan). q.places) pause.made.plan
 
-  root_small : (x : ℕ) → In h.roots x → renamed (moved_to p.survivors (places h p.survivors)) x < 2 ^ 64
+  root_small : (x : ℕ) → Contains h.roots x → renamed (moved_to p.survivors (places h p.survivors)) x < 2 ^ 64
   root_small zero m = omega arith
   root_small (suc a) m =
       let l : List ℕ = p.survivors in
       let j : Image = image_moved image chosen l in
       let whole : IsBuilt h = built h valid in
       let moved = made_is_moved image chosen l whole ordinary pause.survivors room in
-      let target : In (root_targets h) a = In-flat_map named h.roots (suc a) a m (inl refl) in
+      let target : Contains (root_targets h) a = Contains-flat_map named h.roots (suc a) a m (zero, omega arith, refl) in
       let k = root_kept image chosen l j whole ordinary pause.survivors room moved a target in
       let filled : 0 < (object_at h a).size = kept_filled a k in
       let below = moved_below image chosen l j whole ordinary pause.survivors room moved (object_at h a) 0 k filled in
       let most = valid.limits.words_most in
       omega arith
     where
-      kept_filled : (a : ℕ) → In (kept h chosen p.survivors) (object_at h a) → 0 < (object_at h a).size
+      kept_filled : (a : ℕ) → Contains (kept h chosen p.survivors) (object_at h a) → 0 < (object_at h a).size
       kept_filled a k =
           let l : List ℕ = p.survivors in
           let j : Image = image_moved image chosen l in
@@ -200,7 +201,7 @@ module _ (h : Heap) (chosen : List ℕ) (p : Plan) (valid : IsValid h) (pause : 
 
   pub root_fits : (xs : List ℕ) (i d : ℕ) → xs ≡ h.roots → i < length xs → renamed goes (get_or xs i d) < 2 ^ 64
   root_fits xs i d e lt =
-      subst (λ ps. renamed (moved_to p.survivors ps) (get_or xs i d) < 2 ^ 64) (sym places_is) (root_small (get_or xs i d) (subst (λ ys. In ys (get_or xs i d)) e (get_or-In xs i d lt)))
+      subst (λ ps. renamed (moved_to p.survivors ps) (get_or xs i d) < 2 ^ 64) (sym places_is) (root_small (get_or xs i d) (subst (λ ys. Contains ys (get_or xs i d)) e (Contains-get_or xs i d lt)))
 
   pub roots_made : (xs out : List ℕ) → xs ≡ h.roots → out ≡ map (renamed goes) xs → out ≡ map (renamed (forward h p.survivors)) h.roots
   roots_made xs out e f = f ∙ (λ q. map (renamed (moved_to p.survivors (places_is q))) (e q))

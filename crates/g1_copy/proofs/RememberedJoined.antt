@@ -1,5 +1,5 @@
 -- Lists of cards put together, region by region.
-use Rattle.std.proofs.Common.{◌≡◌, ℕ, zero, suc, ◌+◌, ◌*◌, ◌/◌, ◌<◌, ◌≤◌, inl, inr, Bool, true, false, cond, not, ◌&&◌, ◌||◌, List, [], ◌∷◌, length, get_or, map, filter, All}
+use Rattle.std.proofs.Common.{◌≡◌, ℕ, zero, suc, ◌+◌, ◌*◌, ◌/◌, ◌<◌, ◌≤◌, inl, inr, Bool, true, false, cond, not, ◌&&◌, ◌||◌, List, [], ◌∷◌, length, get_or, map, filter, All, Contains}
 use Rattle.std.proofs.Common.{refl, sym, ◌∙◌, ap, subst, arith}
 use Rattle.std.specs.Prelude.{Result, Ok, Err, IfOk}
 use Rattle.std.specs.Global.{Vec}
@@ -9,13 +9,14 @@ use Rattle.std.proofs.Math.Bool.{or-false}
 use Rattle.std.proofs.Math.Nat.{div-lt_iff_lt-mul, div-mul-le_self, mul-le-mul_right}
 use Rattle.std.proofs.lemmas.List.{ext_get_or, get_or-map}
 use Rattle.std.proofs.lemmas.List.FromFn.{get_or-map-range_with_len, length-map-range_with_len}
+use Rattle.std.proofs.lemmas.List.Elements.{Contains-get_or}
 use Rattle.g1_words.specs.declared.fault.Fault.{Fault}
 use Rattle.g1_words.specs.Heap.{Heap, regions}
 use Rattle.g1_words.specs.Lists.{has}
 use Rattle.g1_words.specs.Survivors.{AllOrdinary, Survivors}
 use Rattle.g1_words.specs.Layout.{free_regions, need, to_space}
-use Rattle.g1_words.proofs.Members.{In, In-filter, filter_member, in_from_has, has_from_in, or_true}
-use Rattle.g1_words.proofs.Indices.{get_or-In, range_bounds}
+use Rattle.g1_words.proofs.Members.{Contains-filter, filter_member, Contains-from_has, has_from_contains, or_true}
+use Rattle.g1_words.proofs.Indices.{range_bounds}
 use Rattle.g1_words.proofs.Shapes.{IsBuilt}
 use Rattle.g1_words.proofs.Standing.{card_positive, width_positive}
 use Rattle.g1_image.specs.Image.{Image, region_of_card, card_in}
@@ -40,9 +41,9 @@ use Rattle.g1_copy.proofs.RememberedLinks.{to_space_cards, copied_cards}
 -- ---- cards that pass tests
 
 -- a filter by two tests that agree on the members
-filter_same : (p q : ℕ → Bool) (xs : List ℕ) → ((x : ℕ) → In xs x → p x ≡ q x) → filter p xs ≡ filter q xs
+filter_same : (p q : ℕ → Bool) (xs : List ℕ) → ((x : ℕ) → Contains xs x → p x ≡ q x) → filter p xs ≡ filter q xs
 filter_same p q [] g = refl
-filter_same p q (x ∷ xs) g = let rest = filter_same p q xs (λ y k. g y (inr k)) in λ t. cond (g x (inl refl) t) (x ∷ rest t) (rest t)
+filter_same p q (x ∷ xs) g = let rest = filter_same p q xs (λ y k. g y (suc k.0, omega (arith, k.1), k.2)) in λ t. cond (g x (zero, omega arith, refl) t) (x ∷ rest t) (rest t)
 
 -- a filter after a filter
 filter_twice : (p q : ℕ → Bool) (xs : List ℕ) → filter q (filter p xs) ≡ filter (λ x. p x && q x) xs
@@ -64,15 +65,15 @@ merged_where h p q zs m =
     let n : ℕ = h.geometry.n * h.geometry.w / h.geometry.k in
     Rises-one 0 0 zs (cards_where h (λ c. p c || q c)) (increasing-Rises zs 0 m.rising (λ lt. omega arith))
     (Rises-filter (λ c. p c || q c) 0 (range_with_len 0 n) (Rises-range 0 n))
-    (λ c k. elim (or_true (has (cards_where h p) c) (has (cards_where h q) c) (sym (m.members c) ∙ has_from_in zs c k)) [
-      | inl e ↦ let a = filter_member p (range_with_len 0 n) c (in_from_has (cards_where h p) c e) in In-filter (λ c. p c || q c) (range_with_len 0 n) c a.0 (ap (λ b. b || q c) a.1)
-      | inr e ↦ let a = filter_member q (range_with_len 0 n) c (in_from_has (cards_where h q) c e) in In-filter (λ c. p c || q c) (range_with_len 0 n) c a.0 (right (p c) (q c) a.1)
+    (λ c k. elim (or_true (has (cards_where h p) c) (has (cards_where h q) c) (sym (m.members c) ∙ has_from_contains zs c k)) [
+      | inl e ↦ let a = filter_member p (range_with_len 0 n) c (Contains-from_has (cards_where h p) c e) in Contains-filter (λ c. p c || q c) (range_with_len 0 n) c a.0 (ap (λ b. b || q c) a.1)
+      | inr e ↦ let a = filter_member q (range_with_len 0 n) c (Contains-from_has (cards_where h q) c e) in Contains-filter (λ c. p c || q c) (range_with_len 0 n) c a.0 (right (p c) (q c) a.1)
     ])
     (λ c k.
     let a = filter_member (λ c. p c || q c) (range_with_len 0 n) c k in
-    in_from_has zs c (m.members c ∙ elim (or_true (p c) (q c) a.1) [
-      | inl e ↦ ap (λ b. b || has (cards_where h q) c) (has_from_in (cards_where h p) c (In-filter p (range_with_len 0 n) c a.0 e))
-      | inr e ↦ right (has (cards_where h p) c) (has (cards_where h q) c) (has_from_in (cards_where h q) c (In-filter q (range_with_len 0 n) c a.0 e))
+    Contains-from_has zs c (m.members c ∙ elim (or_true (p c) (q c) a.1) [
+      | inl e ↦ ap (λ b. b || has (cards_where h q) c) (has_from_contains (cards_where h p) c (Contains-filter p (range_with_len 0 n) c a.0 e))
+      | inr e ↦ right (has (cards_where h p) c) (has (cards_where h q) c) (has_from_contains (cards_where h q) c (Contains-filter q (range_with_len 0 n) c a.0 e))
     ]))
   where
     right : (a b : Bool) → b ≡ true → (a || b) ≡ true
@@ -88,7 +89,7 @@ card_there h valid c lt =
     (div-lt_iff_lt-mul (width_positive h.geometry.w h.geometry.k h.geometry.n valid.limits)).1 (omega arith)
 
 -- the cards that pass a test lie in the heap's regions
-pub where_there : (h : Heap) → IsBuilt h → (test : ℕ → Bool) (c : ℕ) → In (cards_where h test) c → region_of_card h c < h.geometry.n
+pub where_there : (h : Heap) → IsBuilt h → (test : ℕ → Bool) (c : ℕ) → Contains (cards_where h test) c → region_of_card h c < h.geometry.n
 where_there h valid test c k =
     let m = filter_member test (range_with_len 0 (h.geometry.n * h.geometry.w / h.geometry.k)) c k in
     let b = range_bounds 0 (h.geometry.n * h.geometry.w / h.geometry.k) c m.0 in
@@ -172,7 +173,7 @@ module _ (i : Image) (set l : List ℕ) (valid : IsBuilt i.heap) (ordinary : All
       outer_count = ap length the_outer ∙ length-map-range_with_len (λ r. cards_where i.heap (P r)) 0 i.heap.geometry.n;
       inner_count = ap length the_inner ∙ length-map-range_with_len (λ r. cards_where i.heap (C r)) 0 i.heap.geometry.n;
       there = λ r lt. subst (All (λ c. region_of_card i.heap c < i.heap.geometry.n)) (sym (remembered_at r lt))
-          (λ k d lt'. where_there i.heap valid (is_refined i r) (get_or (refined i r) k d) (get_or-In (refined i r) k d lt'));
+          (λ k d lt'. where_there i.heap valid (is_refined i r) (get_or (refined i r) k d) (Contains-get_or (refined i r) k d lt'));
       remembered_rise = λ r lt. subst IsStrictlyIncreasing (sym (remembered_at r lt)) (cards_rise i.heap (is_refined i r));
       outer_rise = λ r lt. subst IsStrictlyIncreasing (sym (outer_at r lt)) (cards_rise i.heap (P r));
       inner_rise = λ r lt. subst IsStrictlyIncreasing (sym (inner_at r lt)) (cards_rise i.heap (C r));

@@ -1,5 +1,5 @@
 -- Remembered sets without the cards of freed regions, region by region.
-use Rattle.std.proofs.Common.{◌≡◌, ℕ, ◌+◌, ◌<◌, ◌≤◌, ◌⊎◌, inl, inr, true, false, cond, not, ◌&&◌, ◌||◌, List, [], ◌∷◌, ◌++◌, length, get_or, map, filter, set, refl, sym, ◌∙◌, ap, subst, arith}
+use Rattle.std.proofs.Common.{◌≡◌, ℕ, ◌+◌, ◌<◌, ◌≤◌, ◌⊎◌, inl, inr, true, false, cond, not, ◌&&◌, ◌||◌, List, [], ◌∷◌, ◌++◌, length, get_or, map, filter, set, refl, sym, ◌∙◌, ap, subst, arith, Contains, zero, suc}
 use Rattle.std.proofs.Math.Nat.{div-lt_iff_lt-mul}
 use Rattle.std.proofs.lemmas.Bool.{cases_Bool, cases_lt, false≢true}
 use Rattle.std.proofs.lemmas.List.{ext_get_or, get_or-set_other, get_or-set_same, length-set}
@@ -9,7 +9,6 @@ use Rattle.g1_words.specs.Layout.{HasRoom, free_regions, need, to_space}
 use Rattle.g1_words.specs.Lists.{has}
 use Rattle.g1_words.proofs.Firsts.{Distinct}
 use Rattle.g1_words.proofs.Indices.{range_bounds}
-use Rattle.g1_words.proofs.Members.{In}
 use Rattle.g1_words.proofs.NextFit.{free_distinct}
 use Rattle.g1_words.proofs.Shapes.{IsBuilt, built}
 use Rattle.g1_words.proofs.Standing.{w_pos}
@@ -30,9 +29,9 @@ use Rattle.g1_copy.proofs.InPlaceSlices.{Distinct-take}
 use Rattle.g1_copy.proofs.UnnamedFirsts.{cards_used, set_is}
 
 -- lists that are told alike
-map_same_in : (f g : ℕ → List ℕ) (xs : List ℕ) → ((x : ℕ) → In xs x → f x ≡ g x) → map f xs ≡ map g xs
+map_same_in : (f g : ℕ → List ℕ) (xs : List ℕ) → ((x : ℕ) → Contains xs x → f x ≡ g x) → map f xs ≡ map g xs
 map_same_in f g [] e = refl
-map_same_in f g (x ∷ xs) e = λ q. e x (inl refl) q ∷ map_same_in f g xs (λ y k. e y (inr k)) q
+map_same_in f g (x ∷ xs) e = λ q. e x (zero, omega arith, refl) q ∷ map_same_in f g xs (λ y k. e y (suc k.0, omega (arith, k.1), k.2)) q
 
 -- the sets of the regions below k are what is left of them, and all others are as they were
 pub record LeftTo (h : Heap) (fates : List Fate) (k : ℕ) (old new : List (List ℕ)) : Type 0 where
@@ -82,7 +81,7 @@ module _ (i : Image) (set l : List ℕ) (tracked : IsTracked i) (a : HasRoom i.h
   once = Distinct-take (need i.heap l) (free_regions i.heap) (free_distinct i.heap (w_pos i.heap valid))
 
   -- a card of these sets lies in no region of the set
-  off_set : (r c : ℕ) → r < i.heap.geometry.n → In (remembered_of (image_moved i set l) r) c → has set (region_of_card i.heap c) ≡ false
+  off_set : (r c : ℕ) → r < i.heap.geometry.n → Contains (remembered_of (image_moved i set l) r) c → has set (region_of_card i.heap c) ≡ false
   off_set r c lt k =
       let used = cards_used i set l tracked a r c lt k in
       elim (cases_Bool (has set (region_of_card i.heap c))) [
@@ -96,7 +95,7 @@ module _ (i : Image) (set l : List ℕ) (tracked : IsTracked i) (a : HasRoom i.h
 
   module _ (fates : List Fate) (are : AreFates i.heap (set ++ freed) (to_space i.heap l) fates) where
     -- such a card stays unless it lies in a region that is freed beside the set
-    card_stays : (r c : ℕ) → r < i.heap.geometry.n → In (remembered_of (image_moved i set l) r) c → stays i.heap fates c ≡ not (card_in after freed c)
+    card_stays : (r c : ℕ) → r < i.heap.geometry.n → Contains (remembered_of (image_moved i set l) r) c → stays i.heap fates c ≡ not (card_in after freed c)
     card_stays r c lt k =
         let q : ℕ = region_of_card i.heap c in
         let lies : region_of_card i.heap c < i.heap.geometry.n = (div-lt_iff_lt-mul (w_pos i.heap valid)).1 (cards_used i set l tracked a r c lt k).in_heap in

@@ -1,10 +1,11 @@
 -- The sets that are put together in a pause, from its plan.
-use Rattle.std.proofs.Common.{◌≡◌, ℕ, suc, ◌+◌, ◌*◌, ◌<◌, ◌≤◌, List, length, get_or, map, filter, not, ◌&&◌, All, sym, ◌∙◌, ap, subst, arith}
+use Rattle.std.proofs.Common.{◌≡◌, ℕ, suc, ◌+◌, ◌*◌, ◌<◌, ◌≤◌, List, length, get_or, map, filter, not, ◌&&◌, All, sym, ◌∙◌, ap, subst, arith, Contains}
 use Rattle.std.specs.Prelude.{Result, Ok, Err, IfOk}
 use Rattle.std.specs.Global.{Vec}
 use Rattle.std.specs.List.Sorted.{IsStrictlyIncreasing}
+use Rattle.std.proofs.lemmas.List.Elements.{Contains-get_or}
 use Rattle.g1_words.specs.declared.fault.Fault.{Fault}
-use Rattle.g1_words.specs.Heap.{Heap, object_at, objects, regions}
+use Rattle.g1_words.specs.Heap.{Heap, object_at, regions}
 use Rattle.g1_words.specs.Lists.{has}
 use Rattle.g1_words.specs.References.{Ref, refs}
 use Rattle.g1_words.specs.Survivors.{in_set}
@@ -12,8 +13,7 @@ use Rattle.g1_words.specs.Layout.{forward, free_regions, need, to_space}
 use Rattle.g1_words.specs.Valid.{IsValid}
 use Rattle.g1_words.proofs.Bounds.{object_within}
 use Rattle.g1_words.proofs.Computed.{contains_has}
-use Rattle.g1_words.proofs.Indices.{get_or-In}
-use Rattle.g1_words.proofs.Members.{In, Contains-from_in, filter_member, map_cases}
+use Rattle.g1_words.proofs.Members.{filter_member, map_cases}
 use Rattle.g1_words.proofs.Ordered.{pairs_from_ordered}
 use Rattle.g1_words.proofs.Rising.{Ordered-filter, Ordered-map, refs_ordered}
 use Rattle.g1_words.proofs.Shapes.{built}
@@ -53,23 +53,23 @@ module _ (h : Heap) (set l : List ℕ) (valid : IsValid h) (can : CanPlace h set
       (Ordered-filter (λ (e f : Ref). e.slot < f.slot) (λ e. not (in_set h set e.slot) && has l e.target) (refs h) (refs_ordered h valid))))
       k (k + 1) 0 (omega arith) lt
 
-  patch_there : (x : ℕ × ℕ) → In (all_patches h set l) x → (x.0 < h.geometry.n * h.geometry.w) × (0 < x.1) × (x.1 ≤ h.geometry.n * h.geometry.w)
+  patch_there : (x : ℕ × ℕ) → Contains (all_patches h set l) x → (x.0 < h.geometry.n * h.geometry.w) × (0 < x.1) × (x.1 ≤ h.geometry.n * h.geometry.w)
   patch_there x k =
       let p = map_cases (patch h l) (filter (λ e. not (in_set h set e.slot) && has l e.target) (refs h)) x k in
       let e : Ref = p.0 in
-      let here : In (refs h) e = (filter_member (λ (e : Ref). not (in_set h set e.slot) && has l e.target) (refs h) e p.1).0 in
+      let here : Contains (refs h) e = (filter_member (λ (e : Ref). not (in_set h set e.slot) && has l e.target) (refs h) e p.1).0 in
       let o = owner_of h e here in
-      let c = Contains-from_in (objects h) o.owner o.stands in
+      let c = o.stands in
       let fits = (sound h valid).slots_fit o.owner c in
       let ends = object_within h valid o.owner (contains_has h o.owner valid.shaped c) in
-      let goes = forward_below h set l valid can room (object_at h e.target) (contains_has h (object_at h e.target) valid.shaped ((sound h valid).slot_named e (Contains-from_in (refs h) e here))) in
+      let goes = forward_below h set l valid can room (object_at h e.target) (contains_has h (object_at h e.target) valid.shaped ((sound h valid).slot_named e here)) in
       let slot : e.slot ≡ x.0 = ap (λ (y : ℕ × ℕ). y.0) p.2 in
       let word : suc (forward h l e.target) ≡ x.1 = ap (λ (y : ℕ × ℕ). y.1) p.2 in
       (omega (arith, fits, ends, slot, o.at, o.within), omega (arith, word), omega (arith, word, goes))
 
   -- they lie in the heap, and name addresses of it
   pub patches_there : AreThere h (all_patches h set l)
-  patches_there = λ k d lt. patch_there (get_or (all_patches h set l) k d) (get_or-In (all_patches h set l) k d lt)
+  patches_there = λ k d lt. patch_there (get_or (all_patches h set l) k d) (Contains-get_or (all_patches h set l) k d lt)
 
 -- ---- what the plan tells
 

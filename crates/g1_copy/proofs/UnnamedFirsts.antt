@@ -1,10 +1,10 @@
 -- Which humongous objects nothing names once the survivors have moved, from the heap before.
-use Rattle.std.proofs.Common.{◌≡◌, ◌≢◌, ℕ, ◌+◌, ◌*◌, ◌<◌, inl, inr, Bool, true, false, cond, not, ◌&&◌, ◌||◌, List, [], ◌∷◌, ◌++◌, All, get_or, map, filter, flat_map, Contains, refl, sym}
+use Rattle.std.proofs.Common.{◌≡◌, ◌≢◌, ℕ, ◌+◌, ◌*◌, ◌<◌, inl, inr, Bool, true, false, cond, not, ◌&&◌, ◌||◌, List, [], ◌∷◌, ◌++◌, All, get_or, map, filter, flat_map, Contains, refl, sym, zero, suc}
 use Rattle.std.proofs.Common.{◌∙◌, ap, subst, arith, eqb, eqb-true, eq-eqb}
 use Rattle.std.specs.List.{list_any, range_with_len}
 use Rattle.std.proofs.lemmas.Bool.{cases_Bool, false≢true}
 use Rattle.std.proofs.lemmas.List.{map-append}
-use Rattle.std.proofs.lemmas.List.Elements.{filter-append}
+use Rattle.std.proofs.lemmas.List.Elements.{filter-append, Contains-get_or}
 use Rattle.std.proofs.lemmas.List.Folds.{list_any-append}
 use Rattle.std.proofs.lemmas.List.FromFn.{get_or-map-range_with_len}
 use Rattle.std.proofs.lemmas.Nat.{div-mul-add}
@@ -17,10 +17,10 @@ use Rattle.g1_words.specs.Layout.{HasRoom, end_in, forward, free_regions, need, 
 use Rattle.g1_words.specs.Lists.{has}
 use Rattle.g1_words.specs.References.{root_targets}
 use Rattle.g1_words.specs.Survivors.{in_set}
-use Rattle.g1_words.proofs.Computed.{In-range}
+use Rattle.g1_words.proofs.Computed.{Contains-range}
 use Rattle.g1_words.proofs.Firsts.{Distinct}
-use Rattle.g1_words.proofs.Indices.{get_or-In, is_free_region, range_bounds, taken_in}
-use Rattle.g1_words.proofs.Members.{Contains-from_in, In, In-flat_map, In-map, and_true, any_member, filter_member, has_from_in, in_from_has, map_cases, or_true}
+use Rattle.g1_words.proofs.Indices.{is_free_region, range_bounds, taken_in}
+use Rattle.g1_words.proofs.Members.{Contains-flat_map, Contains-map, and_true, any_member, filter_member, has_from_contains, Contains-from_has, map_cases, or_true}
 use Rattle.g1_words.proofs.NextFit.{free_distinct}
 use Rattle.g1_words.proofs.OneToOne.{kept_cases, outside_stays, survivor_to_free}
 use Rattle.g1_words.proofs.Shapes.{BeginsRun, IsBuilt, IsBuiltBy, built}
@@ -53,28 +53,28 @@ use Rattle.g1_copy.proofs.InPlaceSlices.{Distinct-take}
 use Rattle.g1_copy.proofs.RememberedJoined.{card_there}
 
 -- a member of a list of which all are so is so
-member_of_all : {A : Type 0} (P : A → Type 0) (xs : List A) (x : A) → All P xs → In xs x → P x
-member_of_all P xs x all k = let c = Contains-from_in xs x k in subst P c.2 (all c.0 x c.1)
+member_of_all : {A : Type 0} (P : A → Type 0) (xs : List A) (x : A) → All P xs → Contains xs x → P x
+member_of_all P xs x all k = let c = k in subst P c.2 (all c.0 x c.1)
 
 -- tests that agree on the members of a list find the same
-any_same : (p q : ℕ → Bool) (xs : List ℕ) → ((x : ℕ) → In xs x → p x ≡ q x) → list_any p xs ≡ list_any q xs
+any_same : (p q : ℕ → Bool) (xs : List ℕ) → ((x : ℕ) → Contains xs x → p x ≡ q x) → list_any p xs ≡ list_any q xs
 any_same p q [] f = refl
-any_same p q (x ∷ xs) f = let rest = any_same p q xs (λ y k. f y (inr k)) in λ t. f x (inl refl) t || rest t
+any_same p q (x ∷ xs) f = let rest = any_same p q xs (λ y k. f y (suc k.0, omega (arith, k.1), k.2)) in λ t. f x (zero, omega arith, refl) t || rest t
 
 -- a filter that no member passes
-none_passes : {A : Type 0} (p : A → Bool) (xs : List A) → ((x : A) → In xs x → p x ≡ false) → filter p xs ≡ []
+none_passes : {A : Type 0} (p : A → Bool) (xs : List A) → ((x : A) → Contains xs x → p x ≡ false) → filter p xs ≡ []
 none_passes p [] f = refl
-none_passes p (x ∷ xs) f = let rest = none_passes p xs (λ y k. f y (inr k)) in λ t. cond (f x (inl refl) t) (x ∷ rest t) (rest t)
+none_passes p (x ∷ xs) f = let rest = none_passes p xs (λ y k. f y (suc k.0, omega (arith, k.1), k.2)) in λ t. cond (f x (zero, omega arith, refl) t) (x ∷ rest t) (rest t)
 
 -- what passes two tests, number by number
 by_number : {A : Type 0} (g : A → ℕ) (p q : A → Bool) (f : ℕ → List A) (t : ℕ → Bool) (xs : List ℕ)
-    → ((x : ℕ) → In xs x → map g (filter p (filter q (f x))) ≡ cond (t x) (x ∷ []) []) → map g (filter p (filter q (flat_map f xs))) ≡ filter t xs
+    → ((x : ℕ) → Contains xs x → map g (filter p (filter q (f x))) ≡ cond (t x) (x ∷ []) []) → map g (filter p (filter q (flat_map f xs))) ≡ filter t xs
 by_number g p q f t [] each = refl
 by_number g p q f t (x ∷ xs) each =
     ap (λ ys. map g (filter p ys)) (filter-append q (f x) (flat_map f xs))
     ∙ ap (map g) (filter-append p (filter q (f x)) (filter q (flat_map f xs)))
     ∙ map-append g (filter p (filter q (f x))) (filter p (filter q (flat_map f xs)))
-    ∙ (λ i. each x (inl refl) i ++ by_number g p q f t xs (λ y k. each y (inr k)) i)
+    ∙ (λ i. each x (zero, omega arith, refl) i ++ by_number g p q f t xs (λ y k. each y (suc k.0, omega (arith, k.1), k.2)) i)
     ∙ one (t x)
   where
     one : (b : Bool) → cond b (x ∷ []) [] ++ filter t xs ≡ cond b (x ∷ filter t xs) (filter t xs)
@@ -110,21 +110,21 @@ module _ (i : Image) (set l : List ℕ) (tracked : IsTracked i) (a : HasRoom i.h
 
   -- a region of to-space was free
   to_space_free : (r : ℕ) → has (to_space i.heap l) r ≡ true → kind i.heap r ≡ Free
-  to_space_free r t = (is_free_region i.heap r (taken_in (need i.heap l) (free_regions i.heap) r (in_from_has (to_space i.heap l) r t))).0
+  to_space_free r t = (is_free_region i.heap r (taken_in (need i.heap l) (free_regions i.heap) r (Contains-from_has (to_space i.heap l) r t))).0
 
   -- the set of a region after the survivors moved
   pub set_is : (r : ℕ) → r < i.heap.geometry.n → remembered_of j r ≡ remembered_moved i set l (heap_moved i.heap set l) r
   set_is r lt = get_or-map-range_with_len (remembered_moved i set l (heap_moved i.heap set l)) 0 i.heap.geometry.n r r [] lt (omega arith)
 
   -- a region's cards lie in used regions of the heap after
-  pub cards_used : (r c : ℕ) → r < i.heap.geometry.n → In (remembered_of j r) c → IsUsedCard j.heap c
+  pub cards_used : (r c : ℕ) → r < i.heap.geometry.n → Contains (remembered_of j r) c → IsUsedCard j.heap c
   cards_used r c lt k = (member_of_all (λ c. IsUsedCard j.heap c × (region_of_card j.heap c ≢ r)) (remembered_of j r) c (moved_tracked.image.remembered r lt).elsewhere k).0
 
   -- a refined card lies in a used region
   refined_used : (r c : ℕ) → r < i.heap.geometry.n → is_refined i r c ≡ true → kind i.heap (region_of_card i.heap c) ≢ Free
   refined_used r c lt t = elim (or_true (has (remembered_of i r) c) (has i.log c && is_exact i.heap r c) t) [
-    | inl x ↦ (member_of_all (λ c. IsUsedCard i.heap c × (region_of_card i.heap c ≢ r)) (remembered_of i r) c (tracked.image.remembered r lt).elsewhere (in_from_has (remembered_of i r) c x)).0.used
-    | inr x ↦ (member_of_all (IsUsedCard i.heap) i.log c tracked.image.log.used (in_from_has i.log c (and_true (has i.log c) (is_exact i.heap r c) x).0)).used
+    | inl x ↦ (member_of_all (λ c. IsUsedCard i.heap c × (region_of_card i.heap c ≢ r)) (remembered_of i r) c (tracked.image.remembered r lt).elsewhere (Contains-from_has (remembered_of i r) c x)).0.used
+    | inr x ↦ (member_of_all (IsUsedCard i.heap) i.log c tracked.image.log.used (Contains-from_has i.log c (and_true (has i.log c) (is_exact i.heap r c) x).0)).used
   ]
 
   -- ---- a region in which a humongous object begins
@@ -132,7 +132,7 @@ module _ (i : Image) (set l : List ℕ) (tracked : IsTracked i) (a : HasRoom i.h
   module _ (r : ℕ) (lt : r < i.heap.geometry.n) (two : kind i.heap r ≡ HumongousFirst) where
     -- it isn't of the set
     off_set : has set r ≡ false
-    off_set = false_by (has set r) (λ t. let clash : Ordinary ≡ HumongousFirst = sym (a.ordinary r (Contains-from_in set r (in_from_has set r t))) ∙ two in cc) where
+    off_set = false_by (has set r) (λ t. let clash : Ordinary ≡ HumongousFirst = sym (a.ordinary r (Contains-from_has set r t)) ∙ two in cc) where
       false_by : (b : Bool) → (b ≡ true → ⊥) → b ≡ false
       false_by true f = absurd (f refl)
       false_by false f = refl
@@ -150,13 +150,13 @@ module _ (i : Image) (set l : List ℕ) (tracked : IsTracked i) (a : HasRoom i.h
     o = object_at i.heap (r * i.heap.geometry.w)
 
     -- it is the region's, and the heap's
-    o_in : In (objects_in i.heap r) o
+    o_in : Contains (objects_in i.heap r) o
     o_in = run_object i.heap (w_pos i.heap valid) r two (subst (IsBuiltBy i.heap r) two (valid.shaped r lt))
 
     o_is_one : Contains (objects i.heap) o
-    o_is_one = Contains-from_in (objects i.heap) o (In-flat_map (objects_in i.heap) (regions i.heap) r o (range_member r lt) o_in) where
-      range_member : (r : ℕ) → r < i.heap.geometry.n → In (regions i.heap) r
-      range_member r lt = In-range 0 i.heap.geometry.n r (omega arith) (omega arith)
+    o_is_one = (Contains-flat_map (objects_in i.heap) (regions i.heap) r o (range_member r lt) o_in) where
+      range_member : (r : ℕ) → r < i.heap.geometry.n → Contains (regions i.heap) r
+      range_member r lt = Contains-range 0 i.heap.geometry.n r (omega arith) (omega arith)
 
     -- its address lies in the region
     start_region : region_of i.heap (r * i.heap.geometry.w) ≡ r
@@ -171,9 +171,9 @@ module _ (i : Image) (set l : List ℕ) (tracked : IsTracked i) (a : HasRoom i.h
     object_same = object_stays i set l j valid a.ordinary a.survivors a.room moved o o_is_one outside
 
     -- what a root names in the region stands at its start
-    root_there : (x : ℕ) → In (root_targets i.heap) x → region_of i.heap x ≡ r → x ≡ r * i.heap.geometry.w
+    root_there : (x : ℕ) → Contains (root_targets i.heap) x → region_of i.heap x ≡ r → x ≡ r * i.heap.geometry.w
     root_there x k e =
-        let m = home i.heap valid (object_at i.heap x) (valid.root_named x (Contains-from_in (root_targets i.heap) x k)) in
+        let m = home i.heap valid (object_at i.heap x) (valid.root_named x k) in
         let same : m.0 ≡ r = sym (home_region i.heap valid m.0 (object_at i.heap x) m.2) ∙ e in
         elim m.2.2 [
           | inl y ↦ let clash : Ordinary ≡ HumongousFirst = sym y.kind ∙ ap (kind i.heap) same ∙ two in cc
@@ -181,7 +181,7 @@ module _ (i : Image) (set l : List ℕ) (tracked : IsTracked i) (a : HasRoom i.h
         ]
 
     -- a root that names the start afterwards named it before
-    root_before : (x : ℕ) → In (root_targets i.heap) x → forward i.heap l x ≡ r * i.heap.geometry.w → region_of i.heap x ≡ r
+    root_before : (x : ℕ) → Contains (root_targets i.heap) x → forward i.heap l x ≡ r * i.heap.geometry.w → region_of i.heap x ≡ r
     root_before x k e = elim (kept_cases i.heap set l s a.ordinary a.survivors a.room (object_at i.heap x) (root_kept i set l j valid a.ordinary a.survivors a.room moved x k)) [
       | inl y ↦ ap (region_of i.heap) (sym (outside_stays i.heap set l s a.ordinary a.survivors a.room x y.0) ∙ e) ∙ start_region
       | inr y ↦
@@ -199,8 +199,8 @@ module _ (i : Image) (set l : List ℕ) (tracked : IsTracked i) (a : HasRoom i.h
 
       to : has (root_targets j.heap) (r * i.heap.geometry.w) ≡ true → is_rooted i.heap r ≡ true
       to t =
-          let k : In (map (forward i.heap l) (root_targets i.heap)) (r * i.heap.geometry.w) =
-          subst (λ xs. In xs (r * i.heap.geometry.w)) (roots_renamed (forward i.heap l) i.heap.roots) (in_from_has (root_targets j.heap) (r * i.heap.geometry.w) t) in
+          let k : Contains (map (forward i.heap l) (root_targets i.heap)) (r * i.heap.geometry.w) =
+          subst (λ xs. Contains xs (r * i.heap.geometry.w)) (roots_renamed (forward i.heap l) i.heap.roots) (Contains-from_has (root_targets j.heap) (r * i.heap.geometry.w) t) in
           let m = map_cases (forward i.heap l) (root_targets i.heap) (r * i.heap.geometry.w) k in
           any_from_in (λ x. eqb (region_of i.heap x) r) (root_targets i.heap) m.0 m.1 (eq-eqb (region_of i.heap m.0) r (root_before m.0 m.1 m.2))
 
@@ -209,9 +209,9 @@ module _ (i : Image) (set l : List ℕ) (tracked : IsTracked i) (a : HasRoom i.h
           let m = any_member (λ x. eqb (region_of i.heap x) r) (root_targets i.heap) t in
           let at : m.0 ≡ r * i.heap.geometry.w = root_there m.0 m.1 (eqb-true (region_of i.heap m.0) r m.2) in
           let stays : forward i.heap l m.0 ≡ r * i.heap.geometry.w = ap (forward i.heap l) at ∙ outside_stays i.heap set l s a.ordinary a.survivors a.room (r * i.heap.geometry.w) outside in
-          let k : In (map (forward i.heap l) (root_targets i.heap)) (r * i.heap.geometry.w) =
-          subst (In (map (forward i.heap l) (root_targets i.heap))) stays (In-map (forward i.heap l) (root_targets i.heap) m.0 m.1) in
-          has_from_in (root_targets j.heap) (r * i.heap.geometry.w) (subst (λ xs. In xs (r * i.heap.geometry.w)) (sym (roots_renamed (forward i.heap l) i.heap.roots)) k)
+          let k : Contains (map (forward i.heap l) (root_targets i.heap)) (r * i.heap.geometry.w) =
+          subst (Contains (map (forward i.heap l) (root_targets i.heap))) stays (Contains-map (forward i.heap l) (root_targets i.heap) m.0 m.1) in
+          has_from_contains (root_targets j.heap) (r * i.heap.geometry.w) (subst (λ xs. Contains xs (r * i.heap.geometry.w)) (sym (roots_renamed (forward i.heap l) i.heap.roots)) k)
 
     -- the object lies in no region that was free
     off_free : (q : ℕ) → kind i.heap q ≡ Free → lies_in i.heap q o ≡ false
@@ -238,13 +238,13 @@ module _ (i : Image) (set l : List ℕ) (tracked : IsTracked i) (a : HasRoom i.h
       same_lies q = ap (λ (x : Object). lies_in i.heap q x) object_same
 
       -- a card of its set is one of the heap's, refined and outside the set, or of to-space and exact
-      card_is : (c : ℕ) → In (remembered_of j r) c → (c < card_count i.heap)
+      card_is : (c : ℕ) → Contains (remembered_of j r) c → (c < card_count i.heap)
           × (((is_refined i r c && not (card_in i.heap set c)) || (card_in i.heap (to_space i.heap l) c && is_exact j.heap r c)) ≡ true)
       card_is c k =
           let test : ℕ → Bool = λ c. (is_refined i r c && not (card_in i.heap set c)) || (card_in i.heap (to_space i.heap l) c && is_exact j.heap r c) in
           let same : remembered_of j r ≡ cards_where i.heap (λ c. (is_refined i r c && not (card_in i.heap set c)) || (card_in i.heap (to_space i.heap l) c && is_exact j.heap r c)) =
           set_is r lt ∙ (λ q. cond (off_set q) [] (cond (off_to_space q) (cards_where j.heap (is_exact j.heap r)) (cards_where i.heap test))) in
-          let m = filter_member test (range_with_len 0 (card_count i.heap)) c (subst (λ xs. In xs c) same k) in
+          let m = filter_member test (range_with_len 0 (card_count i.heap)) c (subst (λ xs. Contains xs c) same k) in
           let b = range_bounds 0 (card_count i.heap) c m.0 in
           (omega arith, m.1)
 
@@ -258,7 +258,7 @@ module _ (i : Image) (set l : List ℕ) (tracked : IsTracked i) (a : HasRoom i.h
       by_its_fate c fate there e = ap (λ x. is_filled_fate x || (not (lies_in i.heap (region_of_card i.heap c) o) && is_exact i.heap r c)) (are.each (region_of_card i.heap c) there ∙ e)
 
       -- an exact card of to-space names it
-      in_to_space : (c : ℕ) → In (remembered_of j r) c → has (to_space i.heap l) (region_of_card i.heap c) ≡ true → by_card c ≡ true
+      in_to_space : (c : ℕ) → Contains (remembered_of j r) c → has (to_space i.heap l) (region_of_card i.heap c) ≡ true → by_card c ≡ true
       in_to_space c k there =
           let free = to_space_free (region_of_card i.heap c) there in
           let one : is_exact j.heap r c ≡ true = elim (or_true (is_refined i r c && not (card_in i.heap set c)) (card_in i.heap (to_space i.heap l) c && is_exact j.heap r c) (card_is c k).1) [
@@ -278,14 +278,14 @@ module _ (i : Image) (set l : List ℕ) (tracked : IsTracked i) (a : HasRoom i.h
           λ q. not (same_lies (region_of_card i.heap c) q) && same q
 
       -- on each card of the set the tests agree
-      cards_tell : (c : ℕ) → In (remembered_of j r) c → by_card c ≡ is_naming i.heap fates r c
+      cards_tell : (c : ℕ) → Contains (remembered_of j r) c → by_card c ≡ is_naming i.heap fates r c
       cards_tell c k =
           let x : ℕ = region_of_card i.heap c in
           let there : region_of_card i.heap c < i.heap.geometry.n = card_there i.heap valid c (card_is c k).0 in
           elim (has_fate set (to_space i.heap l) once (region_of_card i.heap c)) [
             | is_freed e f ↦ (
                 let none : card_in i.heap (to_space i.heap l) c ≡ false =
-                used_not_to_space i.heap set l s a.ordinary a.survivors a.room x (λ z. let clash : Ordinary ≡ Free = sym (a.ordinary x (Contains-from_in set x (in_from_has set x e))) ∙ z in cc) in
+                used_not_to_space i.heap set l s a.ordinary a.survivors a.room x (λ z. let clash : Ordinary ≡ Free = sym (a.ordinary x (Contains-from_has set x e)) ∙ z in cc) in
                 let never : true ≡ false = sym (card_is c k).1 ∙ (λ q. (is_refined i r c && not (e q)) || (none q && is_exact j.heap r c)) ∙ drop (is_refined i r c) in
                 cc)
             | is_filled t less at e g f ↦ in_to_space c k g ∙ sym (by_its_fate c (Filled t) there f)
@@ -323,7 +323,7 @@ module _ (i : Image) (set l : List ℕ) (tracked : IsTracked i) (a : HasRoom i.h
     one_region r false lt e =
         ap (λ os. map (λ (o : Object). region_of i.heap o.at) (filter (λ o. not (is_named j.heap o)) os))
         (none_passes (λ (o : Object). is_first (kind j.heap (region_of j.heap o.at))) (objects_in j.heap r)
-        (λ o k. ap (λ x. is_first (kind j.heap x)) (s_after.in_region r o (Contains-from_in (objects_in j.heap r) o k)) ∙ kind_tells r lt e))
+        (λ o k. ap (λ x. is_first (kind j.heap x)) (s_after.in_region r o k) ∙ kind_tells r lt e))
       where
         s_after : IsSound j.heap
         s_after = built_is_sound j.heap (built j.heap moved_tracked.image.heap)
@@ -355,6 +355,6 @@ module _ (i : Image) (set l : List ℕ) (tracked : IsTracked i) (a : HasRoom i.h
   pub cards_there : (remembered : List (List ℕ)) → remembered ≡ map (remembered_moved i set l (heap_moved i.heap set l)) (regions i.heap)
       → (r : ℕ) → r < i.heap.geometry.n → All (λ c. c < card_count i.heap) (cards_at remembered r)
   cards_there remembered e r lt k d less =
-      let m : In (cards_at remembered r) (get_or (cards_at remembered r) k d) = get_or-In (cards_at remembered r) k d less in
+      let m : Contains (cards_at remembered r) (get_or (cards_at remembered r) k d) = Contains-get_or (cards_at remembered r) k d less in
       card_inside j.heap (get_or (cards_at remembered r) k d) moved_tracked.image.heap
-      (cards_used r (get_or (cards_at remembered r) k d) lt (subst (λ xs. In (cards_at xs r) (get_or (cards_at remembered r) k d)) e m))
+      (cards_used r (get_or (cards_at remembered r) k d) lt (subst (λ xs. Contains (cards_at xs r) (get_or (cards_at remembered r) k d)) e m))

@@ -1,12 +1,11 @@
 -- A small heap with a humongous object keeps all rules.
-use Rattle.std.proofs.Common.{◌≡◌, ℕ, zero, suc, ◌+◌, ◌-◌, ◌*◌, ◌^◌, ◌<◌, ◌≤◌, inl, inr, true, ◌||◌, [], ◌∷◌, refl, sym, ap, subst, arith, lit<, lit≤, ltb, eqb, eqb-true, ltb-true, le-ltb, false}
+use Rattle.std.proofs.Common.{◌≡◌, ℕ, zero, suc, ◌+◌, ◌-◌, ◌*◌, ◌^◌, ◌<◌, ◌≤◌, inl, inr, true, ◌||◌, [], ◌∷◌, refl, sym, ap, subst, arith, lit<, lit≤, ltb, eqb, eqb-true, ltb-true, le-ltb, false, Contains}
 use Rattle.std.specs.List.{list_all, range_with_len}
 use Rattle.std.proofs.lemmas.Bool.{or_cases}
 use Rattle.g1_words.specs.declared.object.Object.{Object}
 use Rattle.g1_words.specs.declared.region.Kind.TheVariants.{Ordinary, HumongousFirst, Continuation}
 use Rattle.g1_words.specs.Heap.{top, start, word, objects, object_at}
 use Rattle.g1_words.specs.Valid.{MayBePinned, IsObject, IsFirst, HasObject, IsSlotOf, IsReference, IsWholeRun, IsShaped, IsShapedBy, IsValid}
-use Rattle.g1_words.proofs.Members.{In, In-from_contains}
 use Rattle.g1_words.proofs.Computed.{has_contains}
 use Rattle.g1_words.proofs.Lists.{all_from_in}
 use Rattle.g1_examples.specs.Examples.{humongous_owner}
@@ -93,18 +92,18 @@ slot0 p low high = elim (or_cases (eqb (word humongous_owner p) 0) (eqb p 17) th
         subst (λ m. (eqb (word humongous_owner m) 0 || eqb m 17) ≡ true) same (each_below (λ p. eqb (word humongous_owner p) 0 || eqb p 17) 20 1 refl (p - 1) (omega arith))
 
 slots9 : (o : Object) (p : ℕ) → HasObject humongous_owner o → IsSlotOf o p → IsReference humongous_owner (word humongous_owner p)
-slots9 o p has s = of_member (In-from_contains (objects humongous_owner) o (has_contains humongous_owner o has))
+slots9 o p has s = of_member (has_contains humongous_owner o has)
   where
-    of_member : In (objects humongous_owner) o → IsReference humongous_owner (word humongous_owner p)
-    of_member (inl e) =
+    of_member : Contains (objects humongous_owner) o → IsReference humongous_owner (word humongous_owner p)
+    of_member (zero, b, e) =
         let at : 0 ≡ o.at = ap (λ (o : Object). o.at) e in
         let refs : 20 ≡ o.refs = ap (λ (o : Object). o.refs) e in
         slot0 p (omega (arith, s.0, at)) (omega (arith, s.1, at, refs))
-    of_member (inr (inl e)) =
+    of_member (suc zero, b, e) =
         let at : 48 ≡ o.at = ap (λ (o : Object). o.at) e in
         let refs : 0 ≡ o.refs = ap (λ (o : Object). o.refs) e in
         absurd (omega (arith, s.0, s.1, at, refs))
-    of_member (inr (inr i)) = absurd i
+    of_member (suc (suc k), b, e) = absurd (omega (arith, b))
 
 pins9 : (r : ℕ) → MayBePinned humongous_owner r
 pins9 zero t = absurd (let clash : false ≡ true = t in cc)

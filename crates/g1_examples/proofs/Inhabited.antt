@@ -1,12 +1,11 @@
 -- A small image keeps all rules, so that the laws' premises are met by something.
-use Rattle.std.proofs.Common.{◌≡◌, ◌≢◌, ℕ, zero, suc, ◌+◌, ◌*◌, ◌^◌, ◌<◌, ◌≤◌, inl, inr, Bool, true, false, ◌||◌, [], ◌∷◌, refl, sym, ap, subst, arith, lit<, lit≤, ltb}
+use Rattle.std.proofs.Common.{◌≡◌, ◌≢◌, ℕ, zero, suc, ◌+◌, ◌*◌, ◌^◌, ◌<◌, ◌≤◌, inr, Bool, true, false, ◌||◌, [], ◌∷◌, refl, sym, ap, subst, arith, lit<, lit≤, ltb, Contains}
 use Rattle.std.proofs.Common.{eqb, eqb-true, ltb-true, le-ltb}
 use Rattle.std.specs.List.{list_all, range_with_len}
 use Rattle.g1_words.specs.declared.object.Object.{Object}
 use Rattle.g1_words.specs.declared.region.Kind.TheVariants.{Ordinary}
 use Rattle.g1_words.specs.Heap.{top, start, word, objects, object_at}
 use Rattle.g1_words.specs.Valid.{MayBePinned, IsObject, HasObject, IsSlotOf, IsReference, IsShaped, IsShapedBy, IsValid}
-use Rattle.g1_words.proofs.Members.{In, In-from_contains}
 use Rattle.g1_words.proofs.Computed.{has_contains}
 use Rattle.g1_words.proofs.Lists.{all_from_in}
 use Rattle.g1_image.specs.Image.{IsUsedCard, IsRememberedSet, IsImage, remembered_of, region_of_card}
@@ -71,19 +70,19 @@ has16 : HasObject dead_owner (object_at dead_owner 16)
 has16 = record { place = 1; others = object_at dead_owner 16 ∷ []; in_heap = lit< tt; holds = (refl, object16, refl); one_of = (0, lit< tt, refl) }
 
 slots5 : (o : Object) (p : ℕ) → HasObject dead_owner o → IsSlotOf o p → IsReference dead_owner (word dead_owner p)
-slots5 o p has s = of_member (In-from_contains (objects dead_owner) o (has_contains dead_owner o has))
+slots5 o p has s = of_member (has_contains dead_owner o has)
   where
-    of_member : In (objects dead_owner) o → IsReference dead_owner (word dead_owner p)
-    of_member (inl e) =
+    of_member : Contains (objects dead_owner) o → IsReference dead_owner (word dead_owner p)
+    of_member (zero, b, e) =
         let at : 0 ≡ o.at = ap (λ (o : Object). o.at) e in
         let refs : 1 ≡ o.refs = ap (λ (o : Object). o.refs) e in
         let one : p ≡ 1 = omega (arith, s.0, s.1, at, refs) in
         subst (λ p. IsReference dead_owner (word dead_owner p)) (sym one) (inr (object_at dead_owner 16, has16, refl))
-    of_member (inr (inl e)) =
+    of_member (suc zero, b, e) =
         let at : 16 ≡ o.at = ap (λ (o : Object). o.at) e in
         let refs : 0 ≡ o.refs = ap (λ (o : Object). o.refs) e in
         absurd (omega (arith, s.0, s.1, at, refs))
-    of_member (inr (inr i)) = absurd i
+    of_member (suc (suc k), b, e) = absurd (omega (arith, b))
 
 pins5 : (r : ℕ) → MayBePinned dead_owner r
 pins5 zero t = refl

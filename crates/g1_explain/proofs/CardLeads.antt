@@ -1,5 +1,5 @@
 -- The slots on some cards have those references of the slots outside a set that are looked for, if these all lie on them.
-use Rattle.std.proofs.Common.{◌≡◌, ◌<◌, ℕ, zero, suc, ◌*◌, ◌/◌, inl, Bool, true, false, not, cond, ◌&&◌, List, [], ◌∷◌, map, filter, flat_map, Contains, arith, refl}
+use Rattle.std.proofs.Common.{◌≡◌, ◌<◌, ℕ, zero, suc, ◌*◌, ◌/◌, Bool, true, false, not, cond, ◌&&◌, List, [], ◌∷◌, map, filter, flat_map, Contains, arith, refl}
 use Rattle.std.proofs.Common.{sym, ap, subst, ◌∙◌, eqb, eqb-true, eq-eqb}
 use Rattle.std.proofs.lemmas.Bool.{false≢true}
 use Rattle.std.proofs.lemmas.List.Kept.{AllPairs-from_increasing}
@@ -10,7 +10,7 @@ use Rattle.g1_words.specs.Survivors.{in_set}
 use Rattle.g1_words.specs.Valid.{IsValid}
 use Rattle.g1_words.proofs.Bounds.{cards_in_region, card_in_region}
 use Rattle.g1_words.proofs.Firsts.{filter_twice}
-use Rattle.g1_words.proofs.Members.{In, In-from_contains, Contains-from_in, In-map, In-flat_map, In-filter, filter_member, flat_map_cases, has_from_in, in_from_has}
+use Rattle.g1_words.proofs.Members.{Contains-map, Contains-flat_map, Contains-filter, filter_member, flat_map_cases, has_from_contains, Contains-from_has}
 use Rattle.g1_words.proofs.Ordered.{Ordered, Ordered-from_pairs, same_order}
 use Rattle.g1_words.proofs.Rising.{Ordered-flat_map, Ordered-filter}
 use Rattle.g1_words.proofs.Lists.{flat_of_flat, flat_of_filter, all_from_in}
@@ -38,26 +38,26 @@ module _ (h : Heap) (window cards : List ℕ) (to : ℕ → Bool) (valid : IsVal
   abbrev of_slot : ℕ → List Lead
   of_slot p = lead (Card (card_of h p) p) (word h p)
 
-  on_card : (c p : ℕ) → In (slots_on h c) p → In (all_slots h) p × (card_of h p ≡ c)
+  on_card : (c p : ℕ) → Contains (slots_on h c) p → Contains (all_slots h) p × (card_of h p ≡ c)
   on_card c p i = let m = filter_member (λ p. eqb (card_of h p) c) (all_slots h) p i in (m.0, eqb-true (card_of h p) c m.1)
 
   -- the cards' slots are those that lie on one of the cards
   card_slots : flat_map (slots_on h) cards ≡ filter on_cards (all_slots h)
   card_slots =
-      let ordered : Ordered (λ x y. x < y) (all_slots h) = slots_ordered h [] [] valid (no_cards h) (λ c k. absurd (In-from_contains [] c k)) (λ e i t f. absurd (false≢true t)) in
+      let ordered : Ordered (λ x y. x < y) (all_slots h) = slots_ordered h [] [] valid (no_cards h) (λ c k. absurd k) (λ e i t f. absurd (false≢true t)) in
       same_order (λ x y. x < y) (λ x y l m. omega (arith, l, m)) (flat_map (slots_on h) cards) (filter on_cards (all_slots h))
       (Ordered-flat_map (λ x y. x < y) (λ x y. x < y) (slots_on h) cards (Ordered-from_pairs (λ x y. x < y) cards (AllPairs-from_increasing cards rising.rise))
       (λ c i. Ordered-filter (λ x y. x < y) (λ p. eqb (card_of h p) c) (all_slots h) ordered)
-      (λ c d p q i j lt a b. apart h [] [] valid (no_cards h) (λ c k. absurd (In-from_contains [] c k)) (λ e i t f. absurd (false≢true t)) c d p q lt a b))
+      (λ c d p q i j lt a b. apart h [] [] valid (no_cards h) (λ c k. absurd k) (λ e i t f. absurd (false≢true t)) c d p q lt a b))
       (Ordered-filter (λ x y. x < y) on_cards (all_slots h) ordered)
       (λ p i.
       let m = flat_map_cases (slots_on h) cards p i in
       let o = on_card m.0 p m.2 in
-      In-filter on_cards (all_slots h) p o.0 (has_from_in cards (card_of h p) (subst (In cards) (sym o.1) m.1)))
+      Contains-filter on_cards (all_slots h) p o.0 (has_from_contains cards (card_of h p) (subst (Contains cards) (sym o.1) m.1)))
       (λ p i.
       let m = filter_member on_cards (all_slots h) p i in
-      In-flat_map (slots_on h) cards (card_of h p) p (in_from_has cards (card_of h p) m.1)
-      (In-filter (λ q. eqb (card_of h q) (card_of h p)) (all_slots h) p m.0 (eq-eqb (card_of h p) (card_of h p) refl)))
+      Contains-flat_map (slots_on h) cards (card_of h p) p (Contains-from_has cards (card_of h p) m.1)
+      (Contains-filter (λ q. eqb (card_of h q) (card_of h p)) (all_slots h) p m.0 (eq-eqb (card_of h p) (card_of h p) refl)))
 
   -- a card lies in the region of its slots
   on_window : (p : ℕ) → has cards (card_of h p) ≡ true → in_set h window p ≡ false
@@ -65,23 +65,23 @@ module _ (h : Heap) (window cards : List ℕ) (to : ℕ → Bool) (valid : IsVal
       let l = valid.limits in
       let m = cards_in_region h.geometry.w h.geometry.k h.geometry.n l in
       let e : p / h.geometry.k * h.geometry.k / h.geometry.w ≡ p / h.geometry.w = card_in_region h.geometry.w h.geometry.k m.0 p (omega (arith, l.k_least)) m.1 in
-      ap (has window) (sym e) ∙ outside (card_of h p) (Contains-from_in cards (card_of h p) (in_from_has cards (card_of h p) t))
+      ap (has window) (sym e) ∙ outside (card_of h p) (Contains-from_has cards (card_of h p) t)
 
-  ref_there : (p a : ℕ) → In (all_slots h) p → word h p ≡ suc a → Contains (refs h) (record { slot = p; target = a })
+  ref_there : (p a : ℕ) → Contains (all_slots h) p → word h p ≡ suc a → Contains (refs h) (record { slot = p; target = a })
   ref_there p a i e =
       let r : Ref = record { slot = p; target = a } in
-      let k : In (named (word h p)) a = subst (λ x. In (named x) a) (sym e) (inl refl) in
-      let j : In (flat_map (refs_at h) (all_slots h)) r = In-flat_map (refs_at h) (all_slots h) p r i (In-map (λ a. record { slot = p; target = a }) (named (word h p)) a k) in
-      Contains-from_in (refs h) r (subst (λ l. In l r) (sym (flat_twice h (objects h))) j)
+      let k : Contains (named (word h p)) a = subst (λ x. Contains (named x) a) (sym e) (zero, omega arith, refl) in
+      let j : Contains (flat_map (refs_at h) (all_slots h)) r = Contains-flat_map (refs_at h) (all_slots h) p r i (Contains-map (λ a. record { slot = p; target = a }) (named (word h p)) a k) in
+      subst (λ l. Contains l r) (sym (flat_twice h (objects h))) j
 
   -- a slot that has such a reference lies on a card if it lies outside
-  tells : (p a : ℕ) (b o : Bool) → has cards (card_of h p) ≡ b → in_set h window p ≡ o → In (all_slots h) p → word h p ≡ suc a → to a ≡ true → b ≡ not o
+  tells : (p a : ℕ) (b o : Bool) → has cards (card_of h p) ≡ b → in_set h window p ≡ o → Contains (all_slots h) p → word h p ≡ suc a → to a ≡ true → b ≡ not o
   tells p a true true e f i w t = absurd (false≢true (sym (on_window p e) ∙ f))
   tells p a true false e f i w t = refl
   tells p a false true e f i w t = refl
   tells p a false false e f i w t =
       let c : Contains cards (card_of h p) = there (record { slot = p; target = a }) (ref_there p a i w) t f in
-      absurd (false≢true (sym e ∙ has_from_in cards (card_of h p) (In-from_contains cards (card_of h p) c)))
+      absurd (false≢true (sym e ∙ has_from_contains cards (card_of h p) c))
 
   abbrev crosses : Ref → Bool
   crosses e = not (in_set h window e.slot) && to e.target
@@ -101,7 +101,7 @@ module _ (h : Heap) (window cards : List ℕ) (to : ℕ → Bool) (valid : IsVal
   by_slot_in p a false true false f = refl
   by_slot_in p a false false false f = refl
 
-  by_slot_at : (p x : ℕ) → In (all_slots h) p → word h p ≡ x
+  by_slot_at : (p x : ℕ) → Contains (all_slots h) p → word h p ≡ x
       → cond (on_cards p) (filter enters (lead (Card (card_of h p) p) x)) [] ≡ map of_ref (filter crosses (map (λ a. record { slot = p; target = a }) (named x)))
   by_slot_at p zero i e = empty (on_cards p)
     where

@@ -1,13 +1,14 @@
 -- The paths of what keeps an object are first ones.
-use Rattle.std.proofs.Common.{◌≡◌, ◌≢◌, ℕ, zero, suc, ◌+◌, ◌<◌, ◌⊎◌, inl, inr, true, false, List, [], ◌∷◌, ◌++◌, length, slice_index, refl, sym, ◌∙◌, ap, subst, arith, append_assoc, append-nil}
+use Rattle.std.proofs.Common.{◌≡◌, ◌≢◌, ℕ, zero, suc, ◌+◌, ◌<◌, ◌⊎◌, inl, inr, true, false, List, [], ◌∷◌, ◌++◌, length, slice_index, refl, sym, ◌∙◌, ap, subst, arith, append_assoc, append-nil, Contains}
 use Rattle.std.proofs.lemmas.Bool.{false≢true}
 use Rattle.std.proofs.lemmas.List.{map-append}
+use Rattle.std.proofs.lemmas.List.Elements.{Contains-get_or}
 use Rattle.g1_words.specs.Heap.{Heap, word, card_of, region_of, object_at, objects}
-use Rattle.g1_words.specs.References.{Ref, refs, named, root_targets, targets, refs_at}
+use Rattle.g1_words.specs.References.{Ref, refs, named, targets, refs_at}
 use Rattle.g1_words.specs.Live.{seed, child, Live}
 use Rattle.g1_words.specs.Survivors.{in_set, Survivors}
 use Rattle.g1_words.specs.Valid.{IsValid}
-use Rattle.g1_words.proofs.Members.{In, In-from_contains, Contains-from_in, In-flat_map, In-map, has_from_in}
+use Rattle.g1_words.proofs.Members.{Contains-flat_map, Contains-map, has_from_contains, flat_map_cases, map_cases, Contains-filter, Contains-from_has}
 use Rattle.g1_words.proofs.OneToOne.{reached_object}
 use Rattle.g1_words.proofs.Sound.{sound}
 use Rattle.g1_rem.specs.Slots.{all_slots}
@@ -33,26 +34,26 @@ use Rattle.g1_explain.proofs.FirstPath.{code, codes, IsTrail, begin, go, none_be
 -- ---- a path from a root
 
 -- a root's reference
-root_lead : (h : Heap) (k a : ℕ) → k < length h.roots → slice_index h.roots k ≡ suc a → In (root_leads h) (record { finder = Root k; target = a })
+root_lead : (h : Heap) (k a : ℕ) → k < length h.roots → slice_index h.roots k ≡ suc a → Contains (root_leads h) (record { finder = Root k; target = a })
 root_lead h k a lt w =
     let l : Lead = record { finder = Root k; target = a } in
-    In-flat_map (λ k. Rattle.g1_explain.specs.Finders.lead (Root k) (slice_index h.roots k)) (Rattle.std.specs.List.range_with_len 0 (length h.roots)) k l
-    (Rattle.g1_words.proofs.Computed.In-range 0 (length h.roots) k (omega arith) (omega (arith, lt)))
-    (subst (λ x. In (Rattle.g1_explain.specs.Finders.lead (Root k) x) l) (sym w) (inl refl))
+    Contains-flat_map (λ k. Rattle.g1_explain.specs.Finders.lead (Root k) (slice_index h.roots k)) (Rattle.std.specs.List.range_with_len 0 (length h.roots)) k l
+    (Rattle.g1_words.proofs.Computed.Contains-range 0 (length h.roots) k (omega arith) (omega (arith, lt)))
+    (subst (λ x. Contains (Rattle.g1_explain.specs.Finders.lead (Root k) x) l) (sym w) (zero, omega arith, refl))
 
 -- the root of this number references a live object
 pub live_root : (h : Heap) (k a : ℕ) → k < length h.roots → slice_index h.roots k ≡ suc a → Live h a
 live_root h k a lt w =
-    seed (Contains-from_in (root_targets h) a (In-flat_map named h.roots (slice_index h.roots k) a (Rattle.g1_words.proofs.Indices.get_or-In h.roots k 0 lt) (subst (λ x. In (named x) a) (sym w) (inl refl))))
+    seed (Contains-flat_map named h.roots (slice_index h.roots k) a (Rattle.g1_words.proofs.Indices.Contains-get_or h.roots k 0 lt) (subst (λ x. Contains (named x) a) (sym w) (zero, omega arith, refl)))
 
-slot_target : (h : Heap) (b s a : ℕ) → s < (object_at h b).refs → word h (b + 1 + s) ≡ suc a → In (targets h b) a
+slot_target : (h : Heap) (b s a : ℕ) → s < (object_at h b).refs → word h (b + 1 + s) ≡ suc a → Contains (targets h b) a
 slot_target h b s a fit w =
-    In-flat_map (λ p. named (word h p)) (Rattle.std.specs.List.range_with_len (b + 1) (object_at h b).refs) (b + 1 + s) a
-    (Rattle.g1_words.proofs.Computed.In-range (b + 1) (object_at h b).refs (b + 1 + s) (omega arith) (omega (arith, fit))) (subst (λ x. In (named x) a) (sym w) (inl refl))
+    Contains-flat_map (λ p. named (word h p)) (Rattle.std.specs.List.range_with_len (b + 1) (object_at h b).refs) (b + 1 + s) a
+    (Rattle.g1_words.proofs.Computed.Contains-range (b + 1) (object_at h b).refs (b + 1 + s) (omega arith) (omega (arith, fit))) (subst (λ x. Contains (named x) a) (sym w) (zero, omega arith, refl))
 
 -- what a slot of a live object references is live
 pub live_slot : (h : Heap) (b s a : ℕ) → Live h b → s < (object_at h b).refs → word h (b + 1 + s) ≡ suc a → Live h a
-live_slot h b s a live fit w = child live (Contains-from_in (targets h b) a (slot_target h b s a fit w))
+live_slot h b s a live fit w = child live (slot_target h b s a fit w)
 
 path_push : (legs : List Leg) (l : Leg) → path_of (legs ++ l ∷ []) ≡ path_of legs ++ Rattle.g1_explain.specs.Keeping.number l.finder ∷ []
 path_push legs l = map-append (λ (l : Leg). Rattle.g1_explain.specs.Keeping.number l.finder) legs (l ∷ [])
@@ -99,7 +100,7 @@ module _ (h : Heap) (valid : IsValid h) where
       let s = searched h (used h) found survivors in
       let r : IsRoute h found (all_finders h (used h) found) (suc p.place) legs =
       subst (λ fs. IsRoute h found fs (suc p.place) legs) (sym t.1) (route_more h found p.finders t.0 (suc p.place) legs p.route) in
-      let no_card : (e : Ref) → In (refs h) e → in_set h (used h) e.slot ≡ false → ⊥ = λ e i out. false≢true (sym out ∙ slot_used h valid e i) in
+      let no_card : (e : Ref) → Contains (refs h) e → in_set h (used h) e.slot ≡ false → ⊥ = λ e i out. false≢true (sym out ∙ slot_used h valid e i) in
       let leads : LeadsTo h (path_of legs) (suc (slice_index found p.place)) =
       all_legs h (used h) found s (λ ls b. LeadsTo h (path_of ls) (suc b)) (λ k b lt w. (lt, w)) (λ e i out. absurd (no_card e i out))
       (λ ls m b n c l i fit w. subst (λ q. LeadsTo h q (suc c)) (sym (path_push ls (leg h (Slot m b n) c))) (leads_to_push h (path_of ls) b n (suc c) l fit w))
@@ -150,10 +151,10 @@ into_some h r (p ∷ ss) y l = omega arith
 
 module _ (h : Heap) (valid : IsValid h) (r : ℕ) where
   home : (a : ℕ) → in_set h (r ∷ []) a ≡ true → region_of h a ≡ r
-  home a t = elim (Rattle.g1_words.proofs.Members.in_from_has (r ∷ []) (region_of h a) t) [ inl e ↦ sym e | inr k ↦ absurd k ]
+  home a t = elim (Rattle.g1_words.proofs.Members.Contains-from_has (r ∷ []) (region_of h a) t) [ inl e ↦ sym e | inr k ↦ absurd k ]
 
   at_home : (a : ℕ) → region_of h a ≡ r → in_set h (r ∷ []) a ≡ true
-  at_home a e = has_from_in (r ∷ []) (region_of h a) (inl (sym e))
+  at_home a e = has_from_contains (r ∷ []) (region_of h a) (inl (sym e))
 
   away : (a : ℕ) → region_of h a ≢ r → in_set h (r ∷ []) a ≡ false
   away a d = by (in_set h (r ∷ []) a) refl
@@ -162,28 +163,28 @@ module _ (h : Heap) (valid : IsValid h) (r : ℕ) where
       by false e = e
       by true e = absurd (d (home a e))
 
-  pub slot_there : (e : Ref) → In (refs h) e → In (all_slots h) e.slot × (word h e.slot ≡ suc e.target)
+  pub slot_there : (e : Ref) → Contains (refs h) e → Contains (all_slots h) e.slot × (word h e.slot ≡ suc e.target)
   slot_there e i =
-      let j : In (Rattle.std.proofs.Common.flat_map (refs_at h) (all_slots h)) e = subst (λ l. In l e) (flat_twice h (objects h)) i in
+      let j : Contains (Rattle.std.proofs.Common.flat_map (refs_at h) (all_slots h)) e = subst (λ l. Contains l e) (flat_twice h (objects h)) i in
       let m = Rattle.g1_words.proofs.Members.flat_map_cases (refs_at h) (all_slots h) e j in
       let q = Rattle.g1_words.proofs.Members.map_cases (λ a. record { slot = m.0; target = a }) (named (word h m.0)) e m.2 in
       let s : m.0 ≡ e.slot = ap (λ (x : Ref). x.slot) q.2 in
       let t : q.0 ≡ e.target = ap (λ (x : Ref). x.target) q.2 in
       let n = Rattle.g1_words.proofs.Sound.named_is (word h m.0) q.0 q.1 in
-      (subst (In (all_slots h)) s m.1, subst (λ p. word h p ≡ suc e.target) s (omega (arith, n, t)))
+      (subst (Contains (all_slots h)) s m.1, subst (λ p. word h p ≡ suc e.target) s (omega (arith, n, t)))
 
-  pub ref_there : (p a : ℕ) → In (all_slots h) p → word h p ≡ suc a → In (refs h) (record { slot = p; target = a })
+  pub ref_there : (p a : ℕ) → Contains (all_slots h) p → word h p ≡ suc a → Contains (refs h) (record { slot = p; target = a })
   ref_there p a i e =
-      let k : In (named (word h p)) a = subst (λ x. In (named x) a) (sym e) (inl refl) in
+      let k : Contains (named (word h p)) a = subst (λ x. Contains (named x) a) (sym e) (zero, omega arith, refl) in
       let e : Ref = record { slot = p; target = a } in
-      let j : In (Rattle.std.proofs.Common.flat_map (refs_at h) (all_slots h)) e = In-flat_map (refs_at h) (all_slots h) p e i (In-map (λ a. record { slot = p; target = a }) (named (word h p)) a k) in
-      subst (λ l. In l e) (sym (flat_twice h (objects h))) j
+      let j : Contains (Rattle.std.proofs.Common.flat_map (refs_at h) (all_slots h)) e = Contains-flat_map (refs_at h) (all_slots h) p e i (Contains-map (λ a. record { slot = p; target = a }) (named (word h p)) a k) in
+      subst (λ l. Contains l e) (sym (flat_twice h (objects h))) j
 
-  outside_lead : (p a : ℕ) → In (all_slots h) p → region_of h p ≢ r → word h p ≡ suc a → In (slot_leads h (r ∷ [])) (record { finder = Card (card_of h p) p; target = a })
+  outside_lead : (p a : ℕ) → Contains (all_slots h) p → region_of h p ≢ r → word h p ≡ suc a → Contains (slot_leads h (r ∷ [])) (record { finder = Card (card_of h p) p; target = a })
   outside_lead p a i d w =
       let e : Ref = record { slot = p; target = a } in
-      In-map (λ (e : Ref). record { finder = Card (card_of h e.slot) e.slot; target = e.target }) (Rattle.std.proofs.Common.filter (λ (e : Ref). Rattle.std.proofs.Common.not (in_set h (r ∷ []) e.slot)) (refs h)) e
-      (Rattle.g1_words.proofs.Members.In-filter (λ (e : Ref). Rattle.std.proofs.Common.not (in_set h (r ∷ []) e.slot)) (refs h) e (ref_there p a i w) (ap Rattle.std.proofs.Common.not (away p d)))
+      Contains-map (λ (e : Ref). record { finder = Card (card_of h e.slot) e.slot; target = e.target }) (Rattle.std.proofs.Common.filter (λ (e : Ref). Rattle.std.proofs.Common.not (in_set h (r ∷ []) e.slot)) (refs h)) e
+      (Rattle.g1_words.proofs.Members.Contains-filter (λ (e : Ref). Rattle.std.proofs.Common.not (in_set h (r ∷ []) e.slot)) (refs h) e (ref_there p a i w) (ap Rattle.std.proofs.Common.not (away p d)))
 
   pub some_within : (ss : List ℕ) (x a : ℕ) → LeadsWithin h r ss x (suc a) → (b : ℕ) × (x ≡ suc b)
   some_within [] x a e = (a, e)
@@ -204,7 +205,7 @@ module _ (h : Heap) (valid : IsValid h) (r : ℕ) where
   entry_trail (p ∷ ss) a l =
       let w = some_within ss (word h p) a l.2 in
       within_trail ss ((length h.roots + p) ∷ []) w.0 a
-      (begin (record { finder = Card (card_of h p) p; target = w.0 }) (inr (outside_lead p w.0 (In-from_contains (all_slots h) p l.0) l.1 w.1)))
+      (begin (record { finder = Card (card_of h p) p; target = w.0 }) (inr (outside_lead p w.0 l.0 l.1 w.1)))
       (subst (λ x. LeadsWithin h r ss x (suc a)) w.1 l.2)
 
   -- what legs from a slot outside lead to
@@ -241,10 +242,10 @@ module _ (h : Heap) (valid : IsValid h) (r : ℕ) where
         },
       )
     where
-      entered : (e : Ref) → In (refs h) e → in_set h (r ∷ []) e.slot ≡ false → IsEntered (leg h (Card (card_of h e.slot) e.slot) e.target ∷ []) e.target
+      entered : (e : Ref) → Contains (refs h) e → in_set h (r ∷ []) e.slot ≡ false → IsEntered (leg h (Card (card_of h e.slot) e.slot) e.target ∷ []) e.target
       entered e i out =
           let there = slot_there e i in
-          record { into = (Contains-from_in (all_slots h) e.slot there.0, (λ same. false≢true (sym out ∙ at_home e.slot same)), there.1); shifted = refl }
+          record { into = (there.0, (λ same. false≢true (sym out ∙ at_home e.slot same)), there.1); shifted = refl }
 
       entered_more : (ls : List Leg) (m b n c : ℕ) → IsEntered ls b → region_of h b ≡ r → n < (object_at h b).refs → word h (b + 1 + n) ≡ suc c → IsEntered (ls ++ leg h (Slot m b n) c ∷ []) c
       entered_more ls m b n c u at fit w = record {

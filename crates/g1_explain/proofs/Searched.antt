@@ -1,12 +1,12 @@
 -- The cards of a search of one region.
-use Rattle.std.proofs.Common.{◌≡◌, ◌≢◌, ◌<◌, ℕ, inl, inr, ◌*◌, ◌/◌, List, [], ◌∷◌, Contains, sym, ap, subst, ◌∙◌, arith, refl}
+use Rattle.std.proofs.Common.{◌≡◌, ◌≢◌, ◌<◌, ℕ, inl, ◌*◌, ◌/◌, List, [], ◌∷◌, Contains, sym, ap, subst, ◌∙◌, arith, refl, zero, suc}
 use Rattle.std.specs.List.{range_with_len}
 use Rattle.std.proofs.lemmas.Bool.{false≢true, false_from_ne_true}
 use Rattle.g1_words.specs.Heap.{Heap, region_of, card_of}
 use Rattle.g1_words.specs.Lists.{has}
 use Rattle.g1_words.specs.Valid.{IsValid}
 use Rattle.g1_words.proofs.Computed.{range_below}
-use Rattle.g1_words.proofs.Members.{In, In-from_contains, Contains-from_in, filter_member, in_from_has, has_from_in}
+use Rattle.g1_words.proofs.Members.{filter_member, Contains-from_has, has_from_contains}
 use Rattle.g1_words.proofs.Lists.{all_from_in}
 use Rattle.g1_image.specs.Image.{region_of_card}
 use Rattle.g1_image.specs.Cards.{is_exact, exact}
@@ -22,24 +22,24 @@ module _ (h : Heap) (valid : IsValid h) (r : ℕ) where
 
   exact_below : (c : ℕ) → Contains (exact h r) c → c < card_count h
   exact_below c k =
-      let b = range_below 0 (card_count h) c (filter_member (is_exact h r) (range_with_len 0 (card_count h)) c (In-from_contains (exact h r) c k)).0 in
+      let b = range_below 0 (card_count h) c (filter_member (is_exact h r) (range_with_len 0 (card_count h)) c k).0 in
       omega (arith, b)
 
-  single : (q : ℕ) → In (r ∷ []) q → q ≡ r
-  single q (inl e) = sym e
-  single q (inr k) = absurd k
+  single : (q : ℕ) → Contains (r ∷ []) q → q ≡ r
+  single q (zero, b, e) = sym e
+  single q (suc j, b, e) = absurd (omega (arith, b))
 
   pub exact_leads_in : AreCards h (exact h r) × AreOutside h (r ∷ []) (exact h r) × LeadIn h (r ∷ []) (exact h r)
   exact_leads_in = (
     record {
       rise = Rises-increasing 0 (exact h r) (Rises-filter (is_exact h r) 0 (range_with_len 0 (card_count h)) (Rises-range 0 (card_count h)));
-      below = all_from_in (λ c. c < card_count h) (exact h r) (λ c k. exact_below c (Contains-from_in (exact h r) c k));
+      below = all_from_in (λ c. c < card_count h) (exact h r) (λ c k. exact_below c k);
     },
     (λ c k. false_from_ne_true (has (r ∷ []) (c * h.geometry.k / h.geometry.w))
-        (λ t. elsewhere c k (single (c * h.geometry.k / h.geometry.w) (in_from_has (r ∷ []) (c * h.geometry.k / h.geometry.w) t)))),
+        (λ t. elsewhere c k (single (c * h.geometry.k / h.geometry.w) (Contains-from_has (r ∷ []) (c * h.geometry.k / h.geometry.w) t)))),
     (λ e c t f.
-        let into : region_of h e.target ≡ r = single (region_of h e.target) (in_from_has (r ∷ []) (region_of h e.target) t) in
-        let out : region_of h e.slot ≢ r = λ z. false≢true (sym f ∙ has_from_in (r ∷ []) (region_of h e.slot) (inl (sym z))) in
+        let into : region_of h e.target ≡ r = single (region_of h e.target) (Contains-from_has (r ∷ []) (region_of h e.target) t) in
+        let out : region_of h e.slot ≢ r = λ z. false≢true (sym f ∙ has_from_contains (r ∷ []) (region_of h e.slot) (inl (sym z))) in
         (exact_tells h valid r (card_of h e.slot)).1 (e, c, into, out, refl)),
   )
 

@@ -6,6 +6,7 @@ use Rattle.std.proofs.lemmas.Bool.{cases_lt, false≢true, or_parts, or_from as 
 use Rattle.std.proofs.lemmas.Grind.{div_ceil_times}
 use Rattle.std.proofs.lemmas.List.Folds.{list_any-append}
 use Rattle.std.proofs.Math.Nat.{add-mul, mul-le-mul_right}
+use Rattle.std.proofs.lemmas.List.Elements.{Contains-append_cases, Contains-append_left, Contains-append_right, Contains-get_or}
 use Rattle.g1_words.specs.declared.object.Object.{Object}
 use Rattle.g1_words.specs.declared.region.Kind.TheVariants.{Free, Ordinary, HumongousFirst}
 use Rattle.g1_words.specs.Heap.{Heap, kind, word, start, region_of, card_of, regions, objects, objects_in, objects_by, object_at, is_first}
@@ -13,9 +14,9 @@ use Rattle.g1_words.specs.Layout.{HasRoom, forward, free_regions, kept}
 use Rattle.g1_words.specs.Lists.{has}
 use Rattle.g1_words.specs.References.{Ref, refs, root_targets, targets}
 use Rattle.g1_words.specs.Survivors.{in_set}
-use Rattle.g1_words.proofs.Computed.{In-range}
-use Rattle.g1_words.proofs.Indices.{get_or-In, range_bounds, is_free_region}
-use Rattle.g1_words.proofs.Members.{In, In-from_contains, Contains-from_in, In-append_left, In-append_right, In-append_cases, In-flat_map, In-filter, In-map, filter_member, map_cases, has_from_in, in_from_has, any_member}
+use Rattle.g1_words.proofs.Computed.{Contains-range}
+use Rattle.g1_words.proofs.Indices.{range_bounds, is_free_region}
+use Rattle.g1_words.proofs.Members.{Contains-flat_map, Contains-filter, Contains-map, filter_member, map_cases, has_from_contains, Contains-from_has, any_member}
 use Rattle.g1_words.proofs.OneToOne.{kept_cases, outside_stays, survivor_to_free}
 use Rattle.g1_words.proofs.Shapes.{IsBuilt, built}
 use Rattle.g1_words.proofs.Sound.{IsSound}
@@ -53,16 +54,16 @@ use Rattle.g1_explain.proofs.FirstLeads.{targets_of}
 use Rattle.g1_explain.proofs.Targets.{root_part, found_targets}
 
 -- a reference is there if there is a first one
-some_lead : (ls : List Lead) → not (is_nothing (first_keeper ls)) ≡ true → (l : Lead) × In ls l
+some_lead : (ls : List Lead) → not (is_nothing (first_keeper ls)) ≡ true → (l : Lead) × Contains ls l
 some_lead [] e = absurd (false≢true e)
 some_lead (l ∷ ls) e = (l, inl refl)
 
-lead_first : (ls : List Lead) (l : Lead) → In ls l → not (is_nothing (first_keeper ls)) ≡ true
-lead_first [] l k = absurd k
+lead_first : (ls : List Lead) (l : Lead) → Contains ls l → not (is_nothing (first_keeper ls)) ≡ true
+lead_first [] l k = absurd (omega (arith, k.1))
 lead_first (x ∷ ls) l k = refl
 
 -- one of some references leads to an address that they lead to
-lead_with : (ls : List Lead) (a : ℕ) → In (targets_of ls) a → (l : Lead) × In ls l × (l.target ≡ a)
+lead_with : (ls : List Lead) (a : ℕ) → Contains (targets_of ls) a → (l : Lead) × Contains ls l × (l.target ≡ a)
 lead_with ls a k = map_cases (λ (l : Lead). l.target) ls a k
 
 module _ (i : Image) (set l : List ℕ) (tracked : IsTracked i) (a : HasRoom i.heap set l) where
@@ -88,7 +89,7 @@ module _ (i : Image) (set l : List ℕ) (tracked : IsTracked i) (a : HasRoom i.h
   slot_home : (o : Object) (m : ℕ) → Contains (objects h) o → m < o.size → in_set h set o.at ≡ true → in_set h set (o.at + m) ≡ true
   slot_home o m c lt e =
       let t = home h valid o c in
-      let one : kind h (region_of h o.at) ≡ Ordinary = a.ordinary (region_of h o.at) (Contains-from_in set (region_of h o.at) (in_from_has set (region_of h o.at) e)) in
+      let one : kind h (region_of h o.at) ≡ Ordinary = a.ordinary (region_of h o.at) (Contains-from_has set (region_of h o.at) e) in
       let at : region_of h o.at ≡ t.0 = home_region h valid t.0 o t.2 in
       elim t.2.2 [
         | inl y ↦ ap (has set) ((ordinary_word h valid t.0 o m y lt).0 ∙ sym at) ∙ e
@@ -99,7 +100,7 @@ module _ (i : Image) (set l : List ℕ) (tracked : IsTracked i) (a : HasRoom i.h
   slot_outside : (o : Object) (m : ℕ) → Contains (objects h) o → m < o.size → in_set h set o.at ≡ false → in_set h set (o.at + m) ≡ false
   slot_outside o m c lt out = false_from_ne_true (in_set h set (o.at + m)) (λ e.
       let t = home h valid o c in
-      let one : kind h (region_of h (o.at + m)) ≡ Ordinary = a.ordinary (region_of h (o.at + m)) (Contains-from_in set (region_of h (o.at + m)) (in_from_has set (region_of h (o.at + m)) e)) in
+      let one : kind h (region_of h (o.at + m)) ≡ Ordinary = a.ordinary (region_of h (o.at + m)) (Contains-from_has set (region_of h (o.at + m)) e) in
       let w = word_in_ordinary h valid t.0 o m t.2 lt one in
       false≢true (sym out ∙ ap (has set) (home_region h valid t.0 o t.2 ∙ sym w.1) ∙ e))
 
@@ -119,8 +120,8 @@ module _ (i : Image) (set l : List ℕ) (tracked : IsTracked i) (a : HasRoom i.h
     o_is_one : Contains (objects h) o
     o_is_one = stands h tracked.image.heap r first lt
 
-    o_humongous : In (humongous h) o
-    o_humongous = In-filter (λ (o : Object). is_first (kind h (region_of h o.at))) (objects h) o (In-from_contains (objects h) o o_is_one) (ap (λ q. is_first (kind h q)) there ∙ first)
+    o_humongous : Contains (humongous h) o
+    o_humongous = Contains-filter (λ (o : Object). is_first (kind h (region_of h o.at))) (objects h) o o_is_one (ap (λ q. is_first (kind h q)) there ∙ first)
 
     o_home : Stands h r o × InHumongous h r o
     o_home =
@@ -129,7 +130,7 @@ module _ (i : Image) (set l : List ℕ) (tracked : IsTracked i) (a : HasRoom i.h
         subst (λ q. Stands h q o × InHumongous h q o) same (t.2, t.3)
 
     outside : in_set h set at ≡ false
-    outside = ap (has set) there ∙ false_from_ne_true (has set r) (λ t. let clash : Ordinary ≡ HumongousFirst = sym (a.ordinary r (Contains-from_in set r (in_from_has set r t))) ∙ two in cc)
+    outside = ap (has set) there ∙ false_from_ne_true (has set r) (λ t. let clash : Ordinary ≡ HumongousFirst = sym (a.ordinary r (Contains-from_has set r t)) ∙ two in cc)
 
     stays : f at ≡ at
     stays = outside_stays h set l s a.ordinary a.survivors a.room at outside
@@ -138,7 +139,7 @@ module _ (i : Image) (set l : List ℕ) (tracked : IsTracked i) (a : HasRoom i.h
     object_same = object_stays i set l j valid a.ordinary a.survivors a.room moved o o_is_one outside
 
     -- what is moved there was there
-    back : (x : ℕ) → In (kept h set l) (object_at h x) → f x ≡ at → x ≡ at
+    back : (x : ℕ) → Contains (kept h set l) (object_at h x) → f x ≡ at → x ≡ at
     back x k e = elim (kept_cases h set l s a.ordinary a.survivors a.room (object_at h x) k) [
       | inl y ↦ sym (outside_stays h set l s a.ordinary a.survivors a.room x y.0) ∙ e
       | inr y ↦
@@ -156,7 +157,7 @@ module _ (i : Image) (set l : List ℕ) (tracked : IsTracked i) (a : HasRoom i.h
 
       to : has (run h r) (region_of h (q.at + m)) ≡ true → has_word o (q.at + m) ≡ true
       to t =
-          let b = range_bounds r (run_end h r - r) (region_of h (q.at + m)) (in_from_has (run h r) (region_of h (q.at + m)) t) in
+          let b = range_bounds r (run_end h r - r) (region_of h (q.at + m)) (Contains-from_has (run h r) (region_of h (q.at + m)) t) in
           let low : r ≤ region_of h (q.at + m) = b.0 in
           let high : region_of h (q.at + m) - r + 1 ≤ div_ceil o.size h.geometry.w = omega (arith, b.0, b.1) in
           let from : r * h.geometry.w ≤ region_of h (q.at + m) * h.geometry.w = mul-le-mul_right h.geometry.w low in
@@ -186,65 +187,65 @@ module _ (i : Image) (set l : List ℕ) (tracked : IsTracked i) (a : HasRoom i.h
           ] in
           let there = (word_used h valid r o (q.at + m - at) o_home.0 (omega (arith, low, high))).0 in
           let within : region_of h (q.at + m) < h.geometry.n = subst (λ z. region_of h z < h.geometry.n) same there in
-          has_from_in (run h r) (region_of h (q.at + m)) (In-range r (run_end h r - r) (region_of h (q.at + m)) (omega (arith, home)) (omega (arith, home, few, within, valid.limits.n_most)))
+          has_from_contains (run h r) (region_of h (q.at + m)) (Contains-range r (run_end h r - r) (region_of h (q.at + m)) (omega (arith, home)) (omega (arith, home, few, within, valid.limits.n_most)))
 
     -- a reference that counts, by where it leads
-    of_roots : In (root_targets h) at → (x : Lead) × In (leads_to h set l r) x
+    of_roots : Contains (root_targets h) at → (x : Lead) × Contains (leads_to h set l r) x
     of_roots k =
-        let m = lead_with (root_leads h) at (subst (λ xs. In xs at) (sym (root_part h set)) k) in
+        let m = lead_with (root_leads h) at (subst (λ xs. Contains xs at) (sym (root_part h set)) k) in
         let all : List Lead = root_leads h ++ (slot_leads h (set ++ run h r) ++ found_leads h l (length l)) in
-        (m.0, In-filter (λ x. eqb x.target at) all m.0 (In-append_left (root_leads h) (slot_leads h (set ++ run h r) ++ found_leads h l (length l)) m.0 m.1) (eq-eqb m.0.target at m.2))
+        (m.0, Contains-filter (λ x. eqb x.target at) all m.0 (Contains-append_left (root_leads h) (slot_leads h (set ++ run h r) ++ found_leads h l (length l)) m.0 m.1) (eq-eqb m.0.target at m.2))
 
-    of_found : In (flat_map (targets h) l) at → (x : Lead) × In (leads_to h set l r) x
+    of_found : Contains (flat_map (targets h) l) at → (x : Lead) × Contains (leads_to h set l r) x
     of_found k =
-        let m = lead_with (found_leads h l (length l)) at (subst (λ xs. In xs at) (sym (found_targets h set l)) k) in
+        let m = lead_with (found_leads h l (length l)) at (subst (λ xs. Contains xs at) (sym (found_targets h set l)) k) in
         let all : List Lead = root_leads h ++ (slot_leads h (set ++ run h r) ++ found_leads h l (length l)) in (
           m.0,
-          In-filter (λ x. eqb x.target at) all m.0 (In-append_right (root_leads h) (slot_leads h (set ++ run h r) ++ found_leads h l (length l)) m.0
-              (In-append_right (slot_leads h (set ++ run h r)) (found_leads h l (length l)) m.0 m.1)) (eq-eqb m.0.target at m.2),
+          Contains-filter (λ x. eqb x.target at) all m.0 (Contains-append_right (root_leads h) (slot_leads h (set ++ run h r) ++ found_leads h l (length l)) m.0
+              (Contains-append_right (slot_leads h (set ++ run h r)) (found_leads h l (length l)) m.0 m.1)) (eq-eqb m.0.target at m.2),
         )
 
-    of_slot : (p : ℕ) → In (refs h) (record { slot = p; target = at }) → in_set h (set ++ run h r) p ≡ false → (x : Lead) × In (leads_to h set l r) x
+    of_slot : (p : ℕ) → Contains (refs h) (record { slot = p; target = at }) → in_set h (set ++ run h r) p ≡ false → (x : Lead) × Contains (leads_to h set l r) x
     of_slot p k out =
         let e : Ref = record { slot = p; target = at } in
         let x : Lead = record { finder = Card (card_of h p) p; target = at } in
         let all : List Lead = root_leads h ++ (slot_leads h (set ++ run h r) ++ found_leads h l (length l)) in
-        let m : In (slot_leads h (set ++ run h r)) x =
-        In-map (λ (e : Ref). record { finder = Card (card_of h e.slot) e.slot; target = e.target }) (filter (λ (e : Ref). not (in_set h (set ++ run h r) e.slot)) (refs h)) e
-        (In-filter (λ (e : Ref). not (in_set h (set ++ run h r) e.slot)) (refs h) e k (ap not out)) in (
+        let m : Contains (slot_leads h (set ++ run h r)) x =
+        Contains-map (λ (e : Ref). record { finder = Card (card_of h e.slot) e.slot; target = e.target }) (filter (λ (e : Ref). not (in_set h (set ++ run h r) e.slot)) (refs h)) e
+        (Contains-filter (λ (e : Ref). not (in_set h (set ++ run h r) e.slot)) (refs h) e k (ap not out)) in (
           x,
-          In-filter (λ x. eqb x.target at) all x (In-append_right (root_leads h) (slot_leads h (set ++ run h r) ++ found_leads h l (length l)) x
-              (In-append_left (slot_leads h (set ++ run h r)) (found_leads h l (length l)) x m)) (eq-eqb at at refl),
+          Contains-filter (λ x. eqb x.target at) all x (Contains-append_right (root_leads h) (slot_leads h (set ++ run h r) ++ found_leads h l (length l)) x
+              (Contains-append_left (slot_leads h (set ++ run h r)) (found_leads h l (length l)) x m)) (eq-eqb at at refl),
         )
 
     window_is : (q : ℕ) → has (set ++ run h r) q ≡ (has set q || has (run h r) q)
     window_is q = list_any-append (λ y. eqb q y) set (run h r)
 
     -- something that names the object after the moves is a reference that counts
-    named_leads : is_named j.heap o ≡ true → (x : Lead) × In (leads_to h set l r) x
+    named_leads : is_named j.heap o ≡ true → (x : Lead) × Contains (leads_to h set l r) x
     named_leads t = elim (or_cases (has (root_targets j.heap) at) (list_any (λ e. eqb e.target at && not (has_word o e.slot)) (refs j.heap)) t) [
       | inl k ↦
-          let n : In (map (forward h l) (root_targets h)) at = subst (λ xs. In xs at) (roots_renamed (forward h l) h.roots) (in_from_has (root_targets j.heap) at k) in
+          let n : Contains (map (forward h l) (root_targets h)) at = subst (λ xs. Contains xs at) (roots_renamed (forward h l) h.roots) (Contains-from_has (root_targets j.heap) at k) in
           let m = map_cases (forward h l) (root_targets h) at n in
           let same : m.0 ≡ at = back m.0 (root_kept i set l j valid a.ordinary a.survivors a.room moved m.0 m.1) m.2 in
-          of_roots (subst (In (root_targets h)) same m.1)
+          of_roots (subst (Contains (root_targets h)) same m.1)
       | inr k ↦
           let m = any_member (λ e. eqb e.target at && not (has_word o e.slot)) (refs j.heap) k in
           let b = and_parts (eqb m.0.target at) (not (has_word o m.0.slot)) m.2 in
           by_ref m.0 (ref_moved i set l j valid a.ordinary a.survivors a.room moved m.0 m.1) (eqb-true m.0.target at b.0) b.1
     ]
       where
-        by_ref : (e : Ref) → RefMoved i set l e → e.target ≡ at → not (has_word o e.slot) ≡ true → (x : Lead) × In (leads_to h set l r) x
+        by_ref : (e : Ref) → RefMoved i set l e → e.target ≡ at → not (has_word o e.slot) ≡ true → (x : Lead) × Contains (leads_to h set l r) x
         by_ref e m target off =
             let before : m.before ≡ at = back m.before (before_kept i set l j valid a.ordinary a.survivors a.room moved e m) (m.moved_to ∙ target) in
             let reads : word h (m.owner.at + m.m) ≡ suc at = m.word_before ∙ ap suc before in
             elim (kept_cases h set l s a.ordinary a.survivors a.room m.owner m.is_kept) [
               | inl y ↦
-                  let c : Contains (objects h) m.owner = Contains-from_in (objects h) m.owner y.1 in
+                  let c : Contains (objects h) m.owner = y.1 in
                   let fits = kept_refs i set l j valid a.ordinary a.survivors a.room moved m.owner m.is_kept in
                   let less : m.m < m.owner.size = omega (arith, fits, m.within) in
                   let place : e.slot ≡ m.owner.at + m.m = m.slot ∙ ap (λ z. z + m.m) (outside_stays h set l s a.ordinary a.survivors a.room m.owner.at y.0) in
-                  let ref : In (refs h) (record { slot = m.owner.at + m.m; target = at }) =
+                  let ref : Contains (refs h) (record { slot = m.owner.at + m.m; target = at }) =
                   ref_of h (record { slot = m.owner.at + m.m; target = at }) (record { owner = m.owner; is_one = y.1; m = m.m; above = m.above; within = m.within; at = refl; names = reads }) in
                   let no_word : has_word o (m.owner.at + m.m) ≡ false = false_from_ne_true (has_word o (m.owner.at + m.m)) (λ z. false≢true (sym (ap not (ap (has_word o) place ∙ z)) ∙ off)) in
                   of_slot (m.owner.at + m.m) ref (window_is (region_of h (m.owner.at + m.m))
@@ -252,15 +253,15 @@ module _ (i : Image) (set l : List ℕ) (tracked : IsTracked i) (a : HasRoom i.h
               | inr y ↦
                   let word_of : word h (y.0 + m.m) ≡ suc at = ap (λ (q : Object). word h (q.at + m.m)) y.2 ∙ reads in
                   let few : m.m ≤ (object_at h y.0).refs = subst (λ (q : Object). m.m ≤ q.refs) (sym y.2) m.within in
-                  of_found (In-flat_map (targets h) l y.0 at y.1 (slot_names i set l j valid a.ordinary a.survivors a.room moved (object_at h y.0) m.m at m.above few word_of))
+                  of_found (Contains-flat_map (targets h) l y.0 at y.1 (slot_names i set l j valid a.ordinary a.survivors a.room moved (object_at h y.0) m.m at m.above few word_of))
             ]
 
     -- the moved reference names it
-    named_by : (k : Object) (m : ℕ) → In (kept h set l) k → 0 < m → m ≤ k.refs → word h (k.at + m) ≡ suc at → has_word o (f k.at + m) ≡ false → is_named j.heap o ≡ true
+    named_by : (k : Object) (m : ℕ) → Contains (kept h set l) k → 0 < m → m ≤ k.refs → word h (k.at + m) ≡ suc at → has_word o (f k.at + m) ≡ false → is_named j.heap o ≡ true
     named_by k m c above within reads off =
         let e : Ref = record { slot = f k.at + m; target = at } in
-        let moved_ref : IsMovedRef h set l e = record { owner = k; is_kept = Contains-from_in (kept h set l) k c; m = m; above = above; within = within; target = at; names = reads; slot_at = refl; target_at = sym stays } in
-        let ref : In (refs j.heap) e = In-from_contains (refs j.heap) e ((refs_moved i set l j valid a.ordinary a.survivors a.room moved e).1 moved_ref) in
+        let moved_ref : IsMovedRef h set l e = record { owner = k; is_kept = c; m = m; above = above; within = within; target = at; names = reads; slot_at = refl; target_at = sym stays } in
+        let ref : Contains (refs j.heap) e = (refs_moved i set l j valid a.ordinary a.survivors a.room moved e).1 moved_ref in
         let any : list_any (λ e. eqb e.target at && not (has_word o e.slot)) (refs j.heap) ≡ true =
         any_from_in (λ (e : Ref). eqb e.target at && not (has_word o e.slot)) (refs j.heap) e ref (and_from (eqb at at) (not (has_word o (f k.at + m))) (eq-eqb at at refl) (ap not off)) in
         ap (λ b. has (root_targets j.heap) at || b) any ∙ last (has (root_targets j.heap) at)
@@ -269,31 +270,31 @@ module _ (i : Image) (set l : List ℕ) (tracked : IsTracked i) (a : HasRoom i.h
         last true = refl
         last false = refl
 
-    leads_named : (x : Lead) → In (leads_to h set l r) x → is_named j.heap o ≡ true
+    leads_named : (x : Lead) → Contains (leads_to h set l r) x → is_named j.heap o ≡ true
     leads_named x k =
         let all : List Lead = root_leads h ++ (slot_leads h (set ++ run h r) ++ found_leads h l (length l)) in
         let m = filter_member (λ x. eqb x.target at) all x k in
         let target : x.target ≡ at = eqb-true x.target at m.1 in
-        elim (In-append_cases (root_leads h) (slot_leads h (set ++ run h r) ++ found_leads h l (length l)) x m.0) [
+        elim (Contains-append_cases (root_leads h) (slot_leads h (set ++ run h r) ++ found_leads h l (length l)) x m.0) [
           | inl y ↦ by_root target y
-          | inr y ↦ elim (In-append_cases (slot_leads h (set ++ run h r)) (found_leads h l (length l)) x y) [
+          | inr y ↦ elim (Contains-append_cases (slot_leads h (set ++ run h r)) (found_leads h l (length l)) x y) [
             | inl z ↦ by_slot target z
             | inr z ↦ by_found target z
           ]
         ]
       where
-        by_root : x.target ≡ at → In (root_leads h) x → is_named j.heap o ≡ true
+        by_root : x.target ≡ at → Contains (root_leads h) x → is_named j.heap o ≡ true
         by_root target y =
-            let n : In (root_targets h) at = subst (In (root_targets h)) target (subst (λ xs. In xs x.target) (root_part h set) (In-map (λ (l : Lead). l.target) (root_leads h) x y)) in
-            let mapped : In (map (forward h l) (root_targets h)) at = subst (In (map (forward h l) (root_targets h))) stays (In-map (forward h l) (root_targets h) at n) in
-            let named : has (root_targets j.heap) at ≡ true = has_from_in (root_targets j.heap) at (subst (λ xs. In xs at) (sym (roots_renamed (forward h l) h.roots)) mapped) in
+            let n : Contains (root_targets h) at = subst (Contains (root_targets h)) target (subst (λ xs. Contains xs x.target) (root_part h set) (Contains-map (λ (l : Lead). l.target) (root_leads h) x y)) in
+            let mapped : Contains (map (forward h l) (root_targets h)) at = subst (Contains (map (forward h l) (root_targets h))) stays (Contains-map (forward h l) (root_targets h) at n) in
+            let named : has (root_targets j.heap) at ≡ true = has_from_contains (root_targets j.heap) at (subst (λ xs. Contains xs at) (sym (roots_renamed (forward h l) h.roots)) mapped) in
             ap (λ b. b || list_any (λ e. eqb e.target at && not (has_word o e.slot)) (refs j.heap)) named
 
-        by_slot : x.target ≡ at → In (slot_leads h (set ++ run h r)) x → is_named j.heap o ≡ true
+        by_slot : x.target ≡ at → Contains (slot_leads h (set ++ run h r)) x → is_named j.heap o ≡ true
         by_slot target y =
             let t = slot_tells h (set ++ run h r) x y in
             let w = slot_of h t.ref t.there in
-            let c : Contains (objects h) w.owner = Contains-from_in (objects h) w.owner w.is_one in
+            let c : Contains (objects h) w.owner = w.is_one in
             let less : w.m < w.owner.size = omega (arith, s.slots_fit w.owner c, w.within) in
             let both = or_parts (has set (region_of h (w.owner.at + w.m))) (has (run h r) (region_of h (w.owner.at + w.m)))
             (sym (window_is (region_of h (w.owner.at + w.m))) ∙ ap (λ z. has (set ++ run h r) (region_of h z)) (sym w.at) ∙ t.outside) in
@@ -303,11 +304,11 @@ module _ (i : Image) (set l : List ℕ) (tracked : IsTracked i) (a : HasRoom i.h
             named_by w.owner w.m (kept_outside i set l j s a.ordinary a.survivors a.room moved w.owner w.is_one out) w.above w.within reads
             (ap (λ z. has_word o (z + w.m)) place ∙ sym (own_word w.owner w.m c less) ∙ both.1)
 
-        by_found : x.target ≡ at → In (found_leads h l (length l)) x → is_named j.heap o ≡ true
+        by_found : x.target ≡ at → Contains (found_leads h l (length l)) x → is_named j.heap o ≡ true
         by_found target y =
             let t = found_tells h set l (length l) x y in
             let b : ℕ = slice_index l t.place in
-            let k : In l (slice_index l t.place) = get_or-In l t.place 0 t.below in
+            let k : Contains l (slice_index l t.place) = Contains-get_or l t.place 0 t.below in
             let m : ℕ = 1 + t.number in
             let z : slice_index l t.place + (1 + t.number) ≡ slice_index l t.place + 1 + t.number = omega arith in
             let reads : word h (slice_index l t.place + (1 + t.number)) ≡ suc at = ap (word h) z ∙ t.reads ∙ ap suc target in
@@ -315,7 +316,7 @@ module _ (i : Image) (set l : List ℕ) (tracked : IsTracked i) (a : HasRoom i.h
             let fits = kept_refs i set l j valid a.ordinary a.survivors a.room moved (object_at h (slice_index l t.place)) c in
             let goal = survivor_region h set l s a.ordinary a.survivors a.room (slice_index l t.place) (1 + t.number) k (omega (arith, fits, t.fits)) in
             let free : kind h (region_of h (f (slice_index l t.place) + (1 + t.number))) ≡ Free =
-            ap (kind h) goal.2 ∙ (is_free_region h (get_or (free_regions h) goal.0 0) (get_or-In (free_regions h) goal.0 0 (let fewer = a.room in omega (arith, goal.1, fewer)))).0 in
+            ap (kind h) goal.2 ∙ (is_free_region h (get_or (free_regions h) goal.0 0) (Contains-get_or (free_regions h) goal.0 0 (let fewer = a.room in omega (arith, goal.1, fewer)))).0 in
             named_by (object_at h (slice_index l t.place)) (1 + t.number) c (omega arith) (omega (arith, t.fits)) reads
             (false_from_ne_true (has_word o (f (slice_index l t.place) + (1 + t.number))) (λ e.
             let both = and_parts (leb at (f (slice_index l t.place) + (1 + t.number))) (ltb (f (slice_index l t.place) + (1 + t.number)) (at + o.size)) e in
@@ -340,7 +341,7 @@ module _ (i : Image) (set l : List ℕ) (tracked : IsTracked i) (a : HasRoom i.h
   one_region r false lt e =
       ap (λ os. map (λ (o : Object). region_of h o.at) (filter (λ o. not (is_named j.heap o)) os))
       (none_passes (λ (o : Object). is_first (kind j.heap (region_of j.heap o.at))) (objects_in j.heap r)
-      (λ o k. ap (λ x. is_first (kind j.heap x)) (after.in_region r o (Contains-from_in (objects_in j.heap r) o k)) ∙ kind_tells i set l tracked a r lt e))
+      (λ o k. ap (λ x. is_first (kind j.heap x)) (after.in_region r o k) ∙ kind_tells i set l tracked a r lt e))
       ∙ ap (λ b. cond (is_nothing (cond b (first_keeper (leads_to h set l r)) NoObject)) (r ∷ []) []) (sym e)
     where
       after : IsSound j.heap

@@ -1,13 +1,15 @@
 -- Items cut into chunks.
-use Rattle.std.proofs.Common.{◌≡◌, ℕ, zero, suc, ◌+◌, ◌-◌, ◌*◌, ◌/◌, ◌<◌, ◌≤◌, inl, inr, List, [], ◌∷◌, ◌++◌, length, map, take, drop, get_or, min, sym, refl, ap, ◌∙◌, subst, arith, lt_of_not-le}
+use Rattle.std.proofs.Common.{◌≡◌, ℕ, zero, suc, ◌+◌, ◌-◌, ◌*◌, ◌/◌, ◌<◌, ◌≤◌, inl, inr, List, [], ◌∷◌, ◌++◌, length, map, take, drop, get_or, min, sym, refl, ap, ◌∙◌, subst, arith, lt_of_not-le, Contains}
 use Rattle.std.specs.List.{flat_map, enumerate_from, range_with_len, AllZip}
 use Rattle.std.proofs.lemmas.List.{drop-drop, take_rest, take_min, map-append}
 use Rattle.std.proofs.lemmas.List.Concat.{flat_map-append}
 use Rattle.std.proofs.lemmas.Nat.{div-add-mod'}
 use Rattle.std.proofs.Math.Nat.{mod-lt, mul-le-mul_right, mul-le-mul_left}
+use Rattle.std.proofs.lemmas.List.Elements.{Contains-append_left}
+use Rattle.std.proofs.lemmas.List.Elements.{Contains-append_right}
 use native.Mathlib.Decide.{dec_le}
 use Rattle.g1_work.specs.Each.{RisesBelow, chunks_of}
-use Rattle.g1_words.proofs.Members.{In, In-flat_map, flat_map_cases}
+use Rattle.g1_words.proofs.Members.{Contains-flat_map, flat_map_cases}
 use Rattle.g1_words.proofs.Ordered.{Ordered}
 use Rattle.g1_words.proofs.Rising.{Ordered-flat_map}
 use Rattle.g1_words.proofs.Indices.{taken_in}
@@ -98,24 +100,24 @@ module _ {A B O : Type 0} (f : A → B) (items : O → List B) (size : ℕ) (xs 
 
 -- ---- pieces in order
 
-Ordered-apart : {B : Type 0} (R : B → B → Type 0) (xs ys : List B) → Ordered R (xs ++ ys) → Ordered R xs × Ordered R ys × ((x y : B) → In xs x → In ys y → R x y)
+Ordered-apart : {B : Type 0} (R : B → B → Type 0) (xs ys : List B) → Ordered R (xs ++ ys) → Ordered R xs × Ordered R ys × ((x y : B) → Contains xs x → Contains ys y → R x y)
 Ordered-apart R [] ys o = (tt, o, (λ x y i j. absurd i))
 Ordered-apart {B} R (x ∷ xs) ys o =
     let r = Ordered-apart R xs ys o.1 in (
-      ((λ y i. o.0 y (Rattle.g1_words.proofs.Members.In-append_left xs ys y i)), r.0),
+      ((λ y i. o.0 y (Rattle.g1_words.proofs.Members.Contains-append_left xs ys y i)), r.0),
       r.1,
-      (λ z y i j. elim i [ inl e ↦ subst (λ w. R w y) e (o.0 y (Rattle.g1_words.proofs.Members.In-append_right xs ys y j)) | inr k ↦ r.2 z y k j ]),
+      (λ z y i j. elim i [ inl e ↦ subst (λ w. R w y) e (o.0 y (Rattle.g1_words.proofs.Members.Contains-append_right xs ys y j)) | inr k ↦ r.2 z y k j ]),
     )
 
-early : {A : Type 0} (m n l : ℕ) (xs : List A) (x : A) → n + m ≤ l → In (take m (drop n xs)) x → In (take l xs) x
-early zero n l xs x le i = absurd i
+early : {A : Type 0} (m n l : ℕ) (xs : List A) (x : A) → n + m ≤ l → Contains (take m (drop n xs)) x → Contains (take l xs) x
+early zero n l xs x le i = absurd (omega (arith, i.1))
 early (suc m) zero zero xs x le i = absurd (omega (arith, le))
 early (suc m) zero (suc l) [] x le i = i
-early (suc m) zero (suc l) (y ∷ ys) x le (inl e) = inl e
-early (suc m) zero (suc l) (y ∷ ys) x le (inr i) = inr (early m zero l ys x (omega (arith, le)) i)
+early (suc m) zero (suc l) (y ∷ ys) x le (zero, b, e) = (zero, omega arith, e)
+early (suc m) zero (suc l) (y ∷ ys) x le (suc k, b, e) = let c = early m zero l ys x (omega (arith, le)) (k, omega (arith, b), e) in (suc c.0, omega (arith, c.1), c.2)
 early (suc m) (suc n) zero xs x le i = absurd (omega (arith, le))
-early (suc m) (suc n) (suc l) [] x le i = absurd i
-early (suc m) (suc n) (suc l) (y ∷ ys) x le i = inr (early (suc m) n l ys x (omega (arith, le)) i)
+early (suc m) (suc n) (suc l) [] x le i = absurd (omega (arith, i.1))
+early (suc m) (suc n) (suc l) (y ∷ ys) x le i = let c = early (suc m) n l ys x (omega (arith, le)) i in (suc c.0, omega (arith, c.1), c.2)
 
 chunks_ordered : {O : Type 0} (n : ℕ) (xs : List (ℕ × O)) → RisesBelow n (chunks_of xs) → Ordered (λ x y. x.0 < y.0) xs
 chunks_ordered n [] r = tt
@@ -125,7 +127,7 @@ chunks_ordered {O} n (x ∷ y ∷ ys) r =
     ((λ z i. elim i [ inl e ↦ let k : y.0 ≡ z.0 = ap (λ (q : ℕ × O). q.0) e in omega (arith, r.0, k) | inr j ↦ let k = rest.0 z j in omega (arith, r.0, k) ]), rest)
 
 module _ {A B : Type 0} (R : B → B → Type 0) (f : A → List B) (size : ℕ) (xs : List A) (o : Ordered R (flat_map f xs)) where
-  cut : (n : ℕ) → Ordered R (flat_map f (take n xs)) × Ordered R (flat_map f (drop n xs)) × ((x y : B) → In (flat_map f (take n xs)) x → In (flat_map f (drop n xs)) y → R x y)
+  cut : (n : ℕ) → Ordered R (flat_map f (take n xs)) × Ordered R (flat_map f (drop n xs)) × ((x y : B) → Contains (flat_map f (take n xs)) x → Contains (flat_map f (drop n xs)) y → R x y)
   cut n = Ordered-apart R (flat_map f (take n xs)) (flat_map f (drop n xs)) (subst (Ordered R) (sym (sym (flat_map-append f (take n xs) (drop n xs)) ∙ ap (flat_map f) (take_drop n xs))) o)
 
   pub piece_ordered : (k : ℕ) → Ordered R (flat_map f (slice_of size k xs))
@@ -134,13 +136,13 @@ module _ {A B : Type 0} (R : B → B → Type 0) (f : A → List B) (size : ℕ)
       (Ordered-apart R (flat_map f (take size rest)) (flat_map f (drop size rest))
       (subst (Ordered R) (sym (sym (flat_map-append f (take size rest) (drop size rest)) ∙ ap (flat_map f) (take_drop size rest))) (cut (k * size)).1)).0
 
-  pub pieces_apart : (j k : ℕ) (x y : B) → j < k → In (flat_map f (slice_of size j xs)) x → In (flat_map f (slice_of size k xs)) y → R x y
+  pub pieces_apart : (j k : ℕ) (x y : B) → j < k → Contains (flat_map f (slice_of size j xs)) x → Contains (flat_map f (slice_of size k xs)) y → R x y
   pieces_apart j k x y lt a b =
       let m : (j + 1) * size ≤ k * size = mul-le-mul_right size (omega (arith, lt)) in
       let p = flat_map_cases f (slice_of size j xs) x a in
       let q = flat_map_cases f (slice_of size k xs) y b in
-      (cut (k * size)).2 x y (In-flat_map f (take (k * size) xs) p.0 x (early size (j * size) (k * size) xs p.0 (omega (arith, m)) p.1) p.2)
-      (In-flat_map f (drop (k * size) xs) q.0 y (taken_in size (drop (k * size) xs) q.0 q.1) q.2)
+      (cut (k * size)).2 x y (Contains-flat_map f (take (k * size) xs) p.0 x (early size (j * size) (k * size) xs p.0 (omega (arith, m)) p.1) p.2)
+      (Contains-flat_map f (drop (k * size) xs) q.0 y (taken_in size (drop (k * size) xs) q.0 q.1) q.2)
 
   -- chunks that rise have pieces in order
   pub some_pieces : {O : Type 0} (n : ℕ) (cs : List (ℕ × O)) → RisesBelow n (chunks_of cs) → Ordered R (flat_map (λ c. flat_map f (slice_of size c.0 xs)) cs)

@@ -13,7 +13,7 @@ use Rattle.g1_words.specs.References.{Ref, named, refs_at, refs}
 use Rattle.g1_words.specs.Survivors.{in_set, seeds}
 use Rattle.g1_words.specs.Valid.{IsValid}
 use Rattle.g1_words.proofs.Bounds.{cards_in_region, card_in_region}
-use Rattle.g1_words.proofs.Members.{In, In-from_contains, Contains-from_in, In-map, In-flat_map, In-filter, filter_member, flat_map_cases, has_from_in, in_from_has}
+use Rattle.g1_words.proofs.Members.{Contains-map, Contains-flat_map, Contains-filter, filter_member, flat_map_cases, has_from_contains, Contains-from_has}
 use Rattle.g1_words.proofs.Ordered.{Ordered, Ordered-from_pairs, same_order}
 use Rattle.g1_words.proofs.Rising.{Ordered-flat_map, Ordered-filter}
 use Rattle.g1_words.proofs.Lists.{flat_of_flat, flat_of_filter}
@@ -35,9 +35,9 @@ map_flat g f [] = refl
 map_flat g f (x ∷ xs) = map-append g (f x) (flat_map f xs) ∙ ap (λ l. map g (f x) ++ l) (map_flat g f xs)
 
 -- two functions that agree on a list's members
-pub flat_same : {A B : Type 0} (f g : A → List B) (xs : List A) → ((x : A) → In xs x → f x ≡ g x) → flat_map f xs ≡ flat_map g xs
+pub flat_same : {A B : Type 0} (f g : A → List B) (xs : List A) → ((x : A) → Contains xs x → f x ≡ g x) → flat_map f xs ≡ flat_map g xs
 flat_same f g [] h = refl
-flat_same f g (x ∷ xs) h = λ i. h x (inl refl) i ++ flat_same f g xs (λ y k. h y (inr k)) i
+flat_same f g (x ∷ xs) h = λ i. h x (zero, omega arith, refl) i ++ flat_same f g xs (λ y k. h y (suc k.0, omega (arith, k.1), k.2)) i
 
 -- ---- lists in order
 
@@ -56,10 +56,10 @@ module _ (h : Heap) (window cards : List ℕ) (valid : IsValid h) (rising : AreC
   pub slots_ordered : Ordered (λ x y. x < y) (all_slots h)
   slots_ordered = Rises-ordered 0 (all_slots h) (all_rise h valid)
 
-  on_card : (c p : ℕ) → In (slots_on h c) p → In (all_slots h) p × (card_of h p ≡ c)
+  on_card : (c p : ℕ) → Contains (slots_on h c) p → Contains (all_slots h) p × (card_of h p ≡ c)
   on_card c p i = let m = filter_member (λ p. eqb (card_of h p) c) (all_slots h) p i in (m.0, eqb-true (card_of h p) c m.1)
 
-  pub apart : (c d p q : ℕ) → c < d → In (slots_on h c) p → In (slots_on h d) q → p < q
+  pub apart : (c d p q : ℕ) → c < d → Contains (slots_on h c) p → Contains (slots_on h d) q → p < q
   apart c d p q lt i j = elim (cases_lt p q) [
     | inl less ↦ less
     | inr ge ↦ let k : q / h.geometry.k ≤ p / h.geometry.k = le-div (q / h.geometry.k) p h.geometry.k (omega (arith, valid.limits.k_least))
@@ -77,11 +77,11 @@ module _ (h : Heap) (window cards : List ℕ) (valid : IsValid h) (rising : AreC
       (λ p i.
       let m = flat_map_cases (slots_on h) cards p i in
       let o = on_card m.0 p m.2 in
-      In-filter on_cards (all_slots h) p o.0 (has_from_in cards (card_of h p) (subst (In cards) (sym o.1) m.1)))
+      Contains-filter on_cards (all_slots h) p o.0 (has_from_contains cards (card_of h p) (subst (Contains cards) (sym o.1) m.1)))
       (λ p i.
       let m = filter_member on_cards (all_slots h) p i in
-      In-flat_map (slots_on h) cards (card_of h p) p (in_from_has cards (card_of h p) m.1)
-      (In-filter (λ q. eqb (card_of h q) (card_of h p)) (all_slots h) p m.0 (eq-eqb (card_of h p) (card_of h p) refl)))
+      Contains-flat_map (slots_on h) cards (card_of h p) p (Contains-from_has cards (card_of h p) m.1)
+      (Contains-filter (λ q. eqb (card_of h q) (card_of h p)) (all_slots h) p m.0 (eq-eqb (card_of h p) (card_of h p) refl)))
 
   abbrev crosses : Ref → Bool
   crosses e = in_set h window e.target && not (in_set h window e.slot)
@@ -92,23 +92,23 @@ module _ (h : Heap) (window cards : List ℕ) (valid : IsValid h) (rising : AreC
       let l = valid.limits in
       let m = cards_in_region h.geometry.w h.geometry.k h.geometry.n l in
       let e : p / h.geometry.k * h.geometry.k / h.geometry.w ≡ p / h.geometry.w = card_in_region h.geometry.w h.geometry.k m.0 p (omega (arith, l.k_least)) m.1 in
-      ap (has window) (sym e) ∙ outside (card_of h p) (Contains-from_in cards (card_of h p) (in_from_has cards (card_of h p) t))
+      ap (has window) (sym e) ∙ outside (card_of h p) (Contains-from_has cards (card_of h p) t)
 
-  ref_there : (p a : ℕ) → In (all_slots h) p → word h p ≡ suc a → Contains (refs h) (record { slot = p; target = a })
+  ref_there : (p a : ℕ) → Contains (all_slots h) p → word h p ≡ suc a → Contains (refs h) (record { slot = p; target = a })
   ref_there p a i e =
       let r : Ref = record { slot = p; target = a } in
-      let k : In (named (word h p)) a = subst (λ x. In (named x) a) (sym e) (inl refl) in
-      let j : In (flat_map (refs_at h) (all_slots h)) r = In-flat_map (refs_at h) (all_slots h) p r i (In-map (λ a. record { slot = p; target = a }) (named (word h p)) a k) in
-      Contains-from_in (refs h) r (subst (λ l. In l r) (sym (flat_twice h (objects h))) j)
+      let k : Contains (named (word h p)) a = subst (λ x. Contains (named x) a) (sym e) (zero, omega arith, refl) in
+      let j : Contains (flat_map (refs_at h) (all_slots h)) r = Contains-flat_map (refs_at h) (all_slots h) p r i (Contains-map (λ a. record { slot = p; target = a }) (named (word h p)) a k) in
+      subst (λ l. Contains l r) (sym (flat_twice h (objects h))) j
 
   -- a slot that references an object in the window lies on a card where it lies outside
-  tells : (p a : ℕ) (b o : Bool) → has cards (card_of h p) ≡ b → in_set h window p ≡ o → In (all_slots h) p → word h p ≡ suc a → in_set h window a ≡ true → b ≡ not o
+  tells : (p a : ℕ) (b o : Bool) → has cards (card_of h p) ≡ b → in_set h window p ≡ o → Contains (all_slots h) p → word h p ≡ suc a → in_set h window a ≡ true → b ≡ not o
   tells p a true true e f i w t = absurd (false≢true (sym (on_window p e) ∙ f))
   tells p a true false e f i w t = refl
   tells p a false true e f i w t = refl
   tells p a false false e f i w t =
       let c : Contains cards (card_of h p) = lead_in (record { slot = p; target = a }) (ref_there p a i w) t f in
-      absurd (false≢true (sym e ∙ has_from_in cards (card_of h p) (In-from_contains cards (card_of h p) c)))
+      absurd (false≢true (sym e ∙ has_from_contains cards (card_of h p) c))
 
   by_slot_in : (p a : ℕ) (b o t : Bool) → (t ≡ true → b ≡ not o) → cond b (cond t (a ∷ []) []) [] ≡ map (λ (e : Ref). e.target) (cond (t && not o) (record { slot = p; target = a } ∷ []) [])
   by_slot_in p a b o true f = ap (λ c. cond c (a ∷ []) []) (f refl) ∙ last (not o)
@@ -119,7 +119,7 @@ module _ (h : Heap) (window cards : List ℕ) (valid : IsValid h) (rising : AreC
   by_slot_in p a true o false f = refl
   by_slot_in p a false o false f = refl
 
-  by_slot_at : (p x : ℕ) → In (all_slots h) p → word h p ≡ x
+  by_slot_at : (p x : ℕ) → Contains (all_slots h) p → word h p ≡ x
       → cond (on_cards p) (filter (in_set h window) (named x)) [] ≡ map (λ (e : Ref). e.target) (filter crosses (map (λ a. record { slot = p; target = a }) (named x)))
   by_slot_at p zero i e = empty (on_cards p) []
     where
@@ -158,7 +158,7 @@ module _ (h : Heap) (window cards : List ℕ) (valid : IsValid h) (rising : AreC
   lead_in_by p a true o false f = refl
   lead_in_by p a false o false f = refl
 
-  lead_by_slot : (p x : ℕ) → In (all_slots h) p → word h p ≡ x
+  lead_by_slot : (p x : ℕ) → Contains (all_slots h) p → word h p ≡ x
       → cond (on_cards p) (map (λ a. (p, x)) (filter (in_set h window) (named x))) [] ≡ map lead (filter crosses (map (λ a. record { slot = p; target = a }) (named x)))
   lead_by_slot p zero i e = none (on_cards p) []
     where

@@ -1,10 +1,9 @@
 -- Facts of which it can be told whether they hold.
-use Rattle.std.proofs.Common.{◌≡◌, ◌≤◌, ◌<◌, ℕ, zero, suc, ◌⊎◌, inl, inr, List, [], ◌∷◌, length, slice_index, arith, refl, sym, ap, subst, ◌∙◌}
+use Rattle.std.proofs.Common.{◌≡◌, ◌≤◌, ◌<◌, ℕ, zero, suc, ◌⊎◌, inl, inr, List, [], ◌∷◌, length, slice_index, arith, refl, sym, ap, subst, ◌∙◌, Contains}
 use Rattle.std.specs.Prelude.{All, Option, Some, None}
 use Rattle.std.proofs.lemmas.Bool.{cases_lt, cases_eq}
 use Rattle.std.proofs.lemmas.Grind.{get_or_default_zero}
 use Rattle.g1_words.specs.declared.region.Kind.{Kind}
-use Rattle.g1_words.proofs.Members.{In}
 use Rattle.g1_image.specs.Faults.{IsFirstBreach}
 use Rattle.g1_words.specs.Kind.{kind_number, kind_of}
 use Rattle.g1_image.proofs.FileOf.{kind_there}
@@ -95,7 +94,7 @@ decided_any P d (suc end) = elim (d end) [
 ]
 
 -- a rule of some member of a list
-pub decided_member : {A : Type 0} (P : A → Type 0) → ((x : A) → Decided (P x)) → (xs : List A) → Decided ((x : A) × In xs x × P x)
+pub decided_member : {A : Type 0} (P : A → Type 0) → ((x : A) → Decided (P x)) → (xs : List A) → Decided ((x : A) × Contains xs x × P x)
 decided_member P d [] = inr (λ s. s.1)
 decided_member P d (x ∷ xs) = elim (d x) [
   | inl p ↦ inl (x, inl refl, p)

@@ -1,13 +1,13 @@
 -- The objects that have to be in the heap after, and the words of their copies.
-use Rattle.std.proofs.Common.{◌≡◌, ℕ, suc, ◌+◌, ◌-◌, ◌<◌, ◌⊎◌, inl, inr, List, length, get_or, Contains, refl, sym, ap, subst, ◌∙◌, arith, slice_index}
+use Rattle.std.proofs.Common.{◌≡◌, ℕ, suc, ◌+◌, ◌-◌, ◌<◌, ◌⊎◌, inl, inr, List, length, get_or, Contains, refl, sym, ap, subst, ◌∙◌, arith, slice_index, zero}
+use Rattle.std.proofs.lemmas.List.Elements.{Contains-get_or}
 use Rattle.g1_words.specs.declared.object.Object.{Object}
 use Rattle.g1_words.specs.Heap.{Heap, word, object_at, objects, slots}
 use Rattle.g1_words.specs.Valid.{IsValid}
 use Rattle.g1_words.specs.References.{named, root_targets, targets}
 use Rattle.g1_words.specs.Copy.{renamed, renamed_words, IsCopy}
-use Rattle.g1_words.proofs.Members.{In, Contains-from_in, In-flat_map}
-use Rattle.g1_words.proofs.Computed.{In-range}
-use Rattle.g1_words.proofs.Indices.{get_or-In}
+use Rattle.g1_words.proofs.Members.{Contains-flat_map}
+use Rattle.g1_words.proofs.Computed.{Contains-range}
 use Rattle.g1_words.proofs.Sound.{sound, object_in}
 use Rattle.g1_after.proofs.Determined.{word_from_copy}
 use Rattle.g1_after.proofs.CopyWords.{StaysAt, RenamedAt, renamed_word}
@@ -16,12 +16,12 @@ use Rattle.g1_kept.specs.Keeps.{Remains, outside, root, slot}
 
 -- what a root or a slot references is one of the targets
 pub root_target : (h : Heap) (b n : ℕ) → n < length h.roots → slice_index h.roots n ≡ suc b → Contains (root_targets h) b
-root_target h b n lt e = Contains-from_in (root_targets h) b (In-flat_map named h.roots (slice_index h.roots n) b (get_or-In h.roots n 0 lt) (subst (λ z. In (named z) b) (sym e) (inl refl)))
+root_target h b n lt e = Contains-flat_map named h.roots (slice_index h.roots n) b (Contains-get_or h.roots n 0 lt) (subst (λ z. Contains (named z) b) (sym e) (zero, omega arith, refl))
 
 pub slot_target : (h : Heap) (a b n : ℕ) → n < (object_at h a).refs → word h (a + 1 + n) ≡ suc b → Contains (targets h a) b
 slot_target h a b n lt e =
-    Contains-from_in (targets h a) b (In-flat_map (λ p. named (word h p)) (slots (object_at h a)) (a + 1 + n) b
-    (In-range (a + 1) (object_at h a).refs (a + 1 + n) (omega arith) (omega arith)) (subst (λ z. In (named z) b) (sym e) (inl refl)))
+    Contains-flat_map (λ p. named (word h p)) (slots (object_at h a)) (a + 1 + n) b
+    (Contains-range (a + 1) (object_at h a).refs (a + 1 + n) (omega arith) (omega arith)) (subst (λ z. Contains (named z) b) (sym e) (zero, omega arith, refl))
 
 -- they are objects
 pub remains_object : (set : List ℕ) (g h : Heap) → IsValid g → (a : ℕ) → Remains set g h a → Contains (objects g) (object_at g a)

@@ -8,7 +8,7 @@ use Rattle.std.proofs.lemmas.Map.Made.{IsDistinct-from_AllPairs}
 use Rattle.std.proofs.lemmas.Map.Steps.{length-le_from_distinct_below}
 use Rattle.g1_words.proofs.Bounds.{object_within}
 use Rattle.g1_words.proofs.Computed.{contains_has}
-use Rattle.g1_words.proofs.Members.{Contains-from_in, in_from_has}
+use Rattle.g1_words.proofs.Members.{Contains-from_has}
 use Rattle.g1_words.proofs.Sound.{sound}
 use Rattle.g1_words.specs.Heap.{Heap, free_region, kind, object_at, region, region_of}
 use Rattle.g1_words.specs.Valid.{IsValid}
@@ -45,7 +45,7 @@ module _ (h : Heap) (set l : List ℕ) (valid : IsValid h) (can : CanPlace h set
 
   few : length l ≤ length h.words
   few = length-le_from_distinct_below l (length h.words) (IsDistinct-from_AllPairs Decides-eqb l can.distinct)
-      (λ q e. let c = Contains-from_in l q (in_from_has l q e) in subst (λ a. a < length h.words) c.2 (in_words c.0 q c.1))
+      (λ q e. let c = Contains-from_has l q e in subst (λ a. a < length h.words) c.2 (in_words c.0 q c.1))
 
   -- survivors that can be placed can be laid
   pub can_lay : CanLay h l

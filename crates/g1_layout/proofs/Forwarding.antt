@@ -1,10 +1,9 @@
 -- The table of new addresses, as it is written.
-use Rattle.std.proofs.Common.{◌≡◌, ◌≢◌, ℕ, zero, suc, ◌+◌, ◌<◌, Bool, true, false, cond, List, [], ◌∷◌, Option, Some, None, AllPairs, All, inl, inr, length, get_or, set, refl, sym, ◌∙◌, ap, arith}
+use Rattle.std.proofs.Common.{◌≡◌, ◌≢◌, ℕ, zero, suc, ◌+◌, ◌<◌, Bool, true, false, cond, List, [], ◌∷◌, Option, Some, None, AllPairs, All, inl, inr, length, get_or, set, refl, sym, ◌∙◌, ap, arith, Contains}
 use Rattle.std.proofs.Common.{eq-eqb, ne_eqb}
 use Rattle.std.proofs.lemmas.Bool.{false≢true, cases_eq}
 use Rattle.std.proofs.lemmas.List.{get_or-set_same, get_or-set_other, get_or_default}
 use Rattle.g1_words.specs.Layout.{moved_to}
-use Rattle.g1_words.proofs.Members.{In, Contains-from_in}
 use Rattle.g1_words.proofs.OneToOne.{moved_stays}
 use Rattle.g1_layout.specs.Numbers.{number_at, number_if, number_of}
 use Rattle.g1_layout.specs.Words.{AreIndices, AreMarkedTo, ArePlacedTo, HasIndex, index_of, goes_to, told, told_at}
@@ -52,12 +51,12 @@ module _ (w : ℕ) (positions : List (Option ℕ)) (l : List ℕ) (marks : List 
       → (a : ℕ) → goes_to w positions marks by a ≡ moved_to l ps a
   goes_where_moved by d same has so a = at (index_of w positions a) refl
     where
-      stays : (In l a → ⊥) → a ≡ moved_to l ps a
+      stays : (Contains l a → ⊥) → a ≡ moved_to l ps a
       stays out = sym (moved_stays l ps a out)
 
       -- the address of a member has an index
-      index_there : In l a → (k : ℕ) × ((k < length l) × (get_or l k 0 ≡ a))
-      index_there in_l = let c = Contains-from_in l a in_l in (c.0, (c.1, get_or_default l c.0 0 a c.1 ∙ c.2))
+      index_there : Contains l a → (k : ℕ) × ((k < length l) × (get_or l k 0 ≡ a))
+      index_there in_l = let c = in_l in (c.0, (c.1, get_or_default l c.0 0 a c.1 ∙ c.2))
 
       marked : (j : ℕ) (b : Bool) → index_of w positions a ≡ Some j → get_or marks j false ≡ b → told (number_if b (number_at marks j)) by a ≡ moved_to l ps a
       marked j true e f =

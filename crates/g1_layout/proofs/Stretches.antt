@@ -13,8 +13,8 @@ use Rattle.std.proofs.lemmas.Slice.Zip.{get_or-zip, length-zip}
 use Rattle.std.proofs.Math.Nat.{mul-le-mul_right}
 use Rattle.std.proofs.Math.Seq.{drop-cons, take-add, take-length}
 use Rattle.g1_words.proofs.Firsts.{Distinct, Distinct-firsts}
-use Rattle.g1_words.proofs.Indices.{In-take}
-use Rattle.g1_words.proofs.Members.{In, Contains-from_in, in_from_has}
+use Rattle.g1_words.proofs.Indices.{Contains-take}
+use Rattle.g1_words.proofs.Members.{Contains-from_has}
 use Rattle.g1_words.proofs.NextFit.{offset_of_row}
 use Rattle.g1_words.proofs.OneToOne.{reached_in_set, reached_object}
 use Rattle.g1_words.proofs.Ordered.{Ordered, pairs_from_ordered}
@@ -116,13 +116,13 @@ survivors_can h set l valid rising ordinary survivors =
       ordinary = ordinary;
       objects = λ k d lt. reached_object h set (sound h valid) (get_or l k d) ((survivors.reached (get_or l k d)).0 (k, lt, get_or_default l k (get_or l k d) d lt));
       in_set = λ k d lt. let a : ℕ = get_or l k d in
-          Contains-from_in set (region_of h a) (in_from_has set (region_of h a) (reached_in_set h set a ((survivors.reached a).0 (k, lt, get_or_default l k a d lt))));
+          (Contains-from_has set (region_of h a) (reached_in_set h set a ((survivors.reached a).0 (k, lt, get_or_default l k a d lt))));
       distinct = pairs_from_ordered (λ a b. a ≢ b) l (ordered l distinct);
     }
   where
     ordered : (xs : List ℕ) → Distinct xs → Ordered (λ a b. a ≢ b) xs
     ordered [] d = tt
-    ordered (x ∷ xs) d = ((λ y i e. d.0 (subst (In xs) (sym e) i)), ordered xs d.1)
+    ordered (x ∷ xs) d = ((λ y i e. d.0 (subst (Contains xs) (sym e) i)), ordered xs d.1)
 
 pub run_regions : RunRegions
 run_regions h l room = map-map (λ u. u.region) (run_at h l) (range_with_len 0 (need h l)) ∙ taken (free_regions h) 0 (need h l) (omega arith)
@@ -152,8 +152,7 @@ module _ (h : Heap) (set l : List ℕ) (valid : IsValid h) (can : CanPlace h set
       let f = fits h l positive lay room k c.1 in
       let offset : forward h l a % h.geometry.w ≡ row_of k % h.geometry.w = ap (λ x. x % h.geometry.w) to ∙ offset_at k c.1 in
       let size : get_or (sizes_of h l) k 0 ≡ (object_at h a).size = size_is h l positive lay room k c.1 ∙ ap (λ x. (object_at h x).size) is in (
-        subst (Contains (to_space h l)) (sym region) (Contains-from_in (to_space h l) (get_or (free_regions h) (row_of k / h.geometry.w) 0)
-            (In-take (need h l) (free_regions h) (row_of k / h.geometry.w) 0 below (omega arith))),
+        subst (Contains (to_space h l)) (sym region) (Contains-take (need h l) (free_regions h) (row_of k / h.geometry.w) 0 below (omega arith)),
         omega (arith, f.1, offset, size),
       )
 

@@ -15,7 +15,7 @@ use Rattle.g1_choose.specs.Choice.{candidates, is_candidate, garbage}
 use Rattle.g1_pause.specs.declared.settings.Choice.{Choice}
 use Rattle.g1_pause.specs.declared.settings.Choice.TheVariants.{Budget, Given}
 use Rattle.g1_pause.specs.Answer.{IsSetFor}
-use Rattle.g1_words.proofs.Members.{In-from_contains, Contains-from_in, filter_member, in_from_has}
+use Rattle.g1_words.proofs.Members.{filter_member, Contains-from_has}
 use Rattle.g1_words.proofs.Computed.{range_below}
 use Rattle.g1_words.proofs.Lists.{all_from_in}
 use Rattle.g1_rem.proofs.Rising.{Rises-range, Rises-increasing}
@@ -33,11 +33,11 @@ pub set_ordinary : (cost : Cost) (i : Image) (choice : Choice) (set : List ℕ) 
 set_ordinary cost i (Budget b) set s r c =
     let remembered : List (List ℕ) = map (refined i) (regions i.heap) in
     let d : Contains (candidates cost i.heap remembered s.0) r = only_candidates cost i.heap remembered s.0 (length i.log) b set r s.2 c in
-    let p = (filter_member (is_candidate cost i.heap remembered s.0) (regions i.heap) r (In-from_contains (candidates cost i.heap remembered s.0) r d)).1 in
+    let p = (filter_member (is_candidate cost i.heap remembered s.0) (regions i.heap) r d).1 in
     ordinary_by_test (kind i.heap r) (and_parts (is_ordinary (kind i.heap r)) (not (pinned i.heap r) && ltb 0 (garbage cost i.heap remembered s.0 r)) p).0
 set_ordinary cost i (Given list) set s r c =
-    let f = filter_member (has list.items) (regions i.heap) r (subst (λ xs. Rattle.g1_words.proofs.Members.In xs r) s.1 (In-from_contains set r c)) in
-    s.0.ordinary r (Contains-from_in list.items r (in_from_has list.items r f.1))
+    let f = filter_member (has list.items) (regions i.heap) r (subst (λ xs. Rattle.g1_words.proofs.Members.In xs r) s.1 c) in
+    s.0.ordinary r (Contains-from_has list.items r f.1)
 
 -- they are regions of the heap, rising
 filtered_regions : (h : Heap) (p : ℕ → Bool) → AreRegions h (filter p (regions h))

@@ -14,7 +14,7 @@ use Rattle.g1_words.specs.declared.object.Object.{Object}
 use Rattle.g1_words.specs.Heap.{start, card_of}
 use Rattle.g1_words.specs.Lists.{has}
 use Rattle.g1_words.specs.Valid.{IsValid}
-use Rattle.g1_words.proofs.Members.{In-from_contains, Contains-from_in, has_from_in}
+use Rattle.g1_words.proofs.Members.{has_from_contains}
 use Rattle.g1_words.proofs.Indices.{not_has}
 use Rattle.g1_image.specs.Image.{Image, remembered_of}
 use Rattle.g1_rem.specs.Marks.{objects_from}
@@ -23,13 +23,13 @@ use Rattle.g1_rem.proofs.Between.{from_chain}
 
 -- a place before which all cards are below one, and its own card not, tells whether that one is in the set
 pub has_here : (xs : List ℕ) (place x : ℕ) → place < length xs → x ≡ get_or xs place x → has xs x ≡ true
-has_here xs place x lt e = has_from_in xs x (In-from_contains xs x (place, lt, sym e))
+has_here xs place x lt e = has_from_contains xs x (place, lt, sym e)
 
 -- and where its own card is another, the set does not have it
 pub has_not : (xs : List ℕ) (place card : ℕ) → IsStrictlyIncreasing xs → IsBehind xs place card → (place < length xs → card ≤ slice_index xs place)
     → (place < length xs → slice_index xs place ≡ card → ⊥) → has xs card ≡ false
 has_not xs place card rising behind next other = not_has xs card (λ i.
-    let c = Contains-from_in xs card i in
+    let c = i in
     let at : slice_index xs c.0 ≡ card = get_or_default xs c.0 0 card c.1 ∙ c.2 in
     elim (cases_lt c.0 place) [
       | inl before ↦ (let k = behind.below c.0 before in omega (arith, k, at))

@@ -1,5 +1,5 @@
 -- The slots between two addresses, object by object.
-use Rattle.std.proofs.Common.{◌≡◌, ◌≤◌, ◌<◌, ℕ, ◌+◌, ◌-◌, ◌/◌, ◌%◌, ◌^◌, ◌⊎◌, inl, inr, true, List, [], ◌∷◌, ◌++◌, length, slice_index, filter, flat_map, max, min, arith, refl}
+use Rattle.std.proofs.Common.{◌≡◌, ◌≤◌, ◌<◌, ℕ, ◌+◌, ◌-◌, ◌/◌, ◌%◌, ◌^◌, ◌⊎◌, inl, inr, true, List, [], ◌∷◌, ◌++◌, length, slice_index, filter, flat_map, max, min, arith, refl, Contains}
 use Rattle.std.proofs.Common.{sym, ap, subst, ◌∙◌, append-nil}
 use Rattle.std.specs.Prelude.{nat_le, nat_lt}
 use Rattle.std.specs.List.{range_with_len}
@@ -12,9 +12,9 @@ use Rattle.g1_words.specs.declared.object.Object.{Object}
 use Rattle.g1_words.specs.Heap.{slots}
 use Rattle.g1_words.specs.Valid.{Tiles}
 use Rattle.g1_words.specs.Walk.{Reaches}
-use Rattle.g1_words.proofs.Members.{In, In-filter, filter_member}
+use Rattle.g1_words.proofs.Members.{Contains-filter, filter_member}
 use Rattle.g1_words.proofs.Tiling.{Tiles-le, Tiles-append, Reaches-front, Front, same_object}
-use Rattle.g1_words.proofs.Computed.{In-range, range_above, range_below, Tiles-length}
+use Rattle.g1_words.proofs.Computed.{Contains-range, range_above, range_below, Tiles-length}
 use Rattle.g1_rem.specs.Slots.{is_between}
 use Rattle.g1_rem.specs.Marks.{Chain}
 use Rattle.g1_rem.proofs.Rising.{Rises-range, Rises-filter, Rises-one, Rises-above}
@@ -40,14 +40,14 @@ slots_range at refs lo hi first last f l =
     (λ p i.
     let a = range_above first (last - first) p i in
     let b = range_below first (last - first) p i in
-    In-filter (is_between lo hi) (range_with_len (at + 1) refs) p (In-range (at + 1) refs p (omega (arith, a, f)) (omega (arith, a, b, l)))
+    Contains-filter (is_between lo hi) (range_with_len (at + 1) refs) p (Contains-range (at + 1) refs p (omega (arith, a, f)) (omega (arith, a, b, l)))
     (between_is lo hi p (omega (arith, a, f)) (omega (arith, a, b, l))))
     (λ p i.
     let m = filter_member (is_between lo hi) (range_with_len (at + 1) refs) p i in
     let a = range_above (at + 1) refs p m.0 in
     let b = range_below (at + 1) refs p m.0 in
     let t = is_between_there lo hi p m.1 in
-    In-range first (last - first) p (omega (arith, a, t.0, f)) (omega (arith, a, b, t.0, t.1, f, l)))
+    Contains-range first (last - first) p (omega (arith, a, t.0, f)) (omega (arith, a, b, t.0, t.1, f, l)))
 
 -- two rows between the same addresses are one
 pub Tiles-one : (words : List ℕ) (from : ℕ) (os qs : List Object) (to : ℕ) → Tiles words from os to → Tiles words from qs to → os ≡ qs
@@ -60,7 +60,7 @@ Tiles-one words from (o ∷ os) (q ∷ qs) to t u =
     ap (λ x. x ∷ os) e ∙ ap (λ l. q ∷ l) rest
 
 -- the slots of a row lie in it
-pub slots_above : (words : List ℕ) (from : ℕ) (os : List Object) (to p : ℕ) → Tiles words from os to → In (flat_map slots os) p → from ≤ p
+pub slots_above : (words : List ℕ) (from : ℕ) (os : List Object) (to p : ℕ) → Tiles words from os to → Contains (flat_map slots os) p → from ≤ p
 slots_above words from os to p t i =
     let c : Chain from (os ++ []) = Chain-tiles words from os to [] t tt in
     let d : Chain from os = subst (λ l. Chain from l) (append-nil os) c in
@@ -144,6 +144,6 @@ scan_end words from to lo hi at items s over os t =
     ∙ sym (filter-append (is_between lo hi) (flat_map slots s.before) (flat_map slots after)) ∙ ap (filter (is_between lo hi)) (sym (flat_map-append slots s.before after))
     ∙ ap (λ l. filter (is_between lo hi) (flat_map slots l)) (sym whole)
   where
-    empty : (os : List Object) → length os ≤ 0 → (p : ℕ) → In (flat_map slots os) p → ⊥
+    empty : (os : List Object) → length os ≤ 0 → (p : ℕ) → Contains (flat_map slots os) p → ⊥
     empty [] le p i = i
     empty (o ∷ os) le p i = omega (arith, le)

@@ -12,7 +12,6 @@ use Rattle.g1_same.specs.Walk.{IsIndex, IsNew, IsRoute, root, slot, AreAlike, Is
 use Rattle.g1_same.proofs.Linked.{LinksRoots, LinksPairs, LinksTo}
 use Rattle.g1_same.specs.Behind.{IsStaleAt, Differs, DiffersAt, ShowsAt, IsFound, IsThere, LinksBetween, FindsAlike, AddsOnly}
 use Rattle.g1_same.specs.Underway.{FindsAlikeUntil}
-use Rattle.g1_words.proofs.Members.{In, In-from_contains}
 use Rattle.g1_same.proofs.Heaps.{root_names, slot_names}
 use Rattle.g1_same.proofs.Adding.{linked_more}
 use Rattle.g1_same.proofs.Tables.{index_some}
@@ -302,7 +301,7 @@ tour_of g h w walk = record {
 }
 
 none_in : {A : Type 0} (l : List A) (x : A) → l ≡ [] → Contains l x → ⊥
-none_in l x e c = subst (λ l. In l x → ⊥) (sym e) (λ i. i) (In-from_contains l x c)
+none_in l x e c = subst (λ l. Contains l x → ⊥) (sym e) (λ i. i) c
 
 -- without stale words none is at a place
 pub no_stale : (s : StaleWords) (w : Walk) (f n z : ℕ) → s.roots.now ≡ [] → s.slots.now ≡ [] → IsStaleAt s w f n z → ⊥

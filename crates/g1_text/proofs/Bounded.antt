@@ -1,5 +1,5 @@
 -- The lines of an image are lines of words: its numbers have 64 bits.
-use Rattle.std.proofs.Common.{ℕ, zero, suc, ◌+◌, ◌-◌, ◌*◌, ◌/◌, ◌<◌, ◌≤◌, ◌^◌, inl, inr, Bool, true, false, List, [], ◌∷◌, ◌++◌, length, get_or, drop, map, flat_map, refl, arith}
+use Rattle.std.proofs.Common.{ℕ, zero, suc, ◌+◌, ◌-◌, ◌*◌, ◌/◌, ◌<◌, ◌≤◌, ◌^◌, inl, inr, Bool, true, false, List, [], ◌∷◌, ◌++◌, length, get_or, drop, map, flat_map, refl, arith, Contains}
 use Rattle.std.specs.Prelude.{Option, Some, None, IfSome, decimal, codes, slice_index, nat_lt}
 use Rattle.std.proofs.Math.Nat.{mul-le-mul_left}
 use Rattle.g1_words.specs.Geometry.{most_words, most_region_words}
@@ -9,7 +9,6 @@ use Rattle.g1_words.specs.Valid.{IsObject, IsReference, IsValid}
 use Rattle.g1_words.specs.declared.object.Object.{Object}
 use Rattle.g1_words.specs.declared.region.Kind.{Kind}
 use Rattle.g1_words.specs.declared.region.Kind.TheVariants.{Free, Ordinary, HumongousFirst, Continuation}
-use Rattle.g1_words.proofs.Members.{In, Contains-from_in}
 use Rattle.g1_words.proofs.Bounds.{object_within}
 use Rattle.g1_words.proofs.Computed.{in_region_has}
 use Rattle.g1_words.proofs.Objects.{object_stands, tops_fit}
@@ -93,9 +92,9 @@ module _ (i : Image) (good : IsImage i) where
   top_small r lt = let t = tops_fit i.heap valid r (record { kind = Free; top = 0; pinned = false }) (omega (arith, lt, valid.region_count)) in omega (arith, t, valid.limits.w_most)
 
   -- an object's numbers
-  pub object_small : (r : ℕ) (o : Object) → r < i.heap.geometry.n → In (objects_in i.heap r) o → (o.at < 2 ^ 64) × (o.size < 2 ^ 64) × (o.refs < 2 ^ 64)
+  pub object_small : (r : ℕ) (o : Object) → r < i.heap.geometry.n → Contains (objects_in i.heap r) o → (o.at < 2 ^ 64) × (o.size < 2 ^ 64) × (o.refs < 2 ^ 64)
   object_small r o lt m =
-      let has = in_region_has i.heap r o valid.shaped lt (Contains-from_in (objects_in i.heap r) o m) in
+      let has = in_region_has i.heap r o valid.shaped lt m in
       let within = object_within i.heap valid o has in
       let stands = object_stands i.heap o (o.at / i.heap.geometry.w) valid has refl in
       let object : IsObject i.heap.words o = stands_object (kind i.heap (o.at / i.heap.geometry.w)) i.heap (o.at / i.heap.geometry.w) o stands.1 in
@@ -107,7 +106,7 @@ module _ (i : Image) (good : IsImage i) where
   pub data_small : (o : Object) → Small (data_values i.heap.words o)
   data_small o = small_take (o.at + o.size - (o.at + 1 + o.refs)) (drop (o.at + 1 + o.refs) i.heap.words) (small_drop (o.at + 1 + o.refs) i.heap.words words_small)
 
-  object_is_line : (r : ℕ) (o : Object) → r < i.heap.geometry.n → In (objects_in i.heap r) o → IsLine (object_line i.heap.words o)
+  object_is_line : (r : ℕ) (o : Object) → r < i.heap.geometry.n → Contains (objects_in i.heap r) o → IsLine (object_line i.heap.words o)
   object_is_line r o lt m =
       let small = object_small r o lt m in (
         by_letters (codes "object") refl,

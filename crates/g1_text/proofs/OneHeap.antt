@@ -1,5 +1,5 @@
 -- An image whose text is that of a filled file has this file's heap.
-use Rattle.std.proofs.Common.{◌≡◌, ◌<◌, inl, inr, ℕ, ◌+◌, ◌*◌, ◌%◌, ◌^◌, Bool, true, false, T, List, [], ◌∷◌, ◌++◌, length, drop, map, flat_map, slice_index, slice_index_or, bit_xor, append-nil, length-append, refl, sym, ◌∙◌, ap, subst, arith}
+use Rattle.std.proofs.Common.{◌≡◌, ◌<◌, inl, inr, ℕ, ◌+◌, ◌*◌, ◌%◌, ◌^◌, Bool, true, false, T, List, [], ◌∷◌, ◌++◌, length, drop, map, flat_map, slice_index, slice_index_or, bit_xor, append-nil, length-append, refl, sym, ◌∙◌, ap, subst, arith, Contains, zero, suc}
 use Rattle.std.specs.Prelude.{Option, Some, None, IfSome, unwrap_or, if◌then◌else◌, nat_lt, ◌==◌, All, to_bits, codes}
 use Rattle.std.specs.List.{AllZip, range_with_len}
 use Rattle.std.specs.Option.{option_map, option_and_then}
@@ -17,7 +17,6 @@ use Rattle.g1_words.specs.declared.region.Region.{Region}
 use Rattle.g1_words.specs.declared.region.Kind.{Kind}
 use Rattle.g1_words.specs.declared.region.Kind.TheVariants.{Free, Ordinary, HumongousFirst, Continuation}
 use Rattle.g1_words.specs.Kind.{kind_number}
-use Rattle.g1_words.proofs.Members.{In}
 use Rattle.g1_image.specs.Text.{File, heading_of, file_text, table_text, words_text, numbers_text, remembered_texts, entry_text, table_words}
 use Rattle.g1_image.specs.declared.cursor.Version.TheVariants.{Two}
 use Rattle.g1_image.specs.Reading.{Are, IsU64}
@@ -169,10 +168,10 @@ module _ (g : NamedGraph) (ats : List ℕ) (small : All IsAddress ats) where
       (All-cons IsU64 (size_of o * 2 ^ 32 + length o.slots) (map (word_for g ats) o.slots ++ are.values) (omega (arith, fits))
       (All-append IsU64 (map (word_for g ats) o.slots) are.values slots (values_small are.values o.written are.stand)))
 
-  pub words_fit : (os : List (NamedObject × ℕ)) (wordss : List (List ℕ)) → ((o : NamedObject × ℕ) → In os o → size_of o.0 < 2 ^ 32)
+  pub words_fit : (os : List (NamedObject × ℕ)) (wordss : List (List ℕ)) → ((o : NamedObject × ℕ) → Contains os o → size_of o.0 < 2 ^ 32)
       → AllZip (λ o ws. AreWordsOf g ats o.0 ws) os wordss → All IsU64 (flat_map (λ ws. ws) wordss)
   words_fit [] [] fits all = All-nil IsU64
   words_fit [] (ws ∷ wordss) fits all = elim all [ ]
   words_fit (o ∷ os) [] fits all = elim all [ ]
   words_fit (o ∷ os) (ws ∷ wordss) fits all =
-      All-append IsU64 ws (flat_map (λ ws. ws) wordss) (own_fit o.0 ws (fits o (inl refl)) all.0) (words_fit os wordss (λ p i. fits p (inr i)) all.1)
+      All-append IsU64 ws (flat_map (λ ws. ws) wordss) (own_fit o.0 ws (fits o (zero, omega arith, refl)) all.0) (words_fit os wordss (λ p i. fits p (suc i.0, omega (arith, i.1), i.2)) all.1)

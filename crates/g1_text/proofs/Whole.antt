@@ -1,5 +1,5 @@
 -- The lines of an image add up to the image.
-use Rattle.std.proofs.Common.{◌≡◌, ℕ, zero, suc, ◌+◌, ◌-◌, ◌*◌, ◌^◌, ◌<◌, ◌≤◌, inl, inr, Bool, List, [], ◌∷◌, ◌++◌, length, get_or, take, drop, map, flat_map, set, min, replicate}
+use Rattle.std.proofs.Common.{◌≡◌, ℕ, zero, suc, ◌+◌, ◌-◌, ◌*◌, ◌^◌, ◌<◌, ◌≤◌, inl, inr, Bool, List, [], ◌∷◌, ◌++◌, length, get_or, take, drop, map, flat_map, set, min, replicate, Contains}
 use Rattle.std.proofs.Common.{refl, sym, ◌∙◌, ap, subst, arith, append_assoc, append-nil, length-append, length-take-le, drop-drop, take_all}
 use Rattle.std.specs.Prelude.{Option, Some, None, IfSome, All, slice_index, slice_index_or}
 use Rattle.std.specs.List.{range_with_len}
@@ -18,7 +18,6 @@ use Rattle.g1_words.specs.declared.region.Region.{Region}
 use Rattle.g1_words.specs.declared.region.Kind.{Kind}
 use Rattle.g1_words.specs.declared.region.Kind.TheVariants.{Free, Ordinary, HumongousFirst, Continuation}
 use Rattle.g1_words.proofs.Computed.{object_is, holds_are, range_below}
-use Rattle.g1_words.proofs.Members.{In, Contains-from_in}
 use Rattle.g1_words.proofs.Lists.{range_split}
 use Rattle.g1_image.specs.Image.{Image, IsImage, IsUsedCard, remembered_of, used_words}
 use Rattle.g1_text.specs.Laws.{LinesAddUp, LinesSayImage}
@@ -64,11 +63,11 @@ remembered_words : (r : ℕ) (cards : List ℕ) → map words_of (said_remembere
 remembered_words r [] = refl
 remembered_words r (c ∷ cs) = refl
 
-flat_words : (f : ℕ → List Line) (g : ℕ → List (List (List ℕ))) (xs : List ℕ) → ((x : ℕ) → In xs x → map words_of (f x) ≡ g x) → map words_of (flat_map f xs) ≡ flat_map g xs
+flat_words : (f : ℕ → List Line) (g : ℕ → List (List (List ℕ))) (xs : List ℕ) → ((x : ℕ) → Contains xs x → map words_of (f x) ≡ g x) → map words_of (flat_map f xs) ≡ flat_map g xs
 flat_words f g [] each = refl
 flat_words f g (x ∷ xs) each =
-    let first = each x (inl refl) in
-    let rest = flat_words f g xs (λ y m. each y (inr m)) in
+    let first = each x (zero, omega arith, refl) in
+    let rest = flat_words f g xs (λ y m. each y (suc m.0, omega (arith, m.1), m.2)) in
     map-append words_of (f x) (flat_map f xs) ∙ (λ t. first t ++ rest t)
 
 module _ (i : Image) (good : IsImage i) where
@@ -251,8 +250,8 @@ module _ (i : Image) (good : IsImage i) (r : ℕ) (below : r < i.heap.geometry.n
   objects_small : length (objects_in i.heap r) < 2 ^ 64
   objects_small = let few = objects_few (kind i.heap r) i.heap r in let small = top_small i good r below in omega (arith, few, small)
 
-  members : (k : Kind) → kind i.heap r ≡ k → (o : Object) → In (objects_by k i.heap r) o → IsPlain i.heap.words o
-  members k is o m = plain i good r o below (subst (λ l. In l o) (ap (λ x. objects_by x i.heap r) (sym is)) m)
+  members : (k : Kind) → kind i.heap r ≡ k → (o : Object) → Contains (objects_by k i.heap r) o → IsPlain i.heap.words o
+  members k is o m = plain i good r o below (subst (λ l. Contains l o) (ap (λ x. objects_by x i.heap r) (sym is)) m)
 
   filled : (ats : List ℕ) (k : Kind) → kind i.heap r ≡ k → IsShapedBy k i.heap r → (b : ℕ) → GoesOn i.heap r b
       → MayFollow (after_regions i r b) k × (after : ℕ) × GoesOn i.heap (r + 1) after × Filled k b after ats
@@ -275,8 +274,8 @@ module _ (i : Image) (good : IsImage i) (r : ℕ) (below : r < i.heap.geometry.n
       let from : r * w ≡ r * w + 0 = omega arith in
       let placed : Tiles i.heap.words (r * w + 0) os (r * w + top i.heap r) =
       subst (λ a. Tiles i.heap.words a os (r * w + top i.heap r)) from (subst (λ l. Tiles i.heap.words (r * w) l (r * w + top i.heap r)) are tiles) in
-      let each : (o : Object) → In os o → IsPlain i.heap.words o × (4 * o.size ≤ 3 * w) =
-      λ o m. (members Ordinary is o m, (let c = Contains-from_in shaped.2 o (subst (λ l. In l o) (sym are) m) in subst (λ (x : Object). 4 * x.size ≤ 3 * w) c.2 (shaped.4 c.0 o c.1))) in
+      let each : (o : Object) → Contains os o → IsPlain i.heap.words o × (4 * o.size ≤ 3 * w) =
+      λ o m. (members Ordinary is o m, (let c = subst (λ l. Contains l o) (sym are) m in subst (λ (x : Object). 4 * x.size ≤ 3 * w) c.2 (shaped.4 c.0 o c.1))) in
       let few : 0 + length os < 2 ^ 64 = (let same : length os ≡ length (objects_in i.heap r) = ap (λ k. length (objects_by k i.heap r)) (sym is) in omega (arith, same, objects_small)) in
       let added = objects_add i good r below (pinned i.heap r) (sets_said i (r + 1)) os (words_said i r b) (b - 0) 0 (top i.heap r) 0 ats placed shaped.1 each few in
       let height : top i.heap r - 0 ≡ top i.heap r = omega arith in
@@ -299,7 +298,7 @@ module _ (i : Image) (good : IsImage i) (r : ℕ) (below : r < i.heap.geometry.n
       let same : shaped.0 ≡ o = object_is i.heap shaped.0 shaped.1.object ∙ ap (object_at i.heap) shaped.1.at in
       let shape : IsFirst i.heap r o × IsHumongous i.heap o × (top i.heap r ≡ min w o.size) × IsWholeRun i.heap r o.size =
       subst (λ x. IsFirst i.heap r x × IsHumongous i.heap x × (top i.heap r ≡ min w x.size) × IsWholeRun i.heap r x.size) same (shaped.1, shaped.2, shaped.3, shaped.4) in
-      let is_plain : IsPlain i.heap.words o = members HumongousFirst is o (inl refl) in
+      let is_plain : IsPlain i.heap.words o = members HumongousFirst is o (zero, omega arith, refl) in
       let used : List ℕ = used_words w (take r i.heap.regions) i.heap.words in
       let here : List ℕ = drop (r * w) i.heap.words in
       let words : words_said i r b ++ take o.size here ≡ words_said i (r + 1) (o.size - w) =

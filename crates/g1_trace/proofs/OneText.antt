@@ -1,8 +1,7 @@
 -- A text has one trace, and no bad line; bytes have one first bad line.
-use Rattle.std.proofs.Common.{◌≡◌, ℕ, zero, suc, ◌+◌, ◌<◌, ◌≤◌, inl, inr, List, [], ◌∷◌, ◌++◌, length, get_or, drop, map, refl, sym, ◌∙◌, ap, subst, arith, append_assoc}
+use Rattle.std.proofs.Common.{◌≡◌, ℕ, zero, suc, ◌+◌, ◌<◌, ◌≤◌, inl, inr, List, [], ◌∷◌, ◌++◌, length, get_or, drop, map, refl, sym, ◌∙◌, ap, subst, arith, append_assoc, Contains}
 use Rattle.std.specs.Prelude.{All, decimal}
 use Rattle.g1_words.specs.Geometry.{Geometry}
-use Rattle.g1_words.proofs.Members.{In, Contains-from_in}
 use Rattle.g1_trace.specs.declared.command.Command.{Command}
 use Rattle.g1_trace.specs.declared.command.Command.TheVariants.{New, Get, Put, Set, Say, Same, Copy, Drop, Pause}
 use Rattle.g1_trace.specs.TraceText.{spaced, name_of, numbers_of, AllFit, command_line, heap_line, ended, IsLineAt, AreLines, IsBadRest}
@@ -58,13 +57,13 @@ line_clean : (m : ℕ) (line : List ℕ) → IsLineAt m line → Clean line
 line_clean zero line (w, k, n, roots, f, e) = subst Clean (sym e) (heap_clean w k n roots f)
 line_clean (suc m) line (c, f, e) = subst Clean (sym e) (command_clean c f)
 
-clean_from : (xs : List ℕ) → (In xs 10 → ⊥) → Clean xs
+clean_from : (xs : List ℕ) → (Contains xs 10 → ⊥) → Clean xs
 clean_from [] f = tt
 clean_from (x ∷ xs) f = ((λ e. f (inl e)), clean_from xs (λ i. f (inr i)))
 
-in_middle : (xs ys : List ℕ) → In (xs ++ 10 ∷ ys) 10
-in_middle [] ys = inl refl
-in_middle (x ∷ xs) ys = inr (in_middle xs ys)
+in_middle : (xs ys : List ℕ) → Contains (xs ++ 10 ∷ ys) 10
+in_middle [] ys = (zero, omega arith, refl)
+in_middle (x ∷ xs) ys = let m = in_middle xs ys in (suc m.0, omega (arith, m.1), m.2)
 
 -- ---- one trace a text
 
@@ -89,7 +88,7 @@ rest_fit c cs f k d lt = f (suc k) d (omega (arith, lt))
 
 -- an ended line isn't nothing
 ended_some : (line more : List ℕ) → [] ≡ (line ++ 10 ∷ []) ++ more → ⊥
-ended_some line more e = subst (λ xs. In xs 10) (sym (append_assoc line (10 ∷ []) more) ∙ sym e) (in_middle line more)
+ended_some line more e = subst (λ xs. Contains xs 10) (sym (append_assoc line (10 ∷ []) more) ∙ sym e) (in_middle line more)
 
 -- the first lines of the same bytes
 first_lines : (a b xs ys : List ℕ) → Clean a → Clean b → (a ++ 10 ∷ []) ++ xs ≡ (b ++ 10 ∷ []) ++ ys → (a ≡ b) × (xs ≡ ys)
@@ -124,16 +123,16 @@ one_trace bytes g h roots more cs ds p q =
 
 -- what begins with a line of its form isn't bad
 starts_good : (m : ℕ) (rest line more : List ℕ) → IsLineAt m line → rest ≡ (line ++ 10 ∷ []) ++ more → IsBadRest m rest → ⊥
-starts_good m rest line more is e (inl b) = b.0 (Contains-from_in rest 10 (subst (λ xs. In xs 10) (sym (append_assoc line (10 ∷ []) more) ∙ sym e) (in_middle line more)))
+starts_good m rest line more is e (inl b) = b.0 (subst (λ xs. Contains xs 10) (sym (append_assoc line (10 ∷ []) more) ∙ sym e) (in_middle line more))
 starts_good m rest line more is e (inr (bad, after, f, clean, b)) =
-    let s = line_split bad line after more (clean_from bad (λ i. clean (Contains-from_in bad 10 i))) (line_clean m line is) (sym f ∙ e ∙ append_assoc line (10 ∷ []) more) in
+    let s = line_split bad line after more (clean_from bad (λ i. clean i)) (line_clean m line is) (sym f ∙ e ∙ append_assoc line (10 ∷ []) more) in
     b (subst (IsLineAt m) (sym s.0) is)
 
 -- nothing is no bad rest, after some lines
 nothing_good : (m : ℕ) (rest : List ℕ) → 0 < m → rest ≡ [] → IsBadRest m rest → ⊥
 nothing_good m rest some e (inl (clean, inl lt)) = let l : length rest ≡ 0 = ap length e in absurd (omega (arith, l, lt))
 nothing_good m rest some e (inl (clean, inr z)) = absurd (omega (arith, z, some))
-nothing_good m rest some e (inr (line, more, f, clean, b)) = subst (λ xs. In xs 10) (sym f ∙ e) (in_middle line more)
+nothing_good m rest some e (inr (line, more, f, clean, b)) = subst (λ xs. Contains xs 10) (sym f ∙ e) (in_middle line more)
 
 after_none : (m : ℕ) (rest : List ℕ) → IsBadRest (length {A = List ℕ} [] + m) rest → IsBadRest m rest
 after_none m rest b = let z : length {A = List ℕ} [] + m ≡ m = omega arith in subst (λ k. IsBadRest k rest) z b

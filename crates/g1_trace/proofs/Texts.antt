@@ -5,8 +5,8 @@ use Rattle.std.specs.Prelude.{All}
 use Rattle.std.proofs.lemmas.Bool.{cases_order}
 use Rattle.std.proofs.lemmas.List.{get_or_default, length-map}
 use Rattle.std.proofs.lemmas.Grind.{flat_map-append}
+use Rattle.std.proofs.lemmas.List.Elements.{Contains-append_cases}
 use Rattle.g1_words.specs.Geometry.{Geometry}
-use Rattle.g1_words.proofs.Members.{In, In-from_contains, Contains-from_in, In-append_cases}
 use Rattle.g1_trace.specs.declared.command.Command.{Command}
 use Rattle.g1_trace.specs.TraceText.{AllFit, numbers_of, command_line, heap_line, ended, IsHeapLine, IsCommandLine, AreLines, IsBadRest, IsFirstBadLine, IsText}
 
@@ -29,12 +29,11 @@ no_end xs f (k, lt, e) = f k lt (get_or_default xs k 0 10 lt ∙ e)
 
 all_more : (cs : List Command) (c : Command) → All (λ c. AllFit (numbers_of c)) cs → AllFit (numbers_of c) → All (λ c. AllFit (numbers_of c)) (cs ++ c ∷ [])
 all_more cs c old new k d lt =
-    let m = Contains-from_in (cs ++ c ∷ []) (get_or (cs ++ c ∷ []) k d) (In-from_contains (cs ++ c ∷ []) (get_or (cs ++ c ∷ []) k d)
-    (k, lt, get_or_default (cs ++ c ∷ []) k (get_or (cs ++ c ∷ []) k d) d lt)) in
-    by (get_or (cs ++ c ∷ []) k d) (In-append_cases cs (c ∷ []) (get_or (cs ++ c ∷ []) k d) (In-from_contains (cs ++ c ∷ []) (get_or (cs ++ c ∷ []) k d) m))
+    let m = (k, lt, get_or_default (cs ++ c ∷ []) k (get_or (cs ++ c ∷ []) k d) d lt) in
+    by (get_or (cs ++ c ∷ []) k d) (Contains-append_cases cs (c ∷ []) (get_or (cs ++ c ∷ []) k d) m)
   where
-    by : (x : Command) → In cs x ⊎ In (c ∷ []) x → AllFit (numbers_of x)
-    by x (inl i) = let p = Contains-from_in cs x i in subst (λ (y : Command). AllFit (numbers_of y)) p.2 (old p.0 x p.1)
+    by : (x : Command) → Contains cs x ⊎ Contains (c ∷ []) x → AllFit (numbers_of x)
+    by x (inl i) = let p = i in subst (λ (y : Command). AllFit (numbers_of y)) p.2 (old p.0 x p.1)
     by x (inr (inl e)) = subst (λ (y : Command). AllFit (numbers_of y)) e new
     by x (inr (inr e)) = absurd e
 

@@ -1,5 +1,5 @@
 -- The cards of regions that are used are cards of used regions.
-use Rattle.std.proofs.Common.{◌≡◌, ℕ, ◌+◌, ◌-◌, ◌*◌, ◌/◌, ◌<◌, ◌≤◌, List, [], get_or, inl, inr, arith, refl, sym, ap, subst, ◌∙◌, Bool, true, false, true≢false}
+use Rattle.std.proofs.Common.{◌≡◌, ℕ, ◌+◌, ◌-◌, ◌*◌, ◌/◌, ◌<◌, ◌≤◌, List, [], get_or, inl, inr, arith, refl, sym, ap, subst, ◌∙◌, Bool, true, false, true≢false, Contains}
 use Rattle.std.specs.Prelude.{All, if◌then◌else◌}
 use Rattle.std.specs.List.{range_with_len}
 use Rattle.std.proofs.lemmas.Bool.{cases_lt}
@@ -10,7 +10,7 @@ use Rattle.g1_words.specs.Valid.{IsValid}
 use Rattle.g1_words.specs.declared.region.Kind.TheVariants.{Free}
 use Rattle.g1_words.proofs.Bounds.{cards_in_region}
 use Rattle.g1_words.proofs.Indices.{range_bounds}
-use Rattle.g1_words.proofs.Members.{In, In-from_contains, Contains-from_in, flat_map_cases}
+use Rattle.g1_words.proofs.Members.{flat_map_cases}
 use Rattle.g1_image.specs.Image.{IsUsedCard, region_of_card}
 use Rattle.g1heap_cli.specs.Young.{region_cards, young_cards}
 
@@ -50,9 +50,9 @@ module _ (h : Heap) (valid : IsValid h) where
         used = λ free. let free_here : kind h r ≡ Free = ap (kind h) (sym home) ∙ free in true≢false (sym (ap is_free free_here) ∙ used);
       }
 
-  region_used : (r c : ℕ) → r < h.geometry.n → In (region_cards h r) c → IsUsedCard h c
+  region_used : (r c : ℕ) → r < h.geometry.n → Contains (region_cards h r) c → IsUsedCard h c
   region_used r c lt member = at (is_free (kind h r)) refl member where
-    at : (b : Bool) → is_free (kind h r) ≡ b → In (if b then [] else range_with_len (card_of h (start h r)) (card_of h (start h (r + 1)) - card_of h (start h r))) c → IsUsedCard h c
+    at : (b : Bool) → is_free (kind h r) ≡ b → Contains (if b then [] else range_with_len (card_of h (start h r)) (card_of h (start h (r + 1)) - card_of h (start h r))) c → IsUsedCard h c
     at true used none = absurd none
     at false used inside =
         let t = range_bounds (card_of h (start h r)) (card_of h (start h (r + 1)) - card_of h (start h r)) c inside in
@@ -62,6 +62,6 @@ module _ (h : Heap) (valid : IsValid h) where
   pub young_used : (young : List ℕ) → All (λ r. r < h.geometry.n) young → All (IsUsedCard h) (young_cards h young)
   young_used young there k d lt =
       let c : ℕ = get_or (young_cards h young) k d in
-      let from = flat_map_cases (region_cards h) young c (In-from_contains (young_cards h young) c (k, lt, get_or_default (young_cards h young) k c d lt)) in
-      let place = Contains-from_in young from.0 from.1 in
+      let from = flat_map_cases (region_cards h) young c (k, lt, get_or_default (young_cards h young) k c d lt) in
+      let place = from.1 in
       region_used from.0 c (subst (λ r. r < h.geometry.n) place.2 (there place.0 from.0 place.1)) from.2

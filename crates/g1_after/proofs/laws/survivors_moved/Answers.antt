@@ -1,8 +1,7 @@
 use Rattle.std.proofs.Common.{◌≡◌, subst}
 use Rattle.g1_words.specs.Heap.{objects_in}
-use Rattle.g1_words.specs.Layout.{need, free_regions, to_space}
+use Rattle.g1_words.specs.Layout.{need, free_regions}
 use Rattle.g1_words.specs.Moves.{placed_there}
-use Rattle.g1_words.proofs.Members.{In-from_contains}
 use Rattle.g1_words.proofs.Indices.{take_cases}
 use Rattle.g1_words.proofs.Sound.{sound}
 use Rattle.g1_words.proofs.Shapes.{built, valid_of}
@@ -21,7 +20,7 @@ use Rattle.g1_after.proofs.laws.survivors_moved.Goals as goal
 
 pub returns-clause-to_space : goal.returns-clause-to_space
 returns-clause-to_space c = λ i set l j v a m r k.
-    let t = take_cases (need i.heap l) (free_regions i.heap) r 0 (In-from_contains (to_space i.heap l) r k) in
+    let t = take_cases (need i.heap l) (free_regions i.heap) r 0 k in
     subst (λ x. objects_in j.heap x ≡ placed_there i.heap l x) t.3 (to_space_objects i set l j (sound i.heap v) a.ordinary a.survivors a.room m t.0 t.1)
 
 pub returns-clause-objects : goal.returns-clause-objects

@@ -1,7 +1,7 @@
 use Rattle.std.proofs.Common.{◌≡◌, ◌<◌, ◌++◌, ◌∷◌, [], false, length, slice_index, take, sym, ap, subst, ◌∙◌, eq-eqb, arith}
 use Rattle.std.proofs.lemmas.List.{take_more, take_all, get_or_default}
 use Rattle.std.proofs.lemmas.Bool.{ne_eqb}
-use Rattle.g1_words.proofs.Indices.{get_or-In}
+use Rattle.std.proofs.lemmas.List.Elements.{Contains-get_or}
 use Rattle.g1_words.specs.Valid.{IsReference}
 use Rattle.g1_rem.specs.Entering.{enters}
 use Rattle.g1_rem.specs.Leads.{IsLedInto}
@@ -43,7 +43,7 @@ returns-then-target-region c =
     let r = c.args.region in
     let xs = c.args.slots.now in
     let k = c.loop-p.p-index in
-    sym (enters_found h r (slice_index c.args.slots.now c.loop-p.p-index) xs (get_or-In xs k 0 c.loop-p-test.true)
+    sym (enters_found h r (slice_index c.args.slots.now c.loop-p.p-index) xs (Contains-get_or xs k 0 c.loop-p-test.true)
     (leads_some h (slice_index c.args.slots.now c.loop-p.p-index) c.in-Some.target r c.in-Some.ensures ∙ eq-eqb c.in-Some.target r c.if-target-region.true))
 
 pub returns : goal.returns
