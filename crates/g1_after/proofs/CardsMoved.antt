@@ -24,7 +24,7 @@ use Rattle.g1_words.proofs.Sound.{IsSound}
 use Rattle.g1_words.proofs.Standing.{card_positive, home, home_region, stands_refs, word_used}
 use Rattle.g1_words.specs.Geometry.{Geometry}
 use Rattle.g1_words.specs.Heap.{Heap, card_of, free_region, kind, object_at, objects, region_of, slots, word}
-use Rattle.g1_words.specs.Layout.{free_regions, need, to_space}
+use Rattle.g1_words.specs.Layout.{free_regions, need, to_space, HasRoom}
 use Rattle.g1_words.specs.Lists.{has}
 use Rattle.g1_words.specs.References.{Ref, named, refs, refs_at}
 use Rattle.g1_words.specs.Survivors.{AllOrdinary, Survivors}
@@ -99,13 +99,12 @@ exact_card h valid r c t =
       elim t.2.2 [ inl a ↦ inl (ap (kind h) (sym there) ∙ a.kind) | inr a ↦ inr (ap (kind h) (sym there) ∙ a.kind) ],
     )
 
-module _ (i : Image) (set l : List ℕ) (j : Image) (valid : IsBuilt i.heap) (ordinary : AllOrdinary i.heap set) (survivors : Survivors i.heap set l)
-    (room : need i.heap l ≤ length (free_regions i.heap)) (moved : IsMoved i set l j) (image : IsImage i) where
+module _ (i : Image) (set l : List ℕ) (j : Image) (valid : IsBuilt i.heap) (room : HasRoom i.heap set l) (moved : IsMoved i set l j) (image : IsImage i) where
   v : IsBuilt j.heap
-  v = valid_moved i set l j valid ordinary survivors room moved
+  v = valid_moved i set l j valid room moved
 
   s : IsSound i.heap
-  s = sound_before i set l j valid ordinary survivors room moved
+  s = sound_before i set l j valid room moved
 
   abbrev test : ℕ → ℕ → Bool
   test r c = (is_refined i r c && not (card_in i.heap set c)) || (card_in i.heap (to_space i.heap l) c && is_exact j.heap r c)
@@ -140,7 +139,7 @@ module _ (i : Image) (set l : List ℕ) (j : Image) (valid : IsBuilt i.heap) (or
       kind i.heap (c * i.heap.geometry.k / i.heap.geometry.w) ≢ Free → card_in i.heap set c ≡ false → kind j.heap (c * j.heap.geometry.k / j.heap.geometry.w) ≢ Free
   stays_used c lt used out z =
       let q : ℕ = c * i.heap.geometry.k / i.heap.geometry.w in
-      let shape = other_shape i set l j valid ordinary survivors room moved q lt out (used_not_to_space i.heap set l s ordinary survivors room q used) in
+      let shape = other_shape i set l j valid room moved q lt out (used_not_to_space i.heap set l s room q used) in
       used (sym shape.0 ∙ ap (kind j.heap) (sym (same_kc c)) ∙ z)
 
   -- a used region is one of the heap's
@@ -157,7 +156,7 @@ module _ (i : Image) (set l : List ℕ) (j : Image) (valid : IsBuilt i.heap) (or
     | inl x ↦
         let m : Contains (remembered_of i r) c = Contains-from_has (remembered_of i r) c x in
         let u = card_of_set i image r c lt m in
-        let shape = other_shape i set l j valid ordinary survivors room moved r lt a b in (
+        let shape = other_shape i set l j valid room moved r lt a b in (
           (below, stays_used c (in_heap (c * i.heap.geometry.k / i.heap.geometry.w) u.0) u.0 out),
           (λ z. u.1 (sym (same_kc c) ∙ z)),
           (elim u.2
@@ -165,7 +164,7 @@ module _ (i : Image) (set l : List ℕ) (j : Image) (valid : IsBuilt i.heap) (or
         )
     | inr x ↦
         let e = exact_card i.heap valid r c (and_parts (has i.log c) (is_exact i.heap r c) x).1 in
-        let shape = other_shape i set l j valid ordinary survivors room moved r lt a b in (
+        let shape = other_shape i set l j valid room moved r lt a b in (
           (below, stays_used c (in_heap (c * i.heap.geometry.k / i.heap.geometry.w) e.0) e.0 out),
           (λ z. e.1 (sym (same_kc c) ∙ z)),
           (elim e.2

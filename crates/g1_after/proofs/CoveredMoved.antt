@@ -1,5 +1,5 @@
 -- The image after is covered.
-use Rattle.std.proofs.Common.{◌≡◌, ℕ, suc, ◌+◌, ◌*◌, ◌/◌, ◌<◌, ◌≤◌, ◌⊎◌, inl, inr, Bool, true, false, cond, not, ◌&&◌, ◌||◌, List, [], ◌∷◌, length, get_or, map, filter, flat_map, refl, sym, Contains, zero}
+use Rattle.std.proofs.Common.{◌≡◌, ℕ, suc, ◌+◌, ◌*◌, ◌/◌, ◌<◌, ◌⊎◌, inl, inr, Bool, true, false, cond, not, ◌&&◌, ◌||◌, List, [], ◌∷◌, get_or, map, filter, flat_map, refl, sym, Contains, zero}
 use Rattle.std.proofs.Common.{◌∙◌, ap, subst, arith, eqb, eq-eqb}
 use Rattle.std.specs.List.{range_with_len}
 use Rattle.std.proofs.lemmas.Bool.{cases_Bool, false≢true, or_cases}
@@ -19,10 +19,10 @@ use Rattle.g1_words.proofs.Shapes.{IsBuilt}
 use Rattle.g1_words.proofs.Standing.{card_positive}
 use Rattle.g1_words.specs.Geometry.{Geometry}
 use Rattle.g1_words.specs.Heap.{Heap, card_of, object_at, objects, region_of, slots, word}
-use Rattle.g1_words.specs.Layout.{forward, free_regions, kept, need, to_space}
+use Rattle.g1_words.specs.Layout.{forward, free_regions, kept, to_space, HasRoom}
 use Rattle.g1_words.specs.Lists.{has}
 use Rattle.g1_words.specs.References.{Ref, named, refs, refs_at}
-use Rattle.g1_words.specs.Survivors.{AllOrdinary, Survivors, in_set}
+use Rattle.g1_words.specs.Survivors.{in_set}
 use Rattle.g1_words.specs.declared.object.Object.{Object}
 pub use Rattle.g1_words.proofs.Lists.{any_from_in}
 
@@ -45,36 +45,35 @@ exact_by h r c e m a b d = any_from_in (λ e. leads_into h r e && eqb (card_of h
     (and_both (leads_into h r e) (eqb (card_of h e.slot) c) (and_both (eqb (region_of h e.target) r) (not (eqb (region_of h e.slot) r))
     (eq-eqb (region_of h e.target) r a) (ap not b)) (eq-eqb (card_of h e.slot) c d))
 
-module _ (i : Image) (set l : List ℕ) (j : Image) (valid : IsBuilt i.heap) (ordinary : AllOrdinary i.heap set) (survivors : Survivors i.heap set l)
-    (room : need i.heap l ≤ length (free_regions i.heap)) (moved : IsMoved i set l j) where
+module _ (i : Image) (set l : List ℕ) (j : Image) (valid : IsBuilt i.heap) (room : HasRoom i.heap set l) (moved : IsMoved i set l j) where
   -- a word of a moved object lies in a region that isn't in the set; a survivor's in to-space
   pub moved_region : (k : Object) (m : ℕ) → Contains (kept i.heap set l) k → m < k.size
       → (region_of i.heap (forward i.heap l k.at + m) < i.heap.geometry.n) × (has set (region_of i.heap (forward i.heap l k.at + m)) ≡ false)
       × (((in_set i.heap set k.at ≡ false) × Contains (objects i.heap) k × (forward i.heap l k.at ≡ k.at)) ⊎ (has (to_space i.heap l) (region_of i.heap (forward i.heap l k.at + m)) ≡ true))
   moved_region k m c lt =
-      let s = sound_before i set l j valid ordinary survivors room moved in
-      elim (kept_cases i.heap set l s ordinary survivors room k c) [
+      let s = sound_before i set l j valid room moved in
+      elim (kept_cases i.heap set l s room k c) [
         | inl x ↦
-            let stays = outside_stays i.heap set l s ordinary survivors room k.at x.0 in
-            let u = outside_word i set l j valid ordinary survivors room moved k m x.1 x.0 lt in
+            let stays = outside_stays i.heap set l s room k.at x.0 in
+            let u = outside_word i set l j valid room moved k m x.1 x.0 lt in
             let z : (region_of i.heap (forward i.heap l k.at + m) < i.heap.geometry.n)
             × (has set (region_of i.heap (forward i.heap l k.at + m)) ≡ false) = subst (λ y. (region_of i.heap (y + m) < i.heap.geometry.n)
             × (has set (region_of i.heap (y + m)) ≡ false)) (sym stays) (u.0, u.3) in
             (z.0, z.1, inl (x.0, x.1, stays))
         | inr x ↦
             let at : x.0 ≡ k.at = ap (λ (o : Object). o.at) x.2 in
-            let u = survivor_word i set l j valid ordinary survivors room moved x.0 m x.1 (subst (λ (o : Object). m < o.size) (sym x.2) lt) in
-            let g = goal_is_free i set l j s ordinary survivors room moved u.0 u.1 in
+            let u = survivor_word i set l j valid room moved x.0 m x.1 (subst (λ (o : Object). m < o.size) (sym x.2) lt) in
+            let g = goal_is_free i set l j s room moved u.0 u.1 in
             let same : get_or (free_regions i.heap) u.0 0 ≡ region_of i.heap (forward i.heap l k.at + m) = sym u.2 ∙ ap (λ y. region_of i.heap (forward i.heap l y + m)) at in (
               subst (λ y. y < i.heap.geometry.n) same g.1,
-              subst (λ y. has set y ≡ false) same (goal_not_in_set i set l j s ordinary survivors room moved u.0 u.1),
-              inr (subst (λ y. has (to_space i.heap l) y ≡ true) same (goal_in_to_space i set l j s ordinary survivors room moved u.0 u.1)),
+              subst (λ y. has set y ≡ false) same (goal_not_in_set i set l j s room moved u.0 u.1),
+              inr (subst (λ y. has (to_space i.heap l) y ≡ true) same (goal_in_to_space i set l j s room moved u.0 u.1)),
             )
       ]
 
   module _ (covered : Covered i) (e : Ref) (here : Contains (refs j.heap) e) (differ : eqb (e.slot / i.heap.geometry.w) (e.target / i.heap.geometry.w) ≡ false) where
     r : RefMoved i set l e
-    r = ref_moved i set l j valid ordinary survivors room moved e here
+    r = ref_moved i set l j valid room moved e here
 
     abbrev from : ℕ
     from = e.slot / i.heap.geometry.w
@@ -86,7 +85,7 @@ module _ (i : Image) (set l : List ℕ) (j : Image) (valid : IsBuilt i.heap) (or
     card = e.slot / i.heap.geometry.k
 
     owner_word : r.m < r.owner.size
-    owner_word = let k = kept_refs i set l j valid ordinary survivors room moved r.owner r.is_kept in let m = r.within in omega arith
+    owner_word = let k = kept_refs i set l j valid room moved r.owner r.is_kept in let m = r.within in omega arith
 
     from_region : (from < i.heap.geometry.n) × (has set from ≡ false) × (((in_set i.heap set r.owner.at ≡ false) × Contains (objects i.heap) r.owner
         × (forward i.heap l r.owner.at ≡ r.owner.at)) ⊎ (has (to_space i.heap l) from ≡ true))
@@ -95,13 +94,13 @@ module _ (i : Image) (set l : List ℕ) (j : Image) (valid : IsBuilt i.heap) (or
         (moved_region r.owner r.m r.is_kept owner_word)
 
     target_kept : Contains (kept i.heap set l) (object_at i.heap r.before)
-    target_kept = before_kept i set l j valid ordinary survivors room moved e r
+    target_kept = before_kept i set l j valid room moved e r
 
     to_region : (to < i.heap.geometry.n) × (has set to ≡ false) × (((in_set i.heap set r.before ≡ false)
         × Contains (objects i.heap) (object_at i.heap r.before) × (forward i.heap l r.before ≡ r.before)) ⊎ (has (to_space i.heap l) to ≡ true))
     to_region =
         let z : forward i.heap l r.before + 0 ≡ e.target = omega (arith, r.moved_to) in
-        let k = kept_refs i set l j valid ordinary survivors room moved (object_at i.heap r.before) target_kept in
+        let k = kept_refs i set l j valid room moved (object_at i.heap r.before) target_kept in
         subst (λ y. (y / i.heap.geometry.w < i.heap.geometry.n) × (has set (y / i.heap.geometry.w) ≡ false)
         × (((in_set i.heap set r.before ≡ false) × Contains (objects i.heap) (object_at i.heap r.before) × (forward i.heap l r.before ≡ r.before))
         ⊎ (has (to_space i.heap l) (y / i.heap.geometry.w) ≡ true))) z
@@ -115,7 +114,7 @@ module _ (i : Image) (set l : List ℕ) (j : Image) (valid : IsBuilt i.heap) (or
     divides = cards_in_region i.heap.geometry.w i.heap.geometry.k i.heap.geometry.n valid.limits
 
     slot_below : e.slot < i.heap.geometry.n * i.heap.geometry.w
-    slot_below = let b = moved_below i set l j valid ordinary survivors room moved r.owner r.m r.is_kept owner_word in let s = r.slot in omega arith
+    slot_below = let b = moved_below i set l j valid room moved r.owner r.m r.is_kept owner_word in let s = r.slot in omega arith
 
     card_there : card < i.heap.geometry.n * i.heap.geometry.w / i.heap.geometry.k
     card_there = card_below i.heap.geometry.w i.heap.geometry.k divides.0 i.heap.geometry.n e.slot

@@ -54,7 +54,7 @@ one_image_after i set j k a b =
 -- there is an image after
 pub pause_exists : PauseExists
 pause_exists i set l valid a =
-    record { between = image_moved i set l; moved = made_is_moved i set l (built i.heap valid) a.ordinary a.survivors a.room; freed = refl }
+    record { between = image_moved i set l; moved = made_is_moved i set l (built i.heap valid) a; freed = refl }
 
 -- ---- the freed regions of the image between
 
@@ -65,7 +65,7 @@ module _ (i : Image) (set l : List ℕ) (b : Image) (valid : IsValid i.heap) (a 
 
   -- the image between keeps the rules
   built_between : IsBuilt b.heap
-  built_between = valid_moved i set l b (built i.heap valid) a.ordinary a.survivors a.room m
+  built_between = valid_moved i set l b (built i.heap valid) a m
 
   -- it is valid
   pub valid_between : IsValid b.heap
@@ -80,28 +80,28 @@ module _ (i : Image) (set l : List ℕ) (b : Image) (valid : IsValid i.heap) (a 
   set_not_freed r inset = false_from_ne_true (has freed r) (λ t.
       let lt = (region_unnamed b.heap built_between r t).0 in
       let n = ap (λ (g : Geometry). g.n) m.geometry in
-      unnamed_not_free b.heap built_between r t (set_shape i set l b (built i.heap valid) a.ordinary a.survivors a.room m r (omega arith) inset).0)
+      unnamed_not_free b.heap built_between r t (set_shape i set l b (built i.heap valid) a m r (omega arith) inset).0)
 
   -- nor is a region that a survivor went to
   survivor_not_freed : (x : ℕ) → Contains l x → in_set b.heap freed (forward i.heap l x) ≡ false
   survivor_not_freed x c = false_from_ne_true (in_set b.heap freed (forward i.heap l x)) (λ t.
       let s : IsSound i.heap = sound i.heap valid in
-      let pos = (survivor_fits i.heap set l s a.ordinary a.survivors a.room x c).0 in
-      let g = survivor_region i.heap set l s a.ordinary a.survivors a.room x 0 c pos in
+      let pos = (survivor_fits i.heap set l s a x c).0 in
+      let g = survivor_region i.heap set l s a x 0 c pos in
       let at : region_of i.heap (forward i.heap l x) ≡ get_or (free_regions i.heap) g.0 0 = ap (region_of i.heap) (sym (add-zero (forward i.heap l x))) ∙ g.2 in
       let same : region_of b.heap (forward i.heap l x) ≡ region_of i.heap (forward i.heap l x) = λ t. forward i.heap l x / (m.geometry t).w in
       unnamed_not_ordinary b.heap built_between (region_of b.heap (forward i.heap l x)) t
-      (ap (kind b.heap) (same ∙ at) ∙ goal_kind i set l b s a.ordinary a.survivors a.room m g.0 g.1))
+      (ap (kind b.heap) (same ∙ at) ∙ goal_kind i set l b s a m g.0 g.1))
 
   -- a kept object stands in a freed region exactly where it stood in one
   freed_stays : (k : Object) → Contains (kept i.heap set l) k → in_set b.heap freed (forward i.heap l k.at) ≡ in_set i.heap freed k.at
   freed_stays k c =
       let s : IsSound i.heap = sound i.heap valid in
-      elim (kept_cases i.heap set l s a.ordinary a.survivors a.room k c) [
-        | inl x ↦ ap (in_set b.heap freed) (outside_stays i.heap set l s a.ordinary a.survivors a.room k.at x.0) ∙ same_in_set freed k.at
+      elim (kept_cases i.heap set l s a k c) [
+        | inl x ↦ ap (in_set b.heap freed) (outside_stays i.heap set l s a k.at x.0) ∙ same_in_set freed k.at
         | inr x ↦
             let at : x.0 ≡ k.at = ap (λ (o : Object). o.at) x.2 in
-            let old : in_set i.heap freed x.0 ≡ false = set_not_freed (region_of i.heap x.0) (survivor_in_set i.heap set l s a.ordinary a.survivors a.room x.0 x.1) in
+            let old : in_set i.heap freed x.0 ≡ false = set_not_freed (region_of i.heap x.0) (survivor_in_set i.heap set l s a x.0 x.1) in
             subst (λ y. in_set b.heap freed (forward i.heap l y) ≡ in_set i.heap freed y) at (survivor_not_freed x.0 x.1 ∙ sym old)
       ]
 
@@ -123,7 +123,7 @@ module _ (i : Image) (set l : List ℕ) (b : Image) (valid : IsValid i.heap) (a 
       let f : ℕ → ℕ = forward i.heap l in
       let s : IsSound i.heap = sound i.heap valid in
       let there : Contains (objects b.heap) (moved_object f k) =
-      kept_is_moved i set l b s a.ordinary a.survivors a.room m k c in
+      kept_is_moved i set l b s a m k c in
       let size : length (words_at (heap_left b.heap) (f k.at) k.size) ≡ k.size = length-map-range_with_len (word (heap_left b.heap)) (f k.at) k.size in
       let size' : length (words_at b.heap (f k.at) k.size) ≡ k.size = length-map-range_with_len (word b.heap) (f k.at) k.size in
       ext_get_or 0 (words_at (heap_left b.heap) (f k.at) k.size) (words_at b.heap (f k.at) k.size) (size ∙ sym size')
@@ -144,10 +144,10 @@ module _ (i : Image) (set l : List ℕ) (b : Image) (valid : IsValid i.heap) (a 
   ref_not_into_set e c =
       let f : ℕ → ℕ = forward i.heap l in
       let v : IsBuilt i.heap = built i.heap valid in
-      let r = (refs_moved i set l b v a.ordinary a.survivors a.room m e).0 c in
-      let w = slot_word i set l b v a.ordinary a.survivors a.room m r.owner r.m r.target r.is_kept r.above r.within r.names in
+      let r = (refs_moved i set l b v a m e).0 c in
+      let w = slot_word i set l b v a m r.owner r.m r.target r.is_kept r.above r.within r.names in
       let above = r.above in let within = r.within in
-      no_slot_into_set i set l b (sound i.heap valid) a.ordinary a.survivors a.room m r.owner e.target r.is_kept
+      no_slot_into_set i set l b (sound i.heap valid) a m r.owner e.target r.is_kept
       (Contains-flat_map (λ p. named (word b.heap p)) (range_with_len (f r.owner.at + 1) r.owner.refs) (f r.owner.at + r.m) e.target
       (Contains-range (f r.owner.at + 1) r.owner.refs (f r.owner.at + r.m) (omega arith) (omega arith))
       (subst (λ x. Contains (named x) e.target) (sym w) (inl (sym r.target_at))))
@@ -166,7 +166,7 @@ objects_paused i set l j valid a p o =
     let b : Image = p.between in
     let f : ℕ → ℕ = forward i.heap l in
     let left = objects_left b.heap (valid_between i set l b valid a p.moved) o in
-    let moved = objects_moved i set l b (sound i.heap valid) a.ordinary a.survivors a.room p.moved o in
+    let moved = objects_moved i set l b (sound i.heap valid) a p.moved o in
     subst (λ (x : Image). Contains (objects x.heap) o ↔ ((k : Object) × Contains (remaining i.heap set l (unnamed_regions b.heap)) k × (o ≡ moved_object f k))) (sym p.freed) (
       (λ c.
           let u = left.0 c in
@@ -182,7 +182,7 @@ objects_paused i set l j valid a p o =
 -- the image after is tracked
 pub tracked_paused : TrackedPaused
 tracked_paused i set l j t a p =
-    subst IsTracked (sym p.freed) (tracked_left p.between (tracked_moved i set l p.between t a.ordinary a.survivors a.room p.moved) p.moved.log)
+    subst IsTracked (sym p.freed) (tracked_left p.between (tracked_moved i set l p.between t a p.moved) p.moved.log)
 
 -- whoever reads from the roots finds the same graph
 pub graph_stays : GraphStays
@@ -190,7 +190,7 @@ graph_stays i set l j valid a p =
     let b : Image = p.between in
     let s : IsSound i.heap = sound i.heap valid in
     subst (λ (x : Image). SameGraph i.heap x.heap) (sym p.freed)
-    (graphs_compose i.heap b.heap s (same_graph i set l b s a.ordinary a.survivors a.room p.moved) (heap_left b.heap) (graph_left b.heap (valid_between i set l b valid a p.moved)))
+    (graphs_compose i.heap b.heap s (same_graph i set l b s a p.moved) (heap_left b.heap) (graph_left b.heap (valid_between i set l b valid a p.moved)))
 
 -- nothing leads into the set or into what was freed
 pub nothing_into_freed : NothingIntoFreed
@@ -200,6 +200,6 @@ nothing_into_freed i set l j valid a p =
     let v : IsValid b.heap = valid_between i set l b valid a p.moved in
     let none = nothing_into_unnamed b.heap v in
     subst (λ (x : Image). ((y : ℕ) → Contains (root_targets x.heap) y → in_set i.heap rs y ≡ false) × ((e : Ref) → Contains (refs x.heap) e → in_set i.heap rs e.target ≡ false)) (sym p.freed) (
-      (λ y c. in_neither i set l b valid a p.moved y (no_root_into_set i set l b (sound i.heap valid) a.ordinary a.survivors a.room p.moved y c) (none.0 y c)),
+      (λ y c. in_neither i set l b valid a p.moved y (no_root_into_set i set l b (sound i.heap valid) a p.moved y c) (none.0 y c)),
       (λ e c. in_neither i set l b valid a p.moved e.target (ref_not_into_set i set l b valid a p.moved e ((refs_left b.heap v e).0 c).0) (none.1 e c)),
     )

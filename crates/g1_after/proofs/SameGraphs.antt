@@ -1,5 +1,5 @@
 -- After a pause the roots read the same graph, and nothing leads into the set.
-use Rattle.std.proofs.Common.{◌≡◌, ℕ, zero, suc, ◌+◌, ◌-◌, ◌<◌, ◌≤◌, ◌⊎◌, inl, inr, Bool, true, false, not, ◌&&◌, List, [], ◌∷◌, ◌++◌, length, get_or, map, filter, flat_map, Contains, refl}
+use Rattle.std.proofs.Common.{◌≡◌, ℕ, zero, suc, ◌+◌, ◌-◌, ◌<◌, ◌⊎◌, inl, inr, Bool, true, false, not, ◌&&◌, List, [], ◌∷◌, ◌++◌, length, get_or, map, filter, flat_map, Contains, refl}
 use Rattle.std.proofs.Common.{sym, ◌∙◌, ap, subst, arith, add-zero}
 use Rattle.std.specs.List.{range_with_len}
 use Rattle.std.proofs.lemmas.Bool.{cases_Bool, false≢true}
@@ -11,8 +11,8 @@ use Rattle.g1_words.specs.Lists.{has}
 use Rattle.g1_words.specs.Heap.{Heap, kind, region_of, objects, object_at, slots, word}
 use Rattle.g1_words.specs.References.{Ref, refs, refs_at, named, root_targets, targets}
 use Rattle.g1_words.specs.Live.{Reached, seed, child, Live}
-use Rattle.g1_words.specs.Survivors.{in_set, seeds, children, Survivors, AllOrdinary}
-use Rattle.g1_words.specs.Layout.{need, free_regions, forward, kept}
+use Rattle.g1_words.specs.Survivors.{in_set, seeds, children}
+use Rattle.g1_words.specs.Layout.{forward, kept, HasRoom}
 use Rattle.g1_words.specs.Moves.{moved_object}
 use Rattle.g1_image.specs.Image.{Image}
 use Rattle.g1_words.specs.Copy.{renamed, words_at, renamed_words, IsCopy}
@@ -27,7 +27,7 @@ use Rattle.g1_after.proofs.ToSpace.{object_copied}
 use Rattle.g1_after.proofs.ObjectsOf.{kept_is_object, kept_is_moved}
 use Rattle.g1_words.specs.declared.object.Object.{Object}
 
-module _ (h : Heap) (set l : List ℕ) (sound : IsSound h) (ordinary : AllOrdinary h set) (survivors : Survivors h set l) where
+module _ (h : Heap) (set l : List ℕ) (sound : IsSound h) (room : HasRoom h set l) where
   live_object : (a : ℕ) → Live h a → Contains (objects h) (object_at h a)
   live_object a (seed c) = sound.root_named a c
   live_object b (child {a = a} r c) =
@@ -44,7 +44,7 @@ module _ (h : Heap) (set l : List ℕ) (sound : IsSound h) (ordinary : AllOrdina
       let away : in_set h set p.0 ≡ false = elim (cases_Bool (in_set h set p.0)) [
         | inr f ↦ f
         | inl t ↦
-            let k : kind h (region_of h p.0) ≡ Ordinary = ordinary (region_of h p.0) (Contains-from_has set (region_of h p.0) t) in
+            let k : kind h (region_of h p.0) ≡ Ordinary = room.ordinary (region_of h p.0) (Contains-from_has set (region_of h p.0) t) in
             let home : region_of h p.0 ≡ region_of h o.at = sound.slots_at_home o p.0 co p.1 k in
             absurd (false≢true (sym out ∙ ap (λ r. in_set_of r) (sym home) ∙ t))
       ] in
@@ -77,7 +77,7 @@ module _ (h : Heap) (set l : List ℕ) (sound : IsSound h) (ordinary : AllOrdina
   live_kept a r =
       elim (cases_Bool (in_set h set a)) [
         | inl t ↦ Contains-append_right (filter (λ o. not (in_set h set o.at)) (objects h)) (map (object_at h) l) (object_at h a)
-            (Contains-map (object_at h) l a ((survivors.reached a).1 (live_found a r t)))
+            (Contains-map (object_at h) l a ((room.survivors.reached a).1 (live_found a r t)))
         | inr f ↦ Contains-append_left (filter (λ o. not (in_set h set o.at)) (objects h)) (map (object_at h) l) (object_at h a)
             (Contains-filter (λ (o : Object). not (in_set h set o.at)) (objects h) (object_at h a) (live_object a r) (ap not f))
       ]
@@ -85,9 +85,9 @@ module _ (h : Heap) (set l : List ℕ) (sound : IsSound h) (ordinary : AllOrdina
   -- what a kept object names in the set is a survivor
   pub named_survives : (o : Object) (b : ℕ) → Contains (kept h set l) o → Contains (flat_map (λ p. named (word h p)) (slots o)) b → in_set h set b ≡ true → Contains l b
   named_survives o b k hb t =
-      (survivors.reached b).1 (elim (kept_cases_of o k) [
+      (room.survivors.reached b).1 (elim (kept_cases_of o k) [
         | inl x ↦ seed (named_from_outside o b x.1 x.0 hb t)
-        | inr x ↦ child ((survivors.reached x.0).0 x.1)
+        | inr x ↦ child ((room.survivors.reached x.0).0 x.1)
             (Contains-filter (in_set h set) (targets h x.0) b (subst (λ (z : Object). Contains (flat_map (λ p. named (word h p)) (slots z)) b) (sym x.2) hb) t)
       ])
     where
@@ -102,21 +102,20 @@ module _ (h : Heap) (set l : List ℕ) (sound : IsSound h) (ordinary : AllOrdina
             | inr m ↦ inr (map_cases (object_at h) l o m)
           ]
 
-  module _ (room : need h l ≤ length (free_regions h)) where
-    -- a new address is none in the set
-    pub away_from_set : (b : ℕ) → (in_set h set b ≡ true → Contains l b) → in_set h set (forward h l b) ≡ false
-    away_from_set b f =
-        elim (cases_Bool (in_set h set b)) [
-          | inr out ↦ ap (in_set h set) (outside_stays h set l sound ordinary survivors room b out) ∙ out
-          | inl t ↦ elim (cases_Bool (in_set h set (forward h l b))) [
-            | inr out ↦ out
-            | inl u ↦
-                let one : kind h (region_of h (forward h l b)) ≡ Ordinary = ordinary (region_of h (forward h l b))
-                (Contains-from_has set (region_of h (forward h l b)) u) in
-                let none : kind h (region_of h (forward h l b)) ≡ Free = survivor_to_free h set l sound ordinary survivors room b (f t) in
-                let clash : Ordinary ≡ Free = sym one ∙ none in cc
-          ]
+  -- a new address is none in the set
+  pub away_from_set : (b : ℕ) → (in_set h set b ≡ true → Contains l b) → in_set h set (forward h l b) ≡ false
+  away_from_set b f =
+      elim (cases_Bool (in_set h set b)) [
+        | inr out ↦ ap (in_set h set) (outside_stays h set l sound room b out) ∙ out
+        | inl t ↦ elim (cases_Bool (in_set h set (forward h l b))) [
+          | inr out ↦ out
+          | inl u ↦
+              let one : kind h (region_of h (forward h l b)) ≡ Ordinary = room.ordinary (region_of h (forward h l b))
+              (Contains-from_has set (region_of h (forward h l b)) u) in
+              let none : kind h (region_of h (forward h l b)) ≡ Free = survivor_to_free h set l sound room b (f t) in
+              let clash : Ordinary ≡ Free = sym one ∙ none in cc
         ]
+      ]
 
 -- ---- what the slots of a moved object name
 
@@ -157,46 +156,45 @@ pub roots_renamed : (f : ℕ → ℕ) (xs : List ℕ) → flat_map named (map (r
 roots_renamed f [] = refl
 roots_renamed f (x ∷ xs) = (λ t. named_renamed f x t ++ roots_renamed f xs t) ∙ sym (map-append f (named x) (flat_map named xs))
 
-module _ (i : Image) (set l : List ℕ) (j : Image) (sound : IsSound i.heap) (ordinary : AllOrdinary i.heap set) (survivors : Survivors i.heap set l)
-    (room : need i.heap l ≤ length (free_regions i.heap)) (moved : IsMoved i set l j) where
+module _ (i : Image) (set l : List ℕ) (j : Image) (sound : IsSound i.heap) (room : HasRoom i.heap set l) (moved : IsMoved i set l j) where
   pub no_root_into_set : (b : ℕ) → Contains (root_targets j.heap) b → in_set i.heap set b ≡ false
   no_root_into_set b c =
       let f : ℕ → ℕ = forward i.heap l in
       let e : root_targets j.heap ≡ map f (root_targets i.heap) = ap (flat_map named) moved.roots ∙ roots_renamed f i.heap.roots in
       let m = map_cases f (root_targets i.heap) b (subst (λ xs. Contains xs b) e c) in
-      let away : in_set i.heap set (f m.0) ≡ false = away_from_set i.heap set l sound ordinary survivors room m.0
-      (λ t. ((survivors.reached m.0).1 (live_found i.heap set l sound ordinary survivors m.0 (seed m.1) t))) in
+      let away : in_set i.heap set (f m.0) ≡ false = away_from_set i.heap set l sound room m.0
+      (λ t. ((room.survivors.reached m.0).1 (live_found i.heap set l sound room m.0 (seed m.1) t))) in
       subst (λ x. in_set i.heap set x ≡ false) m.2 away
 
   pub no_slot_into_set : (o : Object) (b : ℕ) → Contains (kept i.heap set l) o
       → Contains (flat_map (λ p. named (word j.heap p)) (range_with_len (forward i.heap l o.at + 1) o.refs)) b → in_set i.heap set b ≡ false
   no_slot_into_set o b co c =
-      let fits : o.refs < o.size = sound.slots_fit o (kept_object i.heap set l sound ordinary survivors room o co) in
+      let fits : o.refs < o.size = sound.slots_fit o (kept_object i.heap set l sound room o co) in
       let f : ℕ → ℕ = forward i.heap l in
       let e = copy_targets f i.heap j.heap o (moved.copies o co) fits in
       let m = map_cases f (flat_map (λ p. named (word i.heap p)) (slots o)) b
       (subst (λ xs. Contains xs b) e c) in
-      let away : in_set i.heap set (f m.0) ≡ false = away_from_set i.heap set l sound ordinary survivors room m.0
-      (λ t. named_survives i.heap set l sound ordinary survivors o m.0 co m.1 t) in
+      let away : in_set i.heap set (f m.0) ≡ false = away_from_set i.heap set l sound room m.0
+      (λ t. named_survives i.heap set l sound room o m.0 co m.1 t) in
       subst (λ x. in_set i.heap set x ≡ false) m.2 away
 
   -- what the roots reach stands where it was moved
   live_stands : (a : ℕ) → Live i.heap a → Contains (objects j.heap) (object_at j.heap (forward i.heap l a))
   live_stands a r =
-      let k : Contains (kept i.heap set l) (object_at i.heap a) = live_kept i.heap set l sound ordinary survivors a r in
+      let k : Contains (kept i.heap set l) (object_at i.heap a) = live_kept i.heap set l sound room a r in
       let e : object_at j.heap (forward i.heap l a) ≡ moved_object (forward i.heap l) (object_at i.heap a) =
-      object_copied i set l j sound ordinary survivors room moved (object_at i.heap a) k (kept_is_object i.heap set l sound ordinary survivors room (object_at i.heap a) k) refl in
+      object_copied i set l j sound room moved (object_at i.heap a) k (kept_is_object i.heap set l sound room (object_at i.heap a) k) refl in
       let there : Contains (objects j.heap) (moved_object (forward i.heap l) (object_at i.heap a)) =
-      kept_is_moved i set l j sound ordinary survivors room moved (object_at i.heap a) k in
+      kept_is_moved i set l j sound room moved (object_at i.heap a) k in
       subst (λ (o : Object). Contains (objects j.heap) o) (sym e) there
 
   -- the graph read from the roots is the same
   pub same_graph : SameGraph i.heap j.heap
   same_graph = record {
     rename = forward i.heap l;
-    one_to_one = λ a b ra rb q. forward_one_to_one i.heap set l sound ordinary survivors room (object_at i.heap a) (object_at i.heap b)
-        (live_kept i.heap set l sound ordinary survivors a ra) (live_kept i.heap set l sound ordinary survivors b rb) q;
+    one_to_one = λ a b ra rb q. forward_one_to_one i.heap set l sound room (object_at i.heap a) (object_at i.heap b)
+        (live_kept i.heap set l sound room a ra) (live_kept i.heap set l sound room b rb) q;
     roots = moved.roots;
     stands = live_stands;
-    copies = λ a r. moved.copies (object_at i.heap a) (live_kept i.heap set l sound ordinary survivors a r);
+    copies = λ a r. moved.copies (object_at i.heap a) (live_kept i.heap set l sound room a r);
   }

@@ -21,10 +21,10 @@ use Rattle.g1_words.proofs.Shapes.{IsPlain, IsTiled}
 use Rattle.g1_words.proofs.Sound.{IsSound}
 use Rattle.g1_words.specs.Geometry.{Geometry}
 use Rattle.g1_words.specs.Heap.{Heap, kind, object_at, objects, objects_by, objects_in, region, region_with, tiles, top, word}
-use Rattle.g1_words.specs.Layout.{end_in, forward, free_regions, kept, laid, laid_end, moved_to, need, next_fit, row_address, sizes_of, to_space}
+use Rattle.g1_words.specs.Layout.{end_in, forward, free_regions, kept, laid, laid_end, moved_to, need, next_fit, row_address, sizes_of, to_space, HasRoom}
 use Rattle.g1_words.specs.Lists.{has}
 use Rattle.g1_words.specs.Moves.{moved_object, placed_there}
-use Rattle.g1_words.specs.Survivors.{AllOrdinary, Survivors, in_set, children, seeds}
+use Rattle.g1_words.specs.Survivors.{in_set, children, seeds}
 use Rattle.g1_words.specs.declared.object.Object.{Object}
 use Rattle.g1_words.specs.declared.region.Kind.TheVariants.{Free, Ordinary}
 use Rattle.g1_words.specs.declared.region.Region.{Region}
@@ -210,13 +210,12 @@ chain_tiled j base o (x ∷ xs) end c f g =
       subst (λ y. IsTiled j y (map (λ x. object_at j (base + x.0)) xs) (base + end)) next (chain_tiled j base (o + x.1) xs end c.1 (λ y k. f y (suc k.0, omega (arith, k.1), k.2)) (λ y k. g y (suc k.0, omega (arith, k.1), k.2))),
     )
 
-module _ (i : Image) (set l : List ℕ) (j : Image) (sound : IsSound i.heap) (ordinary : AllOrdinary i.heap set) (survivors : Survivors i.heap set l)
-    (room : need i.heap l ≤ length (free_regions i.heap)) (moved : IsMoved i set l j) where
+module _ (i : Image) (set l : List ℕ) (j : Image) (sound : IsSound i.heap) (room : HasRoom i.heap set l) (moved : IsMoved i set l j) where
   pub survivors_distinct : Distinct l
-  survivors_distinct = subst Distinct (sym survivors.in_order) (Distinct-firsts (seeds i.heap set ++ flat_map (children i.heap set) l))
+  survivors_distinct = subst Distinct (sym room.survivors.in_order) (Distinct-firsts (seeds i.heap set ++ flat_map (children i.heap set) l))
 
   pub survivor_object : (a : ℕ) → Contains l a → Contains (objects i.heap) (object_at i.heap a)
-  survivor_object a k = reached_object i.heap set sound a ((survivors.reached a).0 k)
+  survivor_object a k = reached_object i.heap set sound a ((room.survivors.reached a).0 k)
 
   -- the header of a kept object is copied
   pub object_copied : (o : Object) → Contains (kept i.heap set l) o → Contains (objects i.heap) o → o ≡ object_at i.heap o.at → object_at j.heap (forward i.heap l o.at) ≡ moved_object (forward i.heap l) o
@@ -236,7 +235,7 @@ module _ (i : Image) (set l : List ℕ) (j : Image) (sound : IsSound i.heap) (or
   sizes = sizes_of i.heap l
 
   row_fits : Fitting i.heap.geometry.w (sizes_of i.heap l)
-  row_fits = all_fit i.heap set l sound ordinary survivors room
+  row_fits = all_fit i.heap set l sound room
 
   row_below : (x : ℕ × ℕ) → Contains (zip (laid i.heap.geometry.w 0 (sizes_of i.heap l)) (sizes_of i.heap l)) x → x.0 / i.heap.geometry.w < length (free_regions i.heap)
   row_below x k =
@@ -263,10 +262,10 @@ module _ (i : Image) (set l : List ℕ) (j : Image) (sound : IsSound i.heap) (or
     goal_is_free = is_free_region i.heap goal_region (Contains-get_or (free_regions i.heap) t 0 there)
 
     pub goal_not_in_set : has set goal_region ≡ false
-    goal_not_in_set = not_has set goal_region (λ k. let clash : Free ≡ Ordinary = sym goal_is_free.0 ∙ ordinary goal_region k in cc)
+    goal_not_in_set = not_has set goal_region (λ k. let clash : Free ≡ Ordinary = sym goal_is_free.0 ∙ room.ordinary goal_region k in cc)
 
     goal_is : region j.heap goal_region ≡ region_with Ordinary (end_in i.heap l goal_region)
-    goal_is = region_moved i set l j sound ordinary survivors room moved goal_region goal_is_free.1 ∙ rw (goal_not_in_set, goal_in_to_space) refl
+    goal_is = region_moved i set l j sound room moved goal_region goal_is_free.1 ∙ rw (goal_not_in_set, goal_in_to_space) refl
 
     pub goal_kind : kind j.heap goal_region ≡ Ordinary
     goal_kind = ap (λ (q : Region). q.kind) goal_is
@@ -328,7 +327,7 @@ module _ (i : Image) (set l : List ℕ) (j : Image) (sound : IsSound i.heap) (or
     row_objects = ap (map (λ x. object_at j.heap (goal_region * i.heap.geometry.w + x.0))) (sym placed_same)
         ∙ placed i.heap j.heap sound.w_positive (forward i.heap l) t there l (laid i.heap.geometry.w 0 (sizes_of i.heap l)) all_paired
 
-    -- the objects of a to-space region are the survivors placed there, in order, at their places
+    -- the objects of a to-space region are the room.survivors placed there, in order, at their places
     pub to_space_objects : objects_in j.heap goal_region ≡ placed_there i.heap l goal_region
     to_space_objects =
         let r : ℕ = goal_region in

@@ -91,7 +91,7 @@ module _ (p : Prepared) (i : Image) (set l : List ℕ) (valid : IsValid i.heap) 
       flat_map_same (λ r. by_fate i.heap.geometry.w p.gathered p.patches r (fate_at p.fates r) (slice_of i.heap.geometry.w r i.heap.words))
       (λ r. by_fate i.heap.geometry.w (to_space_words i.heap l) (all_patches i.heap set l) r (fate_of clears (to_space i.heap l) r) (slice_of i.heap.geometry.w r i.heap.words))
       0 (length i.heap.words / i.heap.geometry.w) (λ r low high. by_fates r (omega (arith, high, count)))
-      ∙ words_paused i set l (built i.heap valid) made.room.ordinary made.room.survivors made.room.room
+      ∙ words_paused i set l (built i.heap valid) made.room
 
   is_after : committed p i ≡ image_paused i set l
   is_after = λ q. record {
@@ -103,6 +103,6 @@ module _ (p : Prepared) (i : Image) (set l : List ℕ) (valid : IsValid i.heap) 
   pub is_paused : IsPaused i set l (committed p i)
   is_paused = record {
     between = image_moved i set l;
-    moved = made_is_moved i set l (built i.heap valid) made.room.ordinary made.room.survivors made.room.room;
+    moved = made_is_moved i set l (built i.heap valid) made.room;
     freed = is_after;
   }

@@ -27,10 +27,10 @@ use Rattle.g1_words.proofs.Shapes.{IsBuilt}
 use Rattle.g1_words.proofs.Sound.{IsSound}
 use Rattle.g1_words.proofs.Standing.{built_is_sound, home, home_region, ordinary_word, stands}
 use Rattle.g1_words.specs.Heap.{Heap, kind, object_at, objects, objects_in, region_of, regions, slots, start, top, word}
-use Rattle.g1_words.specs.Layout.{forward, free_regions, kept, need, to_space}
+use Rattle.g1_words.specs.Layout.{forward, free_regions, kept, need, to_space, HasRoom}
 use Rattle.g1_words.specs.Lists.{has}
 use Rattle.g1_words.specs.References.{Ref, named, refs, refs_at}
-use Rattle.g1_words.specs.Survivors.{AllOrdinary, Survivors, in_set}
+use Rattle.g1_words.specs.Survivors.{in_set}
 use Rattle.g1_words.specs.declared.object.Object.{Object}
 use Rattle.g1_words.specs.declared.region.Kind.TheVariants.{Free, HumongousFirst, Ordinary}
 use Rattle.g1_copy.specs.Gathered.{placed_words, to_space_words}
@@ -97,7 +97,7 @@ is_patch h set l p v k =
     Contains-map (patch h l) (filter (λ e. not (in_set h set e.slot) && has l e.target) (refs h)) e (Contains-filter (λ e. not (in_set h set e.slot) && has l e.target) (refs h) e k.reference test) in
     subst (λ y. Contains (all_patches h set l) (p, y)) (sym k.value) m
 
-module _ (i : Image) (set l : List ℕ) (valid : IsBuilt i.heap) (ordinary : AllOrdinary i.heap set) (survivors : Survivors i.heap set l) (room : need i.heap l ≤ length (free_regions i.heap)) where
+module _ (i : Image) (set l : List ℕ) (valid : IsBuilt i.heap) (room : HasRoom i.heap set l) where
   abbrev j : Image
   j = image_moved i set l
 
@@ -108,7 +108,7 @@ module _ (i : Image) (set l : List ℕ) (valid : IsBuilt i.heap) (ordinary : All
   patches = all_patches i.heap set l
 
   moved : IsMoved i set l (image_moved i set l)
-  moved = made_is_moved i set l valid ordinary survivors room
+  moved = made_is_moved i set l valid room
 
   s : IsSound i.heap
   s = built_is_sound i.heap valid
@@ -120,11 +120,11 @@ module _ (i : Image) (set l : List ℕ) (valid : IsBuilt i.heap) (ordinary : All
   set_slice : (r : ℕ) → r < i.heap.geometry.n → has set r ≡ true → slice_of i.heap.geometry.w r j.heap.words ≡ after r (slice_of i.heap.geometry.w r i.heap.words)
   set_slice r lt t =
       let size : length (slice_of i.heap.geometry.w r j.heap.words) ≡ i.heap.geometry.w = length-slice_of i.heap.geometry.w r i.heap.geometry.n j.heap.words moved.size lt in
-      let zt : top j.heap r ≡ 0 = (set_shape i set l j valid ordinary survivors room moved r lt t).1 in
+      let zt : top j.heap r ≡ 0 = (set_shape i set l j valid room moved r lt t).1 in
       let zeros : slice_of i.heap.geometry.w r j.heap.words ≡ replicate i.heap.geometry.w 0 =
       ext_get_or 0 (slice_of i.heap.geometry.w r j.heap.words) (replicate i.heap.geometry.w 0) (size ∙ sym (length-replicate i.heap.geometry.w 0))
       (λ m lt'. let below : m < i.heap.geometry.w = omega arith in get_or-slice_of i.heap.geometry.w r m j.heap.words below
-      ∙ zero_moved i set l j valid ordinary survivors room moved r m lt (omega arith) below ∙ sym (get_or-replicate i.heap.geometry.w m 0 0 below)) in
+      ∙ zero_moved i set l j valid room moved r m lt (omega arith) below ∙ sym (get_or-replicate i.heap.geometry.w m 0 0 below)) in
       zeros ∙ (λ q. by_fate i.heap.geometry.w gathered patches r (cond (sym t q) Freed (filled_or_kept (position (λ d. eqb d r) (to_space i.heap l)))) (slice_of i.heap.geometry.w r i.heap.words))
 
   -- a word of a region that was free is no word of an object outside the set
@@ -142,9 +142,9 @@ module _ (i : Image) (set l : List ℕ) (valid : IsBuilt i.heap) (ordinary : All
       let d = and_true (leb (f o.at) q) (ltb q (f o.at + o.size)) c.2 in
       let low : f o.at ≤ q = leb-true (f o.at) q d.0 in
       let high : q < f o.at + o.size = ltb-true q (f o.at + o.size) d.1 in
-      let stays : f o.at ≡ o.at = outside_stays i.heap set l s ordinary survivors room o.at out in
+      let stays : f o.at ≡ o.at = outside_stays i.heap set l s room o.at out in
       let x : ℕ = q - o.at in
-      let u = outside_word i set l j valid ordinary survivors room moved o x k.0 out (omega arith) in
+      let u = outside_word i set l j valid room moved o x k.0 out (omega arith) in
       let whole : o.at + x ≡ q = omega arith in
       let at : region_of i.heap (o.at + x) ≡ r = ap (λ z. z / i.heap.geometry.w) whole ∙ div-mul-add r i.heap.geometry.w m below in
       absurd (u.1 (ap (kind i.heap) at ∙ free))
@@ -155,7 +155,7 @@ module _ (i : Image) (set l : List ℕ) (valid : IsBuilt i.heap) (ordinary : All
     goal = get_or (free_regions i.heap) t 0
 
     goal_free : (kind i.heap goal ≡ Free) × (goal < i.heap.geometry.n)
-    goal_free = is_free_region i.heap goal (Contains-get_or (free_regions i.heap) t 0 (omega (arith, here, room)))
+    goal_free = is_free_region i.heap goal (Contains-get_or (free_regions i.heap) t 0 (omega (arith, here, room.room)))
 
     goal_word : (m : ℕ) → m < i.heap.geometry.w → word j.heap (goal * i.heap.geometry.w + m) ≡ get_or (placed_words i.heap l goal) m 0
     goal_word m lt =
@@ -170,7 +170,7 @@ module _ (i : Image) (set l : List ℕ) (valid : IsBuilt i.heap) (ordinary : All
 
     to_slice : slice_of i.heap.geometry.w goal j.heap.words ≡ after goal (slice_of i.heap.geometry.w goal i.heap.words)
     to_slice =
-        let long : length (to_space i.heap l) ≡ need i.heap l = length-take-le (need i.heap l) (free_regions i.heap) room in
+        let long : length (to_space i.heap l) ≡ need i.heap l = length-take-le (need i.heap l) (free_regions i.heap) room.room in
         let there : t < length (to_space i.heap l) = omega (arith, long, here) in
         let at : get_or (to_space i.heap l) t 0 ≡ goal = get_or-take (need i.heap l) (free_regions i.heap) t 0 here in
         let p : position (λ d. eqb d goal) (to_space i.heap l) ≡ Some t =
@@ -186,7 +186,7 @@ module _ (i : Image) (set l : List ℕ) (valid : IsBuilt i.heap) (ordinary : All
         flat_slice (placed_words i.heap l) i.heap.geometry.w wide (to_space i.heap l) t there ∙ ap (placed_words i.heap l) at in
         let off : has set goal ≡ false = elim (bool_cases (has set goal)) [
           | inr f ↦ f
-          | inl t ↦ let clash : Ordinary ≡ Free = sym (ordinary goal (Contains-from_has set goal t)) ∙ goal_free.0 in cc
+          | inl t ↦ let clash : Ordinary ≡ Free = sym (room.ordinary goal (Contains-from_has set goal t)) ∙ goal_free.0 in cc
         ] in
         same ∙ sym from ∙ (λ q. by_fate i.heap.geometry.w gathered patches goal (cond (sym off q) Freed (filled_or_kept (sym p q))) (slice_of i.heap.geometry.w goal i.heap.words))
 
@@ -207,7 +207,7 @@ module _ (i : Image) (set l : List ℕ) (valid : IsBuilt i.heap) (ordinary : All
       let out : in_set i.heap set o.0.at ≡ false = elim (bool_cases (in_set i.heap set o.0.at)) [
         | inr f ↦ f
         | inl t ↦
-            let one : kind i.heap (region_of i.heap o.0.at) ≡ Ordinary = ordinary (region_of i.heap o.0.at)
+            let one : kind i.heap (region_of i.heap o.0.at) ≡ Ordinary = room.ordinary (region_of i.heap o.0.at)
             (Contains-from_has set (region_of i.heap o.0.at) t) in
             let h = home i.heap valid o.0 c in
             let hr = home_region i.heap valid h.0 o.0 h.2 in
@@ -218,9 +218,9 @@ module _ (i : Image) (set l : List ℕ) (valid : IsBuilt i.heap) (ordinary : All
               | inr a ↦ let clash : Ordinary ≡ HumongousFirst = sym one ∙ ap (kind i.heap) hr ∙ a.kind in cc
             ]
       ] in
-      let stays = outside_stays i.heap set l s ordinary survivors room o.0.at out in
+      let stays = outside_stays i.heap set l s room o.0.at out in
       let w : word i.heap (o.0.at + m) ≡ suc k.target = ap (word i.heap) sum ∙ named_suc (word i.heap q.0) b.0 b.1 ∙ ap suc goes in
-      elim (copied_word i set l j moved o.0 m (kept_outside i set l j s ordinary survivors room moved o.0 o.1 out) fits (omega arith)) [
+      elim (copied_word i set l j moved o.0 m (kept_outside i set l j s room moved o.0 o.1 out) fits (omega arith)) [
         | inl (x, inl z) ↦ absurd (omega arith)
         | inl (x, inr z) ↦ absurd (omega arith)
         | inr x ↦
@@ -232,9 +232,9 @@ module _ (i : Image) (set l : List ℕ) (valid : IsBuilt i.heap) (ordinary : All
   other_word : (r m : ℕ) → r < i.heap.geometry.n → m < i.heap.geometry.w → has set r ≡ false → has (to_space i.heap l) r ≡ false
       → (word i.heap (r * i.heap.geometry.w + m) ≡ word j.heap (r * i.heap.geometry.w + m)) ⊎ IsPatch i.heap set l (r * i.heap.geometry.w + m) (word j.heap (r * i.heap.geometry.w + m))
   other_word r m lt below a b =
-      let t = (other_shape i set l j valid ordinary survivors room moved r lt a b).1 in
+      let t = (other_shape i set l j valid room moved r lt a b).1 in
       elim (cases_lt m (top i.heap r)) [
-        | inr ge ↦ inl (valid.zero_above r m lt ge below ∙ sym (zero_moved i set l j valid ordinary survivors room moved r m lt (omega arith) below))
+        | inr ge ↦ inl (valid.zero_above r m lt ge below ∙ sym (zero_moved i set l j valid room moved r m lt (omega arith) below))
         | inl less ↦
             let c = covers i.heap valid r m lt less in
             let q : ℕ = c.0 in
@@ -243,12 +243,12 @@ module _ (i : Image) (set l : List ℕ) (valid : IsBuilt i.heap) (ordinary : All
             let at : region_of i.heap o.at ≡ q = home_region i.heap valid q o (stands i.heap valid q o c.4) in
             let clear : has set q ≡ false = elim c.2 [
               | inl e ↦ ap (has set) e ∙ a
-              | inr two ↦ elim (bool_cases (has set q)) [ inr f ↦ f | inl t ↦ let clash : Ordinary ≡ HumongousFirst = sym (ordinary q (Contains-from_has set q t)) ∙ two in cc ]
+              | inr two ↦ elim (bool_cases (has set q)) [ inr f ↦ f | inl t ↦ let clash : Ordinary ≡ HumongousFirst = sym (room.ordinary q (Contains-from_has set q t)) ∙ two in cc ]
             ] in
             let out : in_set i.heap set o.at ≡ false = ap (has set) at ∙ clear in
             let here : Contains (objects i.heap) o = Contains-flat_map (objects_in i.heap) (regions i.heap) q o (Contains-range 0 i.heap.geometry.n q (omega arith) (let n = c.1 in omega arith)) c.4 in
-            let k : Contains (kept i.heap set l) o = kept_outside i set l j s ordinary survivors room moved o here out in
-            let stays = outside_stays i.heap set l s ordinary survivors room o.at out in
+            let k : Contains (kept i.heap set l) o = kept_outside i set l j s room moved o here out in
+            let stays = outside_stays i.heap set l s room o.at out in
             let sum : o.at + x ≡ r * i.heap.geometry.w + m = c.7 in
             let to : forward i.heap l o.at + x ≡ r * i.heap.geometry.w + m = omega arith in
             elim (copied_word i set l j moved o x k (s.slots_fit o here) c.6) [
@@ -263,11 +263,11 @@ module _ (i : Image) (set l : List ℕ) (valid : IsBuilt i.heap) (ordinary : All
       slot_at r m o x k here p le sum w a below zero e = inl (ap (word i.heap) (sym sum) ∙ e ∙ sym (w ∙ ap (renamed (forward i.heap l)) e))
       slot_at r m o x k here p le sum w a below (suc b) e =
           let f : ℕ → ℕ = forward i.heap l in
-          let names = slot_names i set l j valid ordinary survivors room moved o x b p le e in
+          let names = slot_names i set l j valid room moved o x b p le e in
           let w' : word j.heap (r * i.heap.geometry.w + m) ≡ suc (f b) = w ∙ ap (renamed f) e in
           elim (bool_cases (in_set i.heap set b)) [
             | inr out ↦
-                let stays : f b ≡ b = outside_stays i.heap set l s ordinary survivors room b out in
+                let stays : f b ≡ b = outside_stays i.heap set l s room b out in
                 inl (ap (word i.heap) (sym sum) ∙ e ∙ ap suc (sym stays) ∙ sym w')
             | inl t ↦
                 let q : ℕ = r * i.heap.geometry.w + m in
@@ -282,7 +282,7 @@ module _ (i : Image) (set l : List ℕ) (valid : IsBuilt i.heap) (ordinary : All
                 inr (record {
                   target = b;
                   reference = ref;
-                  survives = named_survives i.heap set l s ordinary survivors o b k names t;
+                  survives = named_survives i.heap set l s room o b k names t;
                   outside = ap (has set) (div-mul-add r i.heap.geometry.w m below) ∙ a;
                   value = w';
                 })
@@ -311,7 +311,7 @@ module _ (i : Image) (set l : List ℕ) (valid : IsBuilt i.heap) (ordinary : All
 
   -- each slice after is what the commit writes
   pub each_slice : (r : ℕ) → r < i.heap.geometry.n → slice_of i.heap.geometry.w r j.heap.words ≡ after r (slice_of i.heap.geometry.w r i.heap.words)
-  each_slice r lt = elim (region_cases i.heap set l s ordinary survivors room r) [
+  each_slice r lt = elim (region_cases i.heap set l s room r) [
     | inl t ↦ set_slice r lt t
     | inr (inl b) ↦ subst (λ y. slice_of i.heap.geometry.w y j.heap.words ≡ after y (slice_of i.heap.geometry.w y i.heap.words)) b.2 (to_slice b.0 b.1)
     | inr (inr b) ↦ other_slice r lt b.0 b.1

@@ -1,5 +1,5 @@
 -- The words that a commit writes in place where further regions are cleared.
-use Rattle.std.proofs.Common.{◌≡◌, ℕ, ◌+◌, ◌*◌, ◌/◌, ◌<◌, ◌≤◌, inl, inr, cond, List, ◌++◌, length, get_or, replicate, flat_map, sym, ◌∙◌, ap, arith}
+use Rattle.std.proofs.Common.{◌≡◌, ℕ, ◌+◌, ◌*◌, ◌/◌, ◌<◌, inl, inr, cond, List, ◌++◌, length, get_or, replicate, flat_map, sym, ◌∙◌, ap, arith}
 use Rattle.std.specs.List.{range_with_len}
 use Rattle.std.proofs.lemmas.Bool.{cases_Bool}
 use Rattle.std.proofs.lemmas.Nat.{div-mul-add}
@@ -7,9 +7,9 @@ use Rattle.std.proofs.Math.Nat.{mul-div_left}
 use Rattle.std.proofs.lemmas.List.{ext_get_or, get_or-replicate, length-replicate}
 use Rattle.std.proofs.lemmas.List.FromFn.{get_or-map-range_with_len, length-map-range_with_len}
 use Rattle.g1_words.specs.Heap.{word}
-use Rattle.g1_words.specs.Layout.{free_regions, need, to_space}
+use Rattle.g1_words.specs.Layout.{to_space, HasRoom}
 use Rattle.g1_words.specs.Lists.{has}
-use Rattle.g1_words.specs.Survivors.{AllOrdinary, Survivors, in_set}
+use Rattle.g1_words.specs.Survivors.{in_set}
 use Rattle.g1_words.proofs.Shapes.{IsBuilt}
 use Rattle.g1_words.proofs.Standing.{w_pos}
 use Rattle.g1_image.specs.Image.{Image}
@@ -24,7 +24,7 @@ use Rattle.g1_copy.specs.Slices.{by_fate, slice_after, words_after}
 use Rattle.g1_copy.proofs.FatesMade.{fate_beside, fate_freed}
 use Rattle.g1_copy.proofs.InPlace.{each_slice}
 
-module _ (i : Image) (set l : List ℕ) (valid : IsBuilt i.heap) (ordinary : AllOrdinary i.heap set) (survivors : Survivors i.heap set l) (room : need i.heap l ≤ length (free_regions i.heap)) where
+module _ (i : Image) (set l : List ℕ) (valid : IsBuilt i.heap) (room : HasRoom i.heap set l) where
   abbrev j : Image
   j = image_moved i set l
 
@@ -49,7 +49,7 @@ module _ (i : Image) (set l : List ℕ) (valid : IsBuilt i.heap) (ordinary : All
   words_size = length-map-range_with_len new_word 0 (n * w)
 
   moved_size : length j.heap.words ≡ n * w
-  moved_size = (made_is_moved i set l valid ordinary survivors room).size
+  moved_size = (made_is_moved i set l valid room).size
 
   -- a word of region r
   word_there : (r m : ℕ) → r < n → m < w → get_or words (r * w + m) 0 ≡ cond (has freed r) 0 (word j.heap (r * w + m))
@@ -79,7 +79,7 @@ module _ (i : Image) (set l : List ℕ) (valid : IsBuilt i.heap) (ordinary : All
         (λ m less.
         let below : m < w = omega (arith, less, slice_size r lt) in
         get_or-slice_of w r m words below ∙ word_there r m lt below ∙ ap (λ b. cond b 0 (word j.heap (r * w + m))) e ∙ sym (get_or-slice_of w r m j.heap.words below))
-        ∙ each_slice i set l valid ordinary survivors room r lt
+        ∙ each_slice i set l valid room r lt
         ∙ ap (λ x. by_fate w (to_space_words i.heap l) (all_patches i.heap set l) r x (slice_of w r i.heap.words)) (sym (fate_beside set freed (to_space i.heap l) r e))
   ]
 

@@ -21,7 +21,7 @@ use Rattle.g1_words.proofs.Objects.{tops_fit}
 use Rattle.g1_words.proofs.Shapes.{IsBuilt, built, valid_of}
 use Rattle.g1_words.proofs.Sound.{sound}
 use Rattle.g1_words.specs.Heap.{Heap, free_region, kind, object_at, region, region_with, regions}
-use Rattle.g1_words.specs.Layout.{end_in, forward, free_regions, kept, moved_to, need, places, to_space}
+use Rattle.g1_words.specs.Layout.{end_in, forward, free_regions, kept, moved_to, need, places, to_space, HasRoom}
 use Rattle.g1_words.specs.Lists.{has}
 use Rattle.g1_words.specs.References.{named, root_targets}
 use Rattle.g1_words.specs.Survivors.{AllOrdinary}
@@ -57,6 +57,9 @@ module _ (h : Heap) (chosen : List ℕ) (p : Plan) (valid : IsValid h) (pause : 
 
   ordinary : AllOrdinary h chosen
   ordinary = subst (AllOrdinary h) pause.same pause.made.placeable.ordinary
+
+  has_room : HasRoom h chosen p.survivors
+  has_room = record { ordinary = ordinary; survivors = pause.survivors; room = room }
 
   runs_is : p.runs ≡ runs h p.survivors
   runs_is = ap (λ (q : Plan). q.runs) pause.made.plan
@@ -97,13 +100,13 @@ module _ (h : Heap) (chosen : List ℕ) (p : Plan) (valid : IsValid h) (pause : 
       let r : ℕ = get_or (free_regions h) t 0 in
       let j : Image = image_moved image chosen l in
       let whole : IsBuilt h = built h valid in
-      let moved = made_is_moved image chosen l whole ordinary pause.survivors room in
-      let good : IsValid j.heap = valid_of j.heap (valid_moved image chosen l j whole ordinary pause.survivors room moved) in
+      let moved = made_is_moved image chosen l whole has_room in
+      let good : IsValid j.heap = valid_of j.heap (valid_moved image chosen l j whole has_room moved) in
       let free = free_there t lt in
       let count : length j.heap.regions ≡ h.geometry.n = good.region_count in
       let top = tops_fit j.heap good r free_region (omega (arith, count, free.1)) in
       let is : region j.heap r ≡ region_with Ordinary (end_in h l r) =
-      region_moved image chosen l j (sound h valid) ordinary pause.survivors room moved r free.1 ∙ new_at r (free_off r free.0) (to_space_has t lt) in
+      region_moved image chosen l j (sound h valid) has_room moved r free.1 ∙ new_at r (free_off r free.0) (to_space_has t lt) in
       subst (λ (x : Region). x.top ≤ h.geometry.w) is top
 
   -- what is asked of the runs
@@ -183,11 +186,11 @@ module _ (h : Heap) (chosen : List ℕ) (p : Plan) (valid : IsValid h) (pause : 
       let l : List ℕ = p.survivors in
       let j : Image = image_moved image chosen l in
       let whole : IsBuilt h = built h valid in
-      let moved = made_is_moved image chosen l whole ordinary pause.survivors room in
+      let moved = made_is_moved image chosen l whole has_room in
       let target : Contains (root_targets h) a = Contains-flat_map named h.roots (suc a) a m (zero, omega arith, refl) in
-      let k = root_kept image chosen l j whole ordinary pause.survivors room moved a target in
+      let k = root_kept image chosen l j whole has_room moved a target in
       let filled : 0 < (object_at h a).size = kept_filled a k in
-      let below = moved_below image chosen l j whole ordinary pause.survivors room moved (object_at h a) 0 k filled in
+      let below = moved_below image chosen l j whole has_room moved (object_at h a) 0 k filled in
       let most = valid.limits.words_most in
       omega arith
     where
@@ -196,7 +199,7 @@ module _ (h : Heap) (chosen : List ℕ) (p : Plan) (valid : IsValid h) (pause : 
           let l : List ℕ = p.survivors in
           let j : Image = image_moved image chosen l in
           let whole : IsBuilt h = built h valid in
-          let refs = kept_refs image chosen l j whole ordinary pause.survivors room (made_is_moved image chosen l whole ordinary pause.survivors room) (object_at h a) k in
+          let refs = kept_refs image chosen l j whole has_room (made_is_moved image chosen l whole has_room) (object_at h a) k in
           omega arith
 
   pub root_fits : (xs : List ℕ) (i d : ℕ) → xs ≡ h.roots → i < length xs → renamed goes (get_or xs i d) < 2 ^ 64

@@ -13,8 +13,7 @@ use Rattle.std.proofs.lemmas.List.Elements.{Contains-get_or}
 use Rattle.g1_words.specs.declared.fault.Fault.{Fault}
 use Rattle.g1_words.specs.Heap.{Heap, regions}
 use Rattle.g1_words.specs.Lists.{has}
-use Rattle.g1_words.specs.Survivors.{AllOrdinary, Survivors}
-use Rattle.g1_words.specs.Layout.{free_regions, need, to_space}
+use Rattle.g1_words.specs.Layout.{free_regions, need, to_space, HasRoom}
 use Rattle.g1_words.proofs.Members.{Contains-filter, filter_member, Contains-from_has, has_from_contains, or_true}
 use Rattle.g1_words.proofs.Indices.{range_bounds}
 use Rattle.g1_words.proofs.Shapes.{IsBuilt}
@@ -97,8 +96,7 @@ where_there h valid test c k =
 
 -- ---- one region's set
 
-module _ (i : Image) (set l : List ℕ) (valid : IsBuilt i.heap) (ordinary : AllOrdinary i.heap set) (survivors : Survivors i.heap set l)
-    (room : need i.heap l ≤ length (free_regions i.heap)) (fates : List Fate) (are : AreFates i.heap set (to_space i.heap l) fates) where
+module _ (i : Image) (set l : List ℕ) (valid : IsBuilt i.heap) (room : HasRoom i.heap set l) (fates : List Fate) (are : AreFates i.heap set (to_space i.heap l) fates) where
   abbrev P : ℕ → ℕ → Bool
   P r c = is_linked i.heap (all_patches i.heap set l) r c
 
@@ -134,12 +132,12 @@ module _ (i : Image) (set l : List ℕ) (valid : IsBuilt i.heap) (ordinary : All
   other r c = (is_refined i r c && not (card_in i.heap set c)) || (card_in i.heap (to_space i.heap l) c && is_exact after r c)
 
   filled_set : (r : ℕ) (zs : List ℕ) → has (to_space i.heap l) r ≡ true → IsMerged (cards_where i.heap (P r)) (cards_where i.heap (C r)) zs → zs ≡ cards_where i.heap (is_exact after r)
-  filled_set r zs to m = merged_where i.heap (P r) (C r) zs m ∙ (λ t. cards_where i.heap (λ c. sym (to_space_cards i set l valid ordinary survivors room r c to) t))
+  filled_set r zs to m = merged_where i.heap (P r) (C r) zs m ∙ (λ t. cards_where i.heap (λ c. sym (to_space_cards i set l valid room r c to) t))
 
   kept_set : (r : ℕ) (zs : List ℕ) → IsMerged (filter (stays i.heap fates) (refined i r)) (cards_where i.heap (C r)) zs → zs ≡ cards_where i.heap (other r)
   kept_set r zs m =
       merged_where i.heap (λ c. is_refined i r c && not (card_in i.heap set c)) (C r) zs (subst (λ xs. IsMerged xs (cards_where i.heap (C r)) zs) (kept_are r) m)
-      ∙ (λ t. cards_where i.heap (λ c. (is_refined i r c && not (card_in i.heap set c)) || sym (copied_cards i set l valid ordinary survivors room r c) t))
+      ∙ (λ t. cards_where i.heap (λ c. (is_refined i r c && not (card_in i.heap set c)) || sym (copied_cards i set l valid room r c) t))
 
   -- what is joined is the set after the pause
   pub remembered_moved_is : (r : ℕ) (zs : List ℕ) → r < i.heap.geometry.n →

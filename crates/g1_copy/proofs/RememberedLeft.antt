@@ -86,8 +86,8 @@ module _ (i : Image) (set l : List ℕ) (tracked : IsTracked i) (a : HasRoom i.h
       let used = cards_used i set l tracked a r c lt k in
       elim (cases_Bool (has set (region_of_card i.heap c))) [
         | inr e ↦ e
-        | inl t ↦ absurd (used.used (set_shape i set l (image_moved i set l) valid a.ordinary a.survivors a.room
-            (made_is_moved i set l valid a.ordinary a.survivors a.room) (region_of_card i.heap c) (there c used) t).0)
+        | inl t ↦ absurd (used.used (set_shape i set l (image_moved i set l) valid a
+            (made_is_moved i set l valid a) (region_of_card i.heap c) (there c used) t).0)
       ]
     where
       there : (c : ℕ) → IsUsedCard after c → region_of_card i.heap c < i.heap.geometry.n

@@ -1,5 +1,5 @@
 -- The patches and the copied slots are the references of the heap after the pause that lead into to-space or lie in it.
-use Rattle.std.proofs.Common.{◌≡◌, ℕ, zero, suc, ◌+◌, ◌-◌, ◌<◌, ◌≤◌, ◌⊎◌, inl, inr, Bool, true, false, not, ◌&&◌, ◌||◌, List, length, filter, flat_map, refl, sym, ◌∙◌, ap, subst, arith, eqb, Contains}
+use Rattle.std.proofs.Common.{◌≡◌, ℕ, zero, suc, ◌+◌, ◌-◌, ◌<◌, ◌≤◌, ◌⊎◌, inl, inr, Bool, true, false, not, ◌&&◌, ◌||◌, List, filter, flat_map, refl, sym, ◌∙◌, ap, subst, arith, eqb, Contains}
 use Rattle.std.proofs.Common.{eqb-true, ne_eqb}
 use Rattle.std.specs.List.{range_with_len}
 use Rattle.std.proofs.lemmas.Bool.{cases_Bool, false≢true}
@@ -8,8 +8,8 @@ use Rattle.g1_words.specs.declared.region.Kind.TheVariants.{Ordinary, HumongousF
 use Rattle.g1_words.specs.Heap.{Heap, kind, word, region_of, card_of, object_at, objects, slots}
 use Rattle.g1_words.specs.Lists.{has}
 use Rattle.g1_words.specs.References.{Ref, named, refs, refs_at}
-use Rattle.g1_words.specs.Survivors.{AllOrdinary, Survivors, in_set}
-use Rattle.g1_words.specs.Layout.{forward, free_regions, need, to_space}
+use Rattle.g1_words.specs.Survivors.{in_set}
+use Rattle.g1_words.specs.Layout.{forward, to_space, HasRoom}
 use Rattle.g1_words.proofs.Members.{Contains-map, Contains-filter, Contains-flat_map, map_cases, filter_member, flat_map_cases, Contains-from_has, has_from_contains, or_true}
 use Rattle.g1_words.proofs.Members.{and_true, any_member}
 use Rattle.g1_words.proofs.Indices.{range_bounds}
@@ -86,7 +86,7 @@ ref_of_slot h o m b k p le e =
     (Contains-flat_map (refs_at h) (slots o) q r (Contains-range (o.at + 1) o.refs q (omega arith) (omega arith))
     (Contains-map (λ a. record { slot = q; target = a }) (named (word h q)) b (subst (λ x. Contains (named x) b) (sym e) (zero, omega arith, refl))))
 
-module _ (i : Image) (set l : List ℕ) (valid : IsBuilt i.heap) (ordinary : AllOrdinary i.heap set) (survivors : Survivors i.heap set l) (room : need i.heap l ≤ length (free_regions i.heap)) where
+module _ (i : Image) (set l : List ℕ) (valid : IsBuilt i.heap) (room : HasRoom i.heap set l) where
   abbrev f : ℕ → ℕ
   f = forward i.heap l
 
@@ -97,7 +97,7 @@ module _ (i : Image) (set l : List ℕ) (valid : IsBuilt i.heap) (ordinary : All
   s = built_is_sound i.heap valid
 
   moved : IsMoved i set l j
-  moved = made_is_moved i set l valid ordinary survivors room
+  moved = made_is_moved i set l valid room
 
   -- an object with a word outside the set stands outside it
   owner_outside : (o : Object) (m : ℕ) → Contains (objects i.heap) o → m < o.size → in_set i.heap set (o.at + m) ≡ false → in_set i.heap set o.at ≡ false
@@ -106,7 +106,7 @@ module _ (i : Image) (set l : List ℕ) (valid : IsBuilt i.heap) (ordinary : All
     | inl t ↦
         let q = home i.heap valid o k in
         let at : region_of i.heap o.at ≡ q.0 = home_region i.heap valid q.0 o q.2 in
-        let one : kind i.heap q.0 ≡ Ordinary = ap (kind i.heap) (sym at) ∙ ordinary (region_of i.heap o.at)
+        let one : kind i.heap q.0 ≡ Ordinary = ap (kind i.heap) (sym at) ∙ room.ordinary (region_of i.heap o.at)
         (Contains-from_has set (region_of i.heap o.at) t) in
         elim q.2.2 [
           | inl a ↦ absurd (false≢true (sym out ∙ ap (has set) ((ordinary_word i.heap valid q.0 o m a lt).0 ∙ sym at) ∙ t))
@@ -140,10 +140,10 @@ module _ (i : Image) (set l : List ℕ) (valid : IsBuilt i.heap) (ordinary : All
       let a = o.above in
       let at = o.at in
       let off : in_set i.heap set o.owner.at ≡ false = owner_outside o.owner o.m o.stands (omega arith) (ap (in_set i.heap set) at ∙ out) in
-      let stays = outside_stays i.heap set l s ordinary survivors room o.owner.at off in
+      let stays = outside_stays i.heap set l s room o.owner.at off in
       record {
         owner = o.owner;
-        is_kept = (kept_outside i set l j s ordinary survivors room moved o.owner o.stands off);
+        is_kept = (kept_outside i set l j s room moved o.owner o.stands off);
         m = o.m;
         above = a;
         within = w;
@@ -198,7 +198,7 @@ module _ (i : Image) (set l : List ℕ) (valid : IsBuilt i.heap) (ordinary : All
       let c = copied_of x k in
       let w = c.word_at in record {
         owner = object_at i.heap c.at;
-        is_kept = (survivor_kept i set l j s ordinary survivors room moved c.at c.survives);
+        is_kept = (survivor_kept i set l j s room moved c.at c.survives);
         m = c.m;
         above = c.above;
         within = c.within;
@@ -211,10 +211,10 @@ module _ (i : Image) (set l : List ℕ) (valid : IsBuilt i.heap) (ordinary : All
   -- a word of a survivor goes to to-space
   survivor_goes : (a m : ℕ) → Contains l a → m ≤ (object_at i.heap a).refs → (region_of i.heap (f a + m) < i.heap.geometry.n) × (has (to_space i.heap l) (region_of i.heap (f a + m)) ≡ true)
   survivor_goes a m k le =
-      let fits = kept_refs i set l j valid ordinary survivors room moved (object_at i.heap a) (survivor_kept i set l j s ordinary survivors room moved a k) in
-      let u = survivor_word i set l j valid ordinary survivors room moved a m k (omega arith) in (
-        subst (λ y. y < i.heap.geometry.n) (sym u.2) (goal_is_free i set l j s ordinary survivors room moved u.0 u.1).1,
-        subst (λ y. has (to_space i.heap l) y ≡ true) (sym u.2) (goal_in_to_space i set l j s ordinary survivors room moved u.0 u.1),
+      let fits = kept_refs i set l j valid room moved (object_at i.heap a) (survivor_kept i set l j s room moved a k) in
+      let u = survivor_word i set l j valid room moved a m k (omega arith) in (
+        subst (λ y. y < i.heap.geometry.n) (sym u.2) (goal_is_free i set l j s room moved u.0 u.1).1,
+        subst (λ y. has (to_space i.heap l) y ≡ true) (sym u.2) (goal_in_to_space i set l j s room moved u.0 u.1),
       )
 
   -- a copied slot lies in to-space
@@ -238,15 +238,15 @@ module _ (i : Image) (set l : List ℕ) (valid : IsBuilt i.heap) (ordinary : All
   pub moved_parts : (e : Ref) (r : IsMovedRef i.heap set l e) → Parts e r.target
   moved_parts e r =
       let k = r.is_kept in
-      let fits = kept_refs i set l j valid ordinary survivors room moved r.owner k in
+      let fits = kept_refs i set l j valid room moved r.owner k in
       let a = r.above in
       let w = r.within in
-      elim (kept_cases i.heap set l s ordinary survivors room r.owner k) [
+      elim (kept_cases i.heap set l s room r.owner k) [
         | inl x ↦
-            let stays = outside_stays i.heap set l s ordinary survivors room r.owner.at x.0 in
+            let stays = outside_stays i.heap set l s room r.owner.at x.0 in
             let slot : r.owner.at + r.m ≡ e.slot = ap (λ y. y + r.m) (sym stays) ∙ sym r.slot_at in
-            let u = outside_word i set l j valid ordinary survivors room moved r.owner r.m x.1 x.0 (omega arith) in
-            let used : has (to_space i.heap l) (region_of i.heap (r.owner.at + r.m)) ≡ false = used_not_to_space i.heap set l s ordinary survivors room (region_of i.heap (r.owner.at + r.m)) u.1 in
+            let u = outside_word i set l j valid room moved r.owner r.m x.1 x.0 (omega arith) in
+            let used : has (to_space i.heap l) (region_of i.heap (r.owner.at + r.m)) ≡ false = used_not_to_space i.heap set l s room (region_of i.heap (r.owner.at + r.m)) u.1 in
             inr (
               ap (λ y. has (to_space i.heap l) (region_of i.heap y)) (sym slot) ∙ used,
               (λ survives.
@@ -274,15 +274,15 @@ module _ (i : Image) (set l : List ℕ) (valid : IsBuilt i.heap) (ordinary : All
   pub names_survivor : (e : Ref) (r : IsMovedRef i.heap set l e) → has (to_space i.heap l) (region_of i.heap e.target) ≡ true → Contains l r.target
   names_survivor e r t =
       let k = r.is_kept in
-      let o = slot_kept i set l j valid ordinary survivors room moved r.owner r.target k (slot_names i set l j valid ordinary survivors room moved r.owner r.m r.target r.above r.within r.names) in
-      let fits = kept_refs i set l j valid ordinary survivors room moved (object_at i.heap r.target) o in
-      elim (kept_cases i.heap set l s ordinary survivors room (object_at i.heap r.target) o) [
+      let o = slot_kept i set l j valid room moved r.owner r.target k (slot_names i set l j valid room moved r.owner r.m r.target r.above r.within r.names) in
+      let fits = kept_refs i set l j valid room moved (object_at i.heap r.target) o in
+      elim (kept_cases i.heap set l s room (object_at i.heap r.target) o) [
         | inr x ↦ subst (Contains l) (ap (λ (o : Object). o.at) x.2) x.1
         | inl x ↦
-            let stays : f r.target ≡ r.target = outside_stays i.heap set l s ordinary survivors room r.target x.0 in
-            let u = outside_word i set l j valid ordinary survivors room moved (object_at i.heap r.target) 0 x.1 x.0 (omega arith) in
+            let stays : f r.target ≡ r.target = outside_stays i.heap set l s room r.target x.0 in
+            let u = outside_word i set l j valid room moved (object_at i.heap r.target) 0 x.1 x.0 (omega arith) in
             let at : r.target + 0 ≡ e.target = omega (arith, stays, r.target_at) in
-            let off : has (to_space i.heap l) (region_of i.heap (r.target + 0)) ≡ false = used_not_to_space i.heap set l s ordinary survivors room (region_of i.heap (r.target + 0)) u.1 in
+            let off : has (to_space i.heap l) (region_of i.heap (r.target + 0)) ≡ false = used_not_to_space i.heap set l s room (region_of i.heap (r.target + 0)) u.1 in
             absurd (false≢true (sym off ∙ ap (λ y. has (to_space i.heap l) (region_of i.heap y)) at ∙ t))
       ]
 
@@ -299,14 +299,14 @@ module _ (i : Image) (set l : List ℕ) (valid : IsBuilt i.heap) (ordinary : All
   pub linked_is_exact : (xs : List (ℕ × ℕ)) (r c : ℕ) → ((x : ℕ × ℕ) → Contains xs x → IsMovedRef i.heap set l (link x)) → is_linked i.heap xs r c ≡ true → is_exact j.heap r c ≡ true
   linked_is_exact xs r c all t =
       let m = any_member (λ (x : ℕ × ℕ). lands r c (link x)) xs t in
-      let there : Contains (refs j.heap) (link m.0) = (refs_moved i set l j valid ordinary survivors room moved (link m.0)).1 (all m.0 m.1) in
+      let there : Contains (refs j.heap) (link m.0) = (refs_moved i set l j valid room moved (link m.0)).1 (all m.0 m.1) in
       any_from_in (lands r c) (refs j.heap) (link m.0) there m.2
 
   -- the reference for which a card is exact
   exact_ref : (r c : ℕ) → is_exact j.heap r c ≡ true → (e : Ref) × IsMovedRef i.heap set l e × (lands r c e ≡ true)
   exact_ref r c t =
       let m = any_member (lands r c) (refs j.heap) t in
-      (m.0, (refs_moved i set l j valid ordinary survivors room moved m.0).0 m.1, m.2)
+      (m.0, (refs_moved i set l j valid room moved m.0).0 m.1, m.2)
 
   -- into a region of to-space the patches lead and the copied slots
   pub to_space_cards : (r c : ℕ) → has (to_space i.heap l) r ≡ true → is_exact j.heap r c ≡ (is_linked i.heap (all_patches i.heap set l) r c || is_linked i.heap (copied_slots i.heap l) r c)

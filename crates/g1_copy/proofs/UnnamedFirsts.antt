@@ -102,11 +102,11 @@ module _ (i : Image) (set l : List ℕ) (tracked : IsTracked i) (a : HasRoom i.h
   s = built_is_sound i.heap valid
 
   moved : IsMoved i set l (image_moved i set l)
-  moved = made_is_moved i set l valid a.ordinary a.survivors a.room
+  moved = made_is_moved i set l valid a
 
   -- the image after the moves is tracked
   pub moved_tracked : IsTracked (image_moved i set l)
-  moved_tracked = tracked_moved i set l (image_moved i set l) tracked a.ordinary a.survivors a.room moved
+  moved_tracked = tracked_moved i set l (image_moved i set l) tracked a moved
 
   -- a region of to-space was free
   to_space_free : (r : ℕ) → has (to_space i.heap l) r ≡ true → kind i.heap r ≡ Free
@@ -139,11 +139,11 @@ module _ (i : Image) (set l : List ℕ) (tracked : IsTracked i) (a : HasRoom i.h
 
     -- nor of to-space
     off_to_space : has (to_space i.heap l) r ≡ false
-    off_to_space = used_not_to_space i.heap set l s a.ordinary a.survivors a.room r (λ z. let clash : HumongousFirst ≡ Free = sym two ∙ z in cc)
+    off_to_space = used_not_to_space i.heap set l s a r (λ z. let clash : HumongousFirst ≡ Free = sym two ∙ z in cc)
 
     -- it stays such a region
     first_stays : kind j.heap r ≡ HumongousFirst
-    first_stays = (other_shape i set l j valid a.ordinary a.survivors a.room moved r lt off_set off_to_space).0 ∙ two
+    first_stays = (other_shape i set l j valid a moved r lt off_set off_to_space).0 ∙ two
 
     -- the object
     abbrev o : Object
@@ -168,7 +168,7 @@ module _ (i : Image) (set l : List ℕ) (tracked : IsTracked i) (a : HasRoom i.h
 
     -- it stays as it is
     pub object_same : object_at j.heap (r * i.heap.geometry.w) ≡ o
-    object_same = object_stays i set l j valid a.ordinary a.survivors a.room moved o o_is_one outside
+    object_same = object_stays i set l j valid a moved o o_is_one outside
 
     -- what a root names in the region stands at its start
     root_there : (x : ℕ) → Contains (root_targets i.heap) x → region_of i.heap x ≡ r → x ≡ r * i.heap.geometry.w
@@ -182,11 +182,11 @@ module _ (i : Image) (set l : List ℕ) (tracked : IsTracked i) (a : HasRoom i.h
 
     -- a root that names the start afterwards named it before
     root_before : (x : ℕ) → Contains (root_targets i.heap) x → forward i.heap l x ≡ r * i.heap.geometry.w → region_of i.heap x ≡ r
-    root_before x k e = elim (kept_cases i.heap set l s a.ordinary a.survivors a.room (object_at i.heap x) (root_kept i set l j valid a.ordinary a.survivors a.room moved x k)) [
-      | inl y ↦ ap (region_of i.heap) (sym (outside_stays i.heap set l s a.ordinary a.survivors a.room x y.0) ∙ e) ∙ start_region
+    root_before x k e = elim (kept_cases i.heap set l s a (object_at i.heap x) (root_kept i set l j valid a moved x k)) [
+      | inl y ↦ ap (region_of i.heap) (sym (outside_stays i.heap set l s a x y.0) ∙ e) ∙ start_region
       | inr y ↦
           let at : y.0 ≡ x = ap (λ (q : Object). q.at) y.2 in
-          let free = survivor_to_free i.heap set l s a.ordinary a.survivors a.room y.0 y.1 in
+          let free = survivor_to_free i.heap set l s a y.0 y.1 in
           let clash : HumongousFirst ≡ Free = sym two ∙ ap (kind i.heap) (sym start_region) ∙ ap (λ z. kind i.heap (region_of i.heap z)) (sym e ∙ ap (forward i.heap l) (sym at)) ∙ free in
           cc
     ]
@@ -208,7 +208,7 @@ module _ (i : Image) (set l : List ℕ) (tracked : IsTracked i) (a : HasRoom i.h
       from t =
           let m = any_member (λ x. eqb (region_of i.heap x) r) (root_targets i.heap) t in
           let at : m.0 ≡ r * i.heap.geometry.w = root_there m.0 m.1 (eqb-true (region_of i.heap m.0) r m.2) in
-          let stays : forward i.heap l m.0 ≡ r * i.heap.geometry.w = ap (forward i.heap l) at ∙ outside_stays i.heap set l s a.ordinary a.survivors a.room (r * i.heap.geometry.w) outside in
+          let stays : forward i.heap l m.0 ≡ r * i.heap.geometry.w = ap (forward i.heap l) at ∙ outside_stays i.heap set l s a (r * i.heap.geometry.w) outside in
           let k : Contains (map (forward i.heap l) (root_targets i.heap)) (r * i.heap.geometry.w) =
           subst (Contains (map (forward i.heap l) (root_targets i.heap))) stays (Contains-map (forward i.heap l) (root_targets i.heap) m.0 m.1) in
           has_from_contains (root_targets j.heap) (r * i.heap.geometry.w) (subst (λ xs. Contains xs (r * i.heap.geometry.w)) (sym (roots_renamed (forward i.heap l) i.heap.roots)) k)
@@ -285,7 +285,7 @@ module _ (i : Image) (set l : List ℕ) (tracked : IsTracked i) (a : HasRoom i.h
           elim (has_fate set (to_space i.heap l) once (region_of_card i.heap c)) [
             | is_freed e f ↦ (
                 let none : card_in i.heap (to_space i.heap l) c ≡ false =
-                used_not_to_space i.heap set l s a.ordinary a.survivors a.room x (λ z. let clash : Ordinary ≡ Free = sym (a.ordinary x (Contains-from_has set x e)) ∙ z in cc) in
+                used_not_to_space i.heap set l s a x (λ z. let clash : Ordinary ≡ Free = sym (a.ordinary x (Contains-from_has set x e)) ∙ z in cc) in
                 let never : true ≡ false = sym (card_is c k).1 ∙ (λ q. (is_refined i r c && not (e q)) || (none q && is_exact j.heap r c)) ∙ drop (is_refined i r c) in
                 cc)
             | is_filled t less at e g f ↦ in_to_space c k g ∙ sym (by_its_fate c (Filled t) there f)
@@ -307,11 +307,11 @@ module _ (i : Image) (set l : List ℕ) (tracked : IsTracked i) (a : HasRoom i.h
   -- only the first region of a run stays one
   pub kind_tells : (r : ℕ) → r < i.heap.geometry.n → is_first (kind i.heap r) ≡ false → is_first (kind j.heap r) ≡ false
   kind_tells r lt e = elim (cases_Bool (has set r)) [
-    | inl t ↦ ap is_first (set_shape i set l j valid a.ordinary a.survivors a.room moved r lt t).0
+    | inl t ↦ ap is_first (set_shape i set l j valid a moved r lt t).0
     | inr out ↦ elim (cases_Bool (has (to_space i.heap l) r)) [
-      | inl t ↦ ap (λ (x : Region). is_first x.kind) (region_moved i set l j s a.ordinary a.survivors a.room moved r lt)
+      | inl t ↦ ap (λ (x : Region). is_first x.kind) (region_moved i set l j s a moved r lt)
           ∙ (λ q. is_first (cond (out q) free_region (cond (t q) (region_with Ordinary (end_in i.heap l r)) (region i.heap r))).kind)
-      | inr off ↦ ap is_first (other_shape i set l j valid a.ordinary a.survivors a.room moved r lt out off).0 ∙ e
+      | inr off ↦ ap is_first (other_shape i set l j valid a moved r lt out off).0 ∙ e
     ]
   ]
 

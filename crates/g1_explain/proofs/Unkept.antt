@@ -80,7 +80,7 @@ module _ (i : Image) (set l : List ℕ) (tracked : IsTracked i) (a : HasRoom i.h
   s = built_is_sound i.heap valid
 
   moved : IsMoved i set l (image_moved i set l)
-  moved = made_is_moved i set l valid a.ordinary a.survivors a.room
+  moved = made_is_moved i set l valid a
 
   abbrev f : ℕ → ℕ
   f = forward i.heap l
@@ -133,18 +133,18 @@ module _ (i : Image) (set l : List ℕ) (tracked : IsTracked i) (a : HasRoom i.h
     outside = ap (has set) there ∙ false_from_ne_true (has set r) (λ t. let clash : Ordinary ≡ HumongousFirst = sym (a.ordinary r (Contains-from_has set r t)) ∙ two in cc)
 
     stays : f at ≡ at
-    stays = outside_stays h set l s a.ordinary a.survivors a.room at outside
+    stays = outside_stays h set l s a at outside
 
     object_same : object_at j.heap at ≡ o
-    object_same = object_stays i set l j valid a.ordinary a.survivors a.room moved o o_is_one outside
+    object_same = object_stays i set l j valid a moved o o_is_one outside
 
     -- what is moved there was there
     back : (x : ℕ) → Contains (kept h set l) (object_at h x) → f x ≡ at → x ≡ at
-    back x k e = elim (kept_cases h set l s a.ordinary a.survivors a.room (object_at h x) k) [
-      | inl y ↦ sym (outside_stays h set l s a.ordinary a.survivors a.room x y.0) ∙ e
+    back x k e = elim (kept_cases h set l s a (object_at h x) k) [
+      | inl y ↦ sym (outside_stays h set l s a x y.0) ∙ e
       | inr y ↦
           let same : y.0 ≡ x = ap (λ (q : Object). q.at) y.2 in
-          let free = survivor_to_free h set l s a.ordinary a.survivors a.room y.0 y.1 in
+          let free = survivor_to_free h set l s a y.0 y.1 in
           let clash : HumongousFirst ≡ Free = sym two ∙ ap (kind h) (sym there) ∙ ap (λ z. kind h (region_of h z)) (sym e ∙ ap f (sym same)) ∙ free in
           cc
     ]
@@ -227,24 +227,24 @@ module _ (i : Image) (set l : List ℕ) (tracked : IsTracked i) (a : HasRoom i.h
       | inl k ↦
           let n : Contains (map (forward h l) (root_targets h)) at = subst (λ xs. Contains xs at) (roots_renamed (forward h l) h.roots) (Contains-from_has (root_targets j.heap) at k) in
           let m = map_cases (forward h l) (root_targets h) at n in
-          let same : m.0 ≡ at = back m.0 (root_kept i set l j valid a.ordinary a.survivors a.room moved m.0 m.1) m.2 in
+          let same : m.0 ≡ at = back m.0 (root_kept i set l j valid a moved m.0 m.1) m.2 in
           of_roots (subst (Contains (root_targets h)) same m.1)
       | inr k ↦
           let m = any_member (λ e. eqb e.target at && not (has_word o e.slot)) (refs j.heap) k in
           let b = and_parts (eqb m.0.target at) (not (has_word o m.0.slot)) m.2 in
-          by_ref m.0 (ref_moved i set l j valid a.ordinary a.survivors a.room moved m.0 m.1) (eqb-true m.0.target at b.0) b.1
+          by_ref m.0 (ref_moved i set l j valid a moved m.0 m.1) (eqb-true m.0.target at b.0) b.1
     ]
       where
         by_ref : (e : Ref) → RefMoved i set l e → e.target ≡ at → not (has_word o e.slot) ≡ true → (x : Lead) × Contains (leads_to h set l r) x
         by_ref e m target off =
-            let before : m.before ≡ at = back m.before (before_kept i set l j valid a.ordinary a.survivors a.room moved e m) (m.moved_to ∙ target) in
+            let before : m.before ≡ at = back m.before (before_kept i set l j valid a moved e m) (m.moved_to ∙ target) in
             let reads : word h (m.owner.at + m.m) ≡ suc at = m.word_before ∙ ap suc before in
-            elim (kept_cases h set l s a.ordinary a.survivors a.room m.owner m.is_kept) [
+            elim (kept_cases h set l s a m.owner m.is_kept) [
               | inl y ↦
                   let c : Contains (objects h) m.owner = y.1 in
-                  let fits = kept_refs i set l j valid a.ordinary a.survivors a.room moved m.owner m.is_kept in
+                  let fits = kept_refs i set l j valid a moved m.owner m.is_kept in
                   let less : m.m < m.owner.size = omega (arith, fits, m.within) in
-                  let place : e.slot ≡ m.owner.at + m.m = m.slot ∙ ap (λ z. z + m.m) (outside_stays h set l s a.ordinary a.survivors a.room m.owner.at y.0) in
+                  let place : e.slot ≡ m.owner.at + m.m = m.slot ∙ ap (λ z. z + m.m) (outside_stays h set l s a m.owner.at y.0) in
                   let ref : Contains (refs h) (record { slot = m.owner.at + m.m; target = at }) =
                   ref_of h (record { slot = m.owner.at + m.m; target = at }) (record { owner = m.owner; is_one = y.1; m = m.m; above = m.above; within = m.within; at = refl; names = reads }) in
                   let no_word : has_word o (m.owner.at + m.m) ≡ false = false_from_ne_true (has_word o (m.owner.at + m.m)) (λ z. false≢true (sym (ap not (ap (has_word o) place ∙ z)) ∙ off)) in
@@ -253,7 +253,7 @@ module _ (i : Image) (set l : List ℕ) (tracked : IsTracked i) (a : HasRoom i.h
               | inr y ↦
                   let word_of : word h (y.0 + m.m) ≡ suc at = ap (λ (q : Object). word h (q.at + m.m)) y.2 ∙ reads in
                   let few : m.m ≤ (object_at h y.0).refs = subst (λ (q : Object). m.m ≤ q.refs) (sym y.2) m.within in
-                  of_found (Contains-flat_map (targets h) l y.0 at y.1 (slot_names i set l j valid a.ordinary a.survivors a.room moved (object_at h y.0) m.m at m.above few word_of))
+                  of_found (Contains-flat_map (targets h) l y.0 at y.1 (slot_names i set l j valid a moved (object_at h y.0) m.m at m.above few word_of))
             ]
 
     -- the moved reference names it
@@ -261,7 +261,7 @@ module _ (i : Image) (set l : List ℕ) (tracked : IsTracked i) (a : HasRoom i.h
     named_by k m c above within reads off =
         let e : Ref = record { slot = f k.at + m; target = at } in
         let moved_ref : IsMovedRef h set l e = record { owner = k; is_kept = c; m = m; above = above; within = within; target = at; names = reads; slot_at = refl; target_at = sym stays } in
-        let ref : Contains (refs j.heap) e = (refs_moved i set l j valid a.ordinary a.survivors a.room moved e).1 moved_ref in
+        let ref : Contains (refs j.heap) e = (refs_moved i set l j valid a moved e).1 moved_ref in
         let any : list_any (λ e. eqb e.target at && not (has_word o e.slot)) (refs j.heap) ≡ true =
         any_from_in (λ (e : Ref). eqb e.target at && not (has_word o e.slot)) (refs j.heap) e ref (and_from (eqb at at) (not (has_word o (f k.at + m))) (eq-eqb at at refl) (ap not off)) in
         ap (λ b. has (root_targets j.heap) at || b) any ∙ last (has (root_targets j.heap) at)
@@ -299,9 +299,9 @@ module _ (i : Image) (set l : List ℕ) (tracked : IsTracked i) (a : HasRoom i.h
             let both = or_parts (has set (region_of h (w.owner.at + w.m))) (has (run h r) (region_of h (w.owner.at + w.m)))
             (sym (window_is (region_of h (w.owner.at + w.m))) ∙ ap (λ z. has (set ++ run h r) (region_of h z)) (sym w.at) ∙ t.outside) in
             let out : in_set h set w.owner.at ≡ false = false_from_ne_true (in_set h set w.owner.at) (λ z. false≢true (sym both.0 ∙ slot_home w.owner w.m c less z)) in
-            let place : f w.owner.at ≡ w.owner.at = outside_stays h set l s a.ordinary a.survivors a.room w.owner.at out in
+            let place : f w.owner.at ≡ w.owner.at = outside_stays h set l s a w.owner.at out in
             let reads : word h (w.owner.at + w.m) ≡ suc at = ap (word h) (sym w.at) ∙ w.names ∙ ap suc (sym t.target ∙ target) in
-            named_by w.owner w.m (kept_outside i set l j s a.ordinary a.survivors a.room moved w.owner w.is_one out) w.above w.within reads
+            named_by w.owner w.m (kept_outside i set l j s a moved w.owner w.is_one out) w.above w.within reads
             (ap (λ z. has_word o (z + w.m)) place ∙ sym (own_word w.owner w.m c less) ∙ both.1)
 
         by_found : x.target ≡ at → Contains (found_leads h l (length l)) x → is_named j.heap o ≡ true
@@ -312,9 +312,9 @@ module _ (i : Image) (set l : List ℕ) (tracked : IsTracked i) (a : HasRoom i.h
             let m : ℕ = 1 + t.number in
             let z : slice_index l t.place + (1 + t.number) ≡ slice_index l t.place + 1 + t.number = omega arith in
             let reads : word h (slice_index l t.place + (1 + t.number)) ≡ suc at = ap (word h) z ∙ t.reads ∙ ap suc target in
-            let c = survivor_kept i set l j s a.ordinary a.survivors a.room moved (slice_index l t.place) k in
-            let fits = kept_refs i set l j valid a.ordinary a.survivors a.room moved (object_at h (slice_index l t.place)) c in
-            let goal = survivor_region h set l s a.ordinary a.survivors a.room (slice_index l t.place) (1 + t.number) k (omega (arith, fits, t.fits)) in
+            let c = survivor_kept i set l j s a moved (slice_index l t.place) k in
+            let fits = kept_refs i set l j valid a moved (object_at h (slice_index l t.place)) c in
+            let goal = survivor_region h set l s a (slice_index l t.place) (1 + t.number) k (omega (arith, fits, t.fits)) in
             let free : kind h (region_of h (f (slice_index l t.place) + (1 + t.number))) ≡ Free =
             ap (kind h) goal.2 ∙ (is_free_region h (get_or (free_regions h) goal.0 0) (Contains-get_or (free_regions h) goal.0 0 (let fewer = a.room in omega (arith, goal.1, fewer)))).0 in
             named_by (object_at h (slice_index l t.place)) (1 + t.number) c (omega arith) (omega (arith, t.fits)) reads
@@ -349,7 +349,7 @@ module _ (i : Image) (set l : List ℕ) (tracked : IsTracked i) (a : HasRoom i.h
   one_region r true lt e =
       let kind_is : kind h r ≡ HumongousFirst = first_by_test (kind h r) e in
       let same_kind : kind j.heap r ≡ HumongousFirst =
-      (humongous_shape i set l j valid a.ordinary a.survivors a.room moved r lt (λ z. let clash : HumongousFirst ≡ Free = sym kind_is ∙ z in cc) (λ z. let clash : HumongousFirst ≡ Ordinary = sym kind_is ∙ z in cc)).0 ∙ kind_is in
+      (humongous_shape i set l j valid a moved r lt (λ z. let clash : HumongousFirst ≡ Free = sym kind_is ∙ z in cc) (λ z. let clash : HumongousFirst ≡ Ordinary = sym kind_is ∙ z in cc)).0 ∙ kind_is in
       let stands : objects_in j.heap r ≡ object_at j.heap (start h r) ∷ [] = ap (λ k. objects_by k j.heap r) same_kind in
       let home : region_of h (start h r) ≡ r = there r lt e in
       let first : is_first (kind j.heap (region_of j.heap (start h r))) ≡ true = ap (λ x. is_first (kind j.heap x)) home ∙ ap is_first same_kind in

@@ -60,7 +60,7 @@ module _ (i : Image) (set l : List ℕ) (b : Image) (valid : IsValid i.heap) (ro
   is_sound = sound i.heap valid
 
   between : IsBuilt b.heap
-  between = valid_moved i set l b (built i.heap valid) room.ordinary room.survivors room.room moved
+  between = valid_moved i set l b (built i.heap valid) room moved
 
   sizes : after.geometry ≡ i.heap.geometry
   sizes = moved.geometry
@@ -207,10 +207,10 @@ pause_keeps fill i set l j valid room p =
             (record { of_set = set_region i set l b valid room p.moved r lt; other = other_region i set l b valid room p.moved fill r lt });
       };
       rename = f;
-      stays = λ a out. outside_stays h set l s room.ordinary room.survivors room.room a out;
-      moves = λ a r t. inl (survivor_to_free h set l s room.ordinary room.survivors room.room a
+      stays = λ a out. outside_stays h set l s room a out;
+      moves = λ a r t. inl (survivor_to_free h set l s room a
           (survives i set l b valid room p.moved a (subst (λ z. Remains set h z a) heap r) t));
-      one_to_one = λ a c ra rc e. forward_one_to_one h set l s room.ordinary room.survivors room.room (object_at h a) (object_at h c)
+      one_to_one = λ a c ra rc e. forward_one_to_one h set l s room (object_at h a) (object_at h c)
           (kept_there i set l b valid room p.moved a (subst (λ z. Remains set h z a) heap ra))
           (kept_there i set l b valid room p.moved c (subst (λ z. Remains set h z c) heap rc)) e;
       roots = ap (λ (z : Heap). z.roots) heap ∙ p.moved.roots;

@@ -7,8 +7,8 @@ use Rattle.g1_words.specs.declared.region.Kind.TheVariants.{Free}
 use Rattle.g1_words.specs.Heap.{Heap, kind, region_of, objects, object_at, slots, word}
 use Rattle.g1_words.specs.References.{Ref, refs, refs_at, named, root_targets, targets}
 use Rattle.g1_words.specs.Live.{Reached, seed, child}
-use Rattle.g1_words.specs.Survivors.{in_set, seeds, children, Survivors, AllOrdinary}
-use Rattle.g1_words.specs.Layout.{next_fit, laid, laid_end, sizes_of, need, free_regions, row_address, places, moved_to, forward, kept}
+use Rattle.g1_words.specs.Survivors.{in_set, seeds, children}
+use Rattle.g1_words.specs.Layout.{next_fit, laid, laid_end, sizes_of, need, free_regions, row_address, places, moved_to, forward, kept, HasRoom}
 use Rattle.g1_words.proofs.Sound.{IsSound}
 use Rattle.g1_words.proofs.Members.{Contains-flat_map, flat_map_cases, Contains-map, map_cases, filter_member, Contains-from_has}
 use Rattle.g1_words.proofs.Ordered.{Ordered}
@@ -103,14 +103,14 @@ moved_stays (x ∷ l) (p ∷ ps) a h = go (eqb x a) refl (moved_stays l ps a (λ
 
 -- ---- the law
 
-module _ (h : Heap) (set l : List ℕ) (sound : IsSound h) (ordinary : AllOrdinary h set) (survivors : Survivors h set l) (room : need h l ≤ length (free_regions h)) where
+module _ (h : Heap) (set l : List ℕ) (sound : IsSound h) (room : HasRoom h set l) where
   pub survivor_in_set : (a : ℕ) → Contains l a → in_set h set a ≡ true
-  survivor_in_set a k = reached_in_set h set a ((survivors.reached a).0 k)
+  survivor_in_set a k = reached_in_set h set a ((room.survivors.reached a).0 k)
 
   pub survivor_fits : (a : ℕ) → Contains l a → (0 < size_at h a) × (size_at h a ≤ h.geometry.w)
   survivor_fits a k =
-      sound.fits (object_at h a) (reached_object h set sound a ((survivors.reached a).0 k))
-      (ordinary (region_of h a) (Contains-from_has set (region_of h a) (survivor_in_set a k)))
+      sound.fits (object_at h a) (reached_object h set sound a ((room.survivors.reached a).0 k))
+      (room.ordinary (region_of h a) (Contains-from_has set (region_of h a) (survivor_in_set a k)))
 
   fitting : (m : List ℕ) → ((a : ℕ) → Contains m a → (0 < size_at h a) × (size_at h a ≤ h.geometry.w)) → Fitting h.geometry.w (sizes_of h m)
   fitting [] f = tt
@@ -132,7 +132,7 @@ module _ (h : Heap) (set l : List ℕ) (sound : IsSound h) (ordinary : AllOrdina
       let region : (q + k) / h.geometry.w < need h l = region_below h.geometry.w sound.w_positive (q + k) (laid_end h.geometry.w 0 (sizes_of h l)) (omega arith) in
       (row_address-add h sound.w_positive q k inside ∙ ap (λ x. x + k) (sym s.2), omega arith)
 
-  -- the words of two survivors never meet
+  -- the words of two room.survivors never meet
   pub survivors_apart : (a b k m : ℕ) → Contains l a → Contains l b → k < size_at h a → m < size_at h b → forward h l a + k ≡ forward h l b + m → a ≡ b
   survivors_apart a b k m i j lk lm e =
       let s = spot_of h 0 l a i in
@@ -174,7 +174,7 @@ module _ (h : Heap) (set l : List ℕ) (sound : IsSound h) (ordinary : AllOrdina
   pub kept_object : (o : Object) → Contains (kept h set l) o → Contains (objects h) o
   kept_object o k = elim (kept_cases o k) [
     | inl x ↦ x.1
-    | inr x ↦ subst (λ q. Contains (objects h) q) x.2 (reached_object h set sound x.0 ((survivors.reached x.0).0 x.1))
+    | inr x ↦ subst (λ q. Contains (objects h) q) x.2 (reached_object h set sound x.0 ((room.survivors.reached x.0).0 x.1))
   ]
 
   -- no two kept objects go to one address

@@ -37,10 +37,19 @@ named_is (suc b) a (zero, lt, e) = omega (arith, e)
 named_is (suc b) a (suc k, lt, e) = absurd (omega (arith, lt))
 
 -- an object of a valid heap is the one that its header tells
+pub w_positive : (h : Heap) → IsValid h → 0 < h.geometry.w
+w_positive h valid = let least = valid.limits.w_least in omega arith
+
+pub k_positive : (h : Heap) → IsValid h → 0 < h.geometry.k
+k_positive h valid = let least = valid.limits.k_least in omega arith
+
 pub has_is : (h : Heap) (o : Object) → IsValid h → HasObject h o → o ≡ object_at h o.at
 has_is h o valid has =
     let s = object_stands h o (o.at / h.geometry.w) valid has refl in
     object_is h o (stands_object (kind h (o.at / h.geometry.w)) h (o.at / h.geometry.w) o s.1)
+
+pub named_suc : (x a : ℕ) → Contains (named x) a → x ≡ suc a
+named_suc x a i = let k = named_is x a i in omega arith
 
 -- a reference word names an object
 pub reference_named : (h : Heap) (x a : ℕ) → IsValid h → IsReference h x → Contains (named x) a → Contains (objects h) (object_at h a)

@@ -10,7 +10,7 @@ abbrev alone : Heap → Image
 alone h = record { heap = h; remembered = []; log = [] }
 
 pub returns-clause-of_to_space : goal.returns-clause-of_to_space
-returns-clause-of_to_space c = λ h set l v a. to_space_cards (alone h) set l (built h v) a.ordinary a.survivors a.room
+returns-clause-of_to_space c = λ h set l v a. to_space_cards (alone h) set l (built h v) a
 
 pub returns-clause-in_to_space : goal.returns-clause-in_to_space
-returns-clause-in_to_space c = λ h set l v a. copied_cards (alone h) set l (built h v) a.ordinary a.survivors a.room
+returns-clause-in_to_space c = λ h set l v a. copied_cards (alone h) set l (built h v) a
