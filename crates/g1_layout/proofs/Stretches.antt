@@ -131,7 +131,8 @@ free_rises h i j less lt =
     pairs_from_ordered (λ x y. x < y) (free_regions h) (Ordered-filter (λ x y. x < y) (λ r. is_free (kind h r)) (regions h) (Ordered-range 0 h.geometry.n)) i j 0 less lt
 
 module _ (h : Heap) (set l : List ℕ) (valid : IsValid h) (can : CanPlace h set l) (room : need h l ≤ length (free_regions h)) where
-  forward_at : (k : ℕ) → k < length l → forward h l (get_or l k 0) ≡ get_or (places h l) k 0
+  -- it is where the survivor goes
+  pub forward_at : (k : ℕ) → k < length l → forward h l (get_or l k 0) ≡ get_or (places h l) k 0
   forward_at k lt = moved_at l (places h l) k lt (count_places h l (w_positive h valid) (can_lay h set l valid can) room) can.distinct
 
   abbrev row_of : ℕ → ℕ
