@@ -14,6 +14,7 @@ use Rattle.g1_words.specs.declared.region.Kind.TheVariants.{Free, Ordinary, Humo
 use Rattle.g1_words.proofs.Tiling.{Tiles-le, same_object}
 use Rattle.g1_image.specs.Image.{entry_of, all_words}
 use Rattle.g1_text.specs.Laid.{used_addresses, EndToEnd, StartIn, StartInEach}
+use Rattle.g1_words.proofs.Members.{none_contains}
 
 -- WORDS at addresses
 
@@ -86,8 +87,8 @@ zip_weaker R Q f (x ∷ xs) (y ∷ ys) all = (f x y all.0, zip_weaker R Q f xs y
 
 -- what holds of an element in two zips
 pub zip_both : {A B : Type 0} (R Q : A → B → Type 0) (xs : List A) (ys : List B) (x : A) → AllZip R xs ys → AllZip Q xs ys → Contains xs x → (y : B) × R x y × Q x y
-zip_both R Q [] [] x r q i = elim i [ ]
-zip_both R Q [] (b ∷ ys) x r q i = elim i [ ]
+zip_both R Q [] [] x r q i = absurd (omega (arith, i.1))
+zip_both R Q [] (b ∷ ys) x r q i = absurd (omega (arith, i.1))
 zip_both R Q (a ∷ xs) [] x r q i = elim r [ ]
 zip_both R Q (a ∷ xs) (b ∷ ys) x r q (zero, lt, e) = (b, subst (λ z. R z b) e r.0, subst (λ z. Q z b) e q.0)
 zip_both R Q (a ∷ xs) (b ∷ ys) x r q (suc k, lt, e) = zip_both R Q xs ys x r.1 q.1 (k, omega (arith, lt), e)
@@ -143,7 +144,7 @@ start_there w from (q ∷ qs) os (suc r) each lt =
 find_start : (w from : ℕ) (qs : List Region) (os : List Object) (o : Object) → StartInEach w from qs os → Contains os o
     → (r : ℕ) × (r < length qs) × (front : List Object) × StartIn (slice_index_or qs r free_region).kind (from + r * w) (slice_index_or qs r free_region).top front × Contains front o
     × ((p : Object) → Contains front p → Contains os p)
-find_start w from [] os o each i = absurd (subst (λ l. Contains l o) each i)
+find_start w from [] os o each i = absurd (none_contains o (subst (λ l. Contains l o) each i))
 find_start w from (q ∷ qs) os o each i = elim (Contains-append_cases each.0 each.1 o (subst (λ l. Contains l o) each.2 i)) [
   | inl k ↦
       (let here : from ≡ from + 0 * w = omega arith in
