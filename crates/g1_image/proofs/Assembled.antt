@@ -55,12 +55,6 @@ take_same (suc n) (x ∷ xs) = ap (λ l. x ∷ l) (take_same n xs)
 
 -- the words of the first region
 module _ (w : ℕ) (e : Entry) (es : List Entry) (ws : List ℕ) (le : table_words (e ∷ es) ≤ length ws) (top : e.top ≤ w) where
-  used : List ℕ
-  used = take (min e.top w) ws
-
-  chunk : List ℕ
-  chunk = take (min e.top w) ws ++ replicate (w - e.top) 0
-
   length-front : length (take (min e.top w) ws) ≡ e.top
   length-front = omega (arith, length-take (min e.top w) ws, le, table_words-cons e es, top)
 
