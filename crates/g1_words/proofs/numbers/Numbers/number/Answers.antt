@@ -5,11 +5,11 @@ use Rattle.std.proofs.lemmas.List.{get_or_default}
 use Rattle.std.specs.Int.{bit_at}
 use Rattle.std.specs.Int.Bits.{bit_and}
 use Rattle.std.specs.Int.Count.{ones}
-use Rattle.g1_layout.specs.declared.numbers.Block.{Block}
-use Rattle.g1_layout.specs.Numbers.{number_at, number_if, number_of, marks_in}
-use Rattle.g1_layout.proofs.Numbering.{no_block, block_at, mark_by_block, number_by_block, number_few, marks_long}
-use Rattle.g1_layout.proofs.numbers.Numbers.number.Goals as goal
-use Rattle.g1_layout.proofs.numbers.Numbers.number.Goals.{After-self, After-index, After-from}
+use Rattle.g1_words.specs.declared.numbers.Block.{Block}
+use Rattle.g1_words.specs.Numbers.{number_at, number_if, number_of, marks_in}
+use Rattle.g1_words.proofs.Numbering.{no_block, block_at, mark_by_block, number_by_block, number_few, marks_long}
+use Rattle.g1_words.proofs.numbers.Numbers.number.Goals as goal
+use Rattle.g1_words.proofs.numbers.Numbers.number.Goals.{After-self, After-index, After-from}
 
 -- the word has a block
 within : (c : After-self) → c.args.word < 64 * length c.self.inside.blocks.items
