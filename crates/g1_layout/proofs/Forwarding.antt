@@ -4,9 +4,9 @@ use Rattle.std.proofs.lemmas.Bool.{false≢true, cases_eq}
 use Rattle.std.proofs.lemmas.List.{get_or-set_same, get_or-set_other, get_or_default}
 use Rattle.g1_words.specs.Layout.{moved_to}
 use Rattle.g1_words.proofs.OneToOne.{moved_stays}
-use Rattle.g1_layout.specs.Numbers.{number_at, number_if, number_of}
+use Rattle.g1_words.specs.Numbers.{number_at, number_if, number_of}
 use Rattle.g1_layout.specs.Words.{AreIndices, AreMarkedTo, ArePlacedTo, HasIndex, index_of, goes_to, told, told_at}
-use Rattle.g1_layout.proofs.Numbering.{number_apart, number_rises}
+use Rattle.g1_words.proofs.Numbering.{number_apart, number_rises}
 use Rattle.g1_layout.proofs.Stretches.{moved_at}
 
 -- of two places of a list without repetition the values differ
