@@ -19,9 +19,9 @@ use Rattle.g1_rem.specs.Starts.{IsOver, IsStartsOf}
 use Rattle.g1_rem.proofs.Card.{none_on, ordinary_on, alone_on}
 use Rattle.g1_rem.proofs.Entering.{slot_good}
 use Rattle.g1_rem.proofs.Order.{slot_in, object_fits}
+use Rattle.g1_frontier.proofs.Marks.{one_member}
 use Rattle.g1_explain.specs.Keeping.{IsReferring, ReachesHolder}
 use Rattle.g1_explain.proofs.Kept.{slot_there}
-use Rattle.g1_frontier.proofs.Marks.{one_member}
 
 module _ (h : Heap) (valid : IsValid h) (slot at : ℕ) (object : Object) (is : object ≡ object_at h at) where
   -- the object that holds the slot stands here, if no other one is before it

@@ -10,6 +10,7 @@ use Rattle.g1_words.proofs.Members as members
 use Rattle.g1_image.specs.Image.{Image, remembered_of}
 use Rattle.g1_image.specs.Cards.{is_covered, leads_into}
 use Rattle.g1_rem.specs.Entries.{uncovered_into}
+use Rattle.g1_frontier.proofs.Seeds.{ref_there}
 use Rattle.g1_explain.specs.declared.paths.Leg.{Leg}
 use Rattle.g1_explain.specs.declared.paths.Entry.{Entry}
 use Rattle.g1_explain.specs.Humongous.{run}
@@ -17,7 +18,6 @@ use Rattle.g1_explain.specs.Keeping.{IsEntry, IsUnrooted, LeadsWithin, LeadsInto
 use Rattle.g1_explain.proofs.FirstKeepers.{own_first, or_true}
 use Rattle.g1_explain.proofs.Kept.{some_within}
 use Rattle.g1_explain.proofs.Outside.{IsOutsideSlot}
-use Rattle.g1_frontier.proofs.Seeds.{ref_there}
 
 -- the object to which the first slot leads lies in the region
 first_within : (h : Heap) (r : ℕ) (ss : List ℕ) (b a : ℕ) → LeadsWithin h r ss (suc b) (suc a) → region_of h a ≡ r → region_of h b ≡ r

@@ -16,11 +16,11 @@ use Rattle.g1_words.proofs.Shapes.{IsBuiltBy, IsBuilt}
 use Rattle.g1_words.proofs.Sound.{IsSound}
 use Rattle.g1_words.proofs.Standing.{home, word_used, words_apart, built_is_sound, w_pos}
 use Rattle.g1_words.proofs.Members.{Contains-later}
+use Rattle.g1_after.proofs.GraphsCompose.{live_object}
 use Rattle.g1_trace.specs.Mutator.{heap_view, is_humongous, run_length, is_free_region, is_free_run, fits_current}
 use Rattle.g1_trace.specs.Views.{Seen}
 use Rattle.g1_trace.proofs.Laid.{CoversWord, IsLaid, IsUnused, IsReady}
 use Rattle.g1_trace.proofs.GraphViews.{seen_live}
-use Rattle.g1_after.proofs.GraphsCompose.{live_object}
 
 pub seen_object : (h : Heap) → IsSound h → (a : ℕ) → Seen (heap_view h) a → Contains (objects h) (object_at h a)
 seen_object h sound a s = live_object h sound a (seen_live h a s)
