@@ -4,7 +4,8 @@ use Rattle.std.proofs.Common.{Contains, refl, sym, ◌∙◌, ap, subst, arith, 
 use Rattle.std.specs.List.{range_with_len}
 use Rattle.std.specs.List.Sorted.{IsStrictlyIncreasing}
 use Rattle.std.proofs.lemmas.Bool.{cases_Bool, cases_lt, false≢true, not-true, and_parts, or_cases}
-use Rattle.std.proofs.lemmas.List.{get_or_past, get_or_default}
+use Rattle.std.proofs.lemmas.List.{get_or_past}
+use Rattle.std.proofs.lemmas.List.Elements.{Contains-get_or}
 use Rattle.std.proofs.lemmas.List.FromFn.{get_or-map-range_with_len, length-map-range_with_len, length-range_with_len}
 use Rattle.std.proofs.Math.Nat.{div-le_self, div-mul-le_self, mul-le-mul_right}
 use Rattle.g1_image.proofs.Covers.{cards_rise}
@@ -17,17 +18,16 @@ use Rattle.g1_image.specs.Image.{Image, IsImage, IsLog, IsRememberedSet, IsUsedC
 use Rattle.g1_after.specs.Moved.{IsMoved, remembered_moved}
 use Rattle.g1_words.proofs.Bounds.{card_in_region, cards_in_region}
 use Rattle.g1_words.proofs.Indices.{range_bounds}
-use Rattle.g1_words.proofs.Members.{any_member, filter_member, flat_map_cases, Contains-from_has, map_cases}
+use Rattle.g1_words.proofs.Members.{any_member, filter_member, flat_map_cases, Contains-from_has, map_cases, none_contains}
 use Rattle.g1_words.proofs.Ordered.{pairs_from_ordered}
 use Rattle.g1_words.proofs.Shapes.{IsBuilt, built, valid_of}
 use Rattle.g1_words.proofs.Sound.{IsSound}
 use Rattle.g1_words.proofs.Standing.{card_positive, home, home_region, stands_refs, word_used}
 use Rattle.g1_words.specs.Geometry.{Geometry}
 use Rattle.g1_words.specs.Heap.{Heap, card_of, free_region, kind, object_at, objects, region_of, slots, word}
-use Rattle.g1_words.specs.Layout.{free_regions, need, to_space, HasRoom}
+use Rattle.g1_words.specs.Layout.{to_space, HasRoom}
 use Rattle.g1_words.specs.Lists.{has}
 use Rattle.g1_words.specs.References.{Ref, named, refs, refs_at}
-use Rattle.g1_words.specs.Survivors.{AllOrdinary, Survivors}
 use Rattle.g1_words.specs.declared.region.Kind.{Kind}
 use Rattle.g1_words.specs.declared.region.Kind.TheVariants.{Continuation, Free, HumongousFirst, Ordinary}
 use Rattle.g1_words.specs.declared.region.Region.{Region}
@@ -174,7 +174,7 @@ module _ (i : Image) (set l : List ℕ) (j : Image) (valid : IsBuilt i.heap) (ro
 
   right_in : (r c : ℕ) → r < i.heap.geometry.n → Contains (remembered_of j r) c → Right r c
   right_in r c lt m = elim (cases_Bool (has set r)) [
-    | inl t ↦ absurd (subst (λ xs. Contains xs c) (remembered_set r lt t) m)
+    | inl t ↦ absurd (none_contains c (subst (λ xs. Contains xs c) (remembered_set r lt t) m))
     | inr a ↦ elim (cases_Bool (has (to_space i.heap l) r)) [
       | inl t ↦
           let f = filter_member (is_exact j.heap r) (range_with_len 0 (j.heap.geometry.n * j.heap.geometry.w / j.heap.geometry.k)) c (subst (λ xs. Contains xs c) (rem_goal r lt a t) m) in
@@ -219,15 +219,12 @@ module _ (i : Image) (set l : List ℕ) (j : Image) (valid : IsBuilt i.heap) (ro
   ]
 
   below_n : (r : ℕ) → r < j.heap.geometry.n → r < i.heap.geometry.n
-  below_n r lt = let n = (ap (λ (g : Geometry). g.n) moved.geometry) in omega (arith, n)
-
-  there : (r k d : ℕ) → k < length (remembered_of j r) → Contains (remembered_of j r) (get_or (remembered_of j r) k d)
-  there r k d lt = (k, lt, get_or_default (remembered_of j r) k (get_or (remembered_of j r) k d) d lt)
+  below_n r lt = let n = ap (λ (g : Geometry). g.n) moved.geometry in omega (arith, n)
 
   set_moved : (r : ℕ) → r < j.heap.geometry.n → IsRememberedSet j.heap r (remembered_of j r)
   set_moved r lt = record {
     rising = rising_moved r (below_n r lt);
-    elsewhere = λ k d less. let right = right_in r (get_or (remembered_of j r) k d) (below_n r lt) (there r k d less) in (
+    elsewhere = λ k d less. let right = right_in r (get_or (remembered_of j r) k d) (below_n r lt) (Contains-get_or (remembered_of j r) k d less) in (
       record {
         in_heap = card_starts j.heap.geometry.w j.heap.geometry.k j.heap.geometry.n (get_or (remembered_of j r) k d)
             (card_positive j.heap.geometry.w j.heap.geometry.k j.heap.geometry.n v.limits) right.0.0;
@@ -236,7 +233,7 @@ module _ (i : Image) (set l : List ℕ) (j : Image) (valid : IsBuilt i.heap) (ro
       right.1,
     );
     count = few_moved r (below_n r lt);
-    owner = λ some. let right = right_in r (get_or (remembered_of j r) 0 0) (below_n r lt) (there r 0 0 some) in may_hold (kind j.heap r) right.2;
+    owner = λ some. let right = right_in r (get_or (remembered_of j r) 0 0) (below_n r lt) (Contains-get_or (remembered_of j r) 0 0 some) in may_hold (kind j.heap r) right.2;
   }
 
   pub image_moved_is : IsImage j
@@ -248,9 +245,8 @@ module _ (i : Image) (set l : List ℕ) (j : Image) (valid : IsBuilt i.heap) (ro
   }
 
 -- the image after is an image and covered
-pub tracked_moved : (i : Image) (set l : List ℕ) (j : Image) → IsTracked i → AllOrdinary i.heap set → Survivors i.heap set l →
-    need i.heap l ≤ length (free_regions i.heap) → IsMoved i set l j → IsTracked j
-tracked_moved i set l j t o v r m = record {
-  image = image_moved_is i set l j (built i.heap t.image.heap) o v r m t.image;
-  covered = covered_moved i set l j (built i.heap t.image.heap) o v r m t.covered;
+pub tracked_moved : (i : Image) (set l : List ℕ) (j : Image) → IsTracked i → HasRoom i.heap set l → IsMoved i set l j → IsTracked j
+tracked_moved i set l j t room m = record {
+  image = image_moved_is i set l j (built i.heap t.image.heap) room m t.image;
+  covered = covered_moved i set l j (built i.heap t.image.heap) room m t.covered;
 }

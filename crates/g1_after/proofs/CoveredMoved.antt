@@ -13,7 +13,7 @@ use Rattle.g1_image.specs.Image.{Image, remembered_of, card_in}
 use Rattle.g1_after.specs.Moved.{IsMoved, remembered_moved}
 use Rattle.g1_words.proofs.Bounds.{card_below, card_in_region, cards_in_region}
 use Rattle.g1_words.proofs.Computed.{Contains-range}
-use Rattle.g1_words.proofs.Members.{Contains-filter, Contains-flat_map, Contains-map, has_from_contains}
+use Rattle.g1_words.proofs.Members.{Contains-filter, Contains-first, Contains-flat_map, Contains-later, Contains-map, has_from_contains, none_contains}
 use Rattle.g1_words.proofs.OneToOne.{kept_cases, outside_stays}
 use Rattle.g1_words.proofs.Shapes.{IsBuilt}
 use Rattle.g1_words.proofs.Standing.{card_positive}
@@ -30,14 +30,14 @@ pub use Rattle.g1_words.proofs.Lists.{any_from_in}
 
 pub none_left : {A : Type 0} (p : A → Bool) (xs : List A) → ((x : A) → Contains xs x → p x ≡ true) → filter (λ x. not (p x)) xs ≡ []
 none_left p [] f = refl
-none_left p (x ∷ xs) f = (λ t. cond (not (f x (zero, omega arith, refl) t)) (x ∷ filter (λ x. not (p x)) xs) (filter (λ x. not (p x)) xs)) ∙ none_left p xs (λ y k. f y (suc k.0, omega (arith, k.1), k.2))
+none_left p (x ∷ xs) f = (λ t. cond (not (f x (Contains-first x xs) t)) (x ∷ filter (λ x. not (p x)) xs) (filter (λ x. not (p x)) xs)) ∙ none_left p xs (λ y k. f y (Contains-later x xs y k))
 
 -- every reference of a covered image is covered
 pub covered_each : (i : Image) → Covered i → (e : Ref) → Contains (refs i.heap) e → is_covered i e ≡ true
 covered_each i c e h = elim (cases_Bool (is_covered i e)) [
   | inl t ↦ t
-  | inr f ↦ absurd (subst (λ xs. Contains xs e.slot) c (Contains-map (λ (x : Ref). x.slot) (filter (λ e. not (is_covered i e)) (refs i.heap)) e
-      (Contains-filter (λ (e : Ref). not (is_covered i e)) (refs i.heap) e h (ap not f))))
+  | inr f ↦ absurd (none_contains e.slot (subst (λ xs. Contains xs e.slot) c (Contains-map (λ (x : Ref). x.slot) (filter (λ e. not (is_covered i e)) (refs i.heap)) e
+      (Contains-filter (λ (e : Ref). not (is_covered i e)) (refs i.heap) e h (ap not f)))))
 ]
 
 pub exact_by : (h : Heap) (r c : ℕ) (e : Ref) → Contains (refs h) e → region_of h e.target ≡ r → eqb (region_of h e.slot) r ≡ false → card_of h e.slot ≡ c → is_exact h r c ≡ true

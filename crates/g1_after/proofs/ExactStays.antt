@@ -84,7 +84,7 @@ module _ (i : Image) (set l : List ℕ) (j : Image) (valid : IsBuilt i.heap) (ro
       let stays : forward i.heap l s.owner.at ≡ s.owner.at = outside_stays i.heap set l sound room s.owner.at out in
       (refs_moved i set l j valid room moved e).1 (record {
         owner = s.owner;
-        is_kept = (kept_outside i set l j sound room moved s.owner s.is_one out);
+        is_kept = kept_outside i set l j sound room moved s.owner s.is_one out;
         m = s.m;
         above = s.above;
         within = s.within;

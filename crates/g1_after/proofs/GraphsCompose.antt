@@ -6,12 +6,12 @@ use Rattle.std.proofs.lemmas.List.FromFn.{get_or-map-range_with_len, length-map-
 use Rattle.g1_after.proofs.CopyWords.{RenamedAt, StaysAt, length-renamed_words, renamed_word}
 use Rattle.g1_after.proofs.Determined.{word_from_copy}
 use Rattle.g1_after.proofs.SameGraphs.{copy_targets, roots_renamed}
+pub use Rattle.g1_after.proofs.SameGraphs.{live_object}
 use Rattle.g1_words.proofs.Members.{Contains-map}
-use Rattle.g1_words.proofs.OneToOne.{target_in_refs}
 use Rattle.g1_words.proofs.Sound.{IsSound}
 use Rattle.g1_words.specs.Copy.{IsCopy, renamed, renamed_words, words_at}
 use Rattle.g1_words.specs.Graph.{SameGraph}
-use Rattle.g1_words.specs.Heap.{Heap, object_at, objects, word}
+use Rattle.g1_words.specs.Heap.{Heap, object_at, word}
 use Rattle.g1_words.specs.Live.{Live, child, seed}
 use Rattle.g1_words.specs.References.{named, refs, root_targets, targets}
 use Rattle.g1_words.specs.declared.object.Object.{Object}
@@ -60,13 +60,6 @@ all_renamed_twice f g [] = refl
 all_renamed_twice f g (x ∷ xs) = λ t. renamed_twice f g x t ∷ all_renamed_twice f g xs t
 
 -- ---- what the roots reach
-
--- what the roots reach is an object
-pub live_object : (h : Heap) → IsSound h → (a : ℕ) → Live h a → Contains (objects h) (object_at h a)
-live_object h sound a (seed c) = sound.root_named a c
-live_object h sound b (child {a = a} r c) =
-    let e = target_in_refs h [] (object_at h a) b (live_object h sound a r) c in
-    subst (λ x. Contains (objects h) (object_at h x)) e.2 (sound.slot_named e.0 e.1)
 
 module _ (g h : Heap) (sound : IsSound g) (s : SameGraph g h) where
   -- its references lie within it

@@ -1,7 +1,8 @@
 -- Where unnamed humongous objects were freed, a tracked image whose log is processed stays tracked.
 use Rattle.std.proofs.Common.{◌≡◌, ◌≢◌, ℕ, ◌<◌, inl, inr, true, false, cond, not, List, [], length, get_or, filter, Contains, sym, ◌∙◌, ap, subst, arith, lit<}
 use Rattle.std.proofs.lemmas.Bool.{cases_Bool, cases_lt, not-true}
-use Rattle.std.proofs.lemmas.List.{get_or_default, get_or_past}
+use Rattle.std.proofs.lemmas.List.{get_or_past}
+use Rattle.std.proofs.lemmas.List.Elements.{Contains-get_or}
 use Rattle.std.proofs.lemmas.List.FromFn.{get_or-map-range_with_len, length-map-range_with_len}
 use Rattle.std.proofs.lemmas.List.Kept.{IsStrictlyIncreasing-filter}
 use Rattle.g1_after.proofs.CardsMoved.{length-filter-le}
@@ -13,7 +14,7 @@ use Rattle.g1_after.specs.Unnamed.{image_without, unnamed_regions}
 use Rattle.g1_image.proofs.Covers.{Covers, card_region, covered_tells}
 use Rattle.g1_image.specs.Cards.{Covered}
 use Rattle.g1_image.specs.Image.{Image, IsImage, IsLog, IsRememberedSet, IsUsedCard, MayHoldCards, region_of_card, remembered_of, card_in}
-use Rattle.g1_words.proofs.Members.{Contains-filter, filter_member}
+use Rattle.g1_words.proofs.Members.{Contains-filter, filter_member, none_contains}
 use Rattle.g1_words.proofs.Ordered.{pairs_from_ordered}
 use Rattle.g1_words.proofs.Shapes.{IsBuilt, built, valid_of}
 use Rattle.g1_words.proofs.Standing.{home, home_region}
@@ -79,7 +80,7 @@ module _ (i : Image) (valid : IsBuilt i.heap) (image : IsImage i) (words : List 
       let few = length-filter-le (λ c. not (card_in i.heap (unnamed_regions i.heap) c)) (remembered_of i r) in
       record {
         rising = IsStrictlyIncreasing-filter (λ c. not (card_in i.heap (unnamed_regions i.heap) c)) (remembered_of i r) s.rising;
-        elsewhere = λ k d less. staying_card r (get_or (staying i r) k d) lt (k, less, get_or_default (staying i r) k (get_or (staying i r) k d) d less);
+        elsewhere = λ k d less. staying_card r (get_or (staying i r) k d) lt (Contains-get_or (staying i r) k d less);
         count = let c = s.count in omega arith;
         owner = λ some. subst MayHoldCards (sym (same_shape i.heap valid words table left r lt f).0) (s.owner (omega arith));
       }
@@ -103,7 +104,7 @@ module _ (i : Image) (valid : IsBuilt i.heap) (image : IsImage i) (words : List 
   -- a reference that is left keeps its cover
   covers_left : i.log ≡ [] → (e : Ref) → Contains (refs i.heap) e → in_set i.heap (unnamed_regions i.heap) e.slot ≡ false → Covers i e → Covers image_with e
   covers_left none e m out (inl a) = inl a
-  covers_left none e m out (inr (inr a)) = absurd (subst (λ xs. Contains xs (card_of i.heap e.slot)) none a)
+  covers_left none e m out (inr (inr a)) = absurd (none_contains (card_of i.heap e.slot) (subst (λ xs. Contains xs (card_of i.heap e.slot)) none a))
   covers_left none e m out (inr (inl a)) =
       let r : ℕ = region_of i.heap e.target in
       let c : ℕ = card_of i.heap e.slot in

@@ -99,10 +99,7 @@ module _ (h : Heap) (valid : IsBuilt h) (words : List ℕ) (table : List Region)
       (object_left h valid words table left o.0 o.1 header) (Contains-flat_map (refs_at (with_parts h words table)) (slots o.0) p.0 e p.1 here)
 
   refs_is : (e : Ref) → Contains (refs (with_parts h words table)) e ↔ (Contains (refs h) e × IsFalse (in_set h (unnamed_regions h) e.slot))
-  refs_is e = (
-    (λ c. let m = ref_cases e c in (m.0, m.1)),
-    (λ c. (ref_left e c.0 c.1)),
-  )
+  refs_is e = (ref_cases e, λ c. ref_left e c.0 c.1)
 
 -- the references that are left are those of the slots outside the freed regions
 pub refs_left : RefsLeft
@@ -111,7 +108,7 @@ refs_left h v e = refs_is h (built h v) (heap_left h).words (heap_left h).region
 -- neither a root nor a reference leads into a freed region
 pub nothing_into_unnamed : NothingIntoUnnamed
 nothing_into_unnamed h v = (
-  (λ a c. root_away h (built h v) a c),
+  root_away h (built h v),
   (λ e c.
       let m = ref_cases h (built h v) (heap_left h).words (heap_left h).regions (heap_is_left h (built h v)) e c in
       ref_away h (built h v) e m.0 m.1),

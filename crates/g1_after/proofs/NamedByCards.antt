@@ -89,12 +89,11 @@ module _ (h : Heap) (valid : IsBuilt h) (r : ℕ) (there : r < h.geometry.n) (tw
   slot_apart : (e : Ref) → Contains (refs h) e → has_word whole e.slot ≡ false → lies_in h (region_of h e.slot) whole ≡ false
   slot_apart e m without = false_from_ne_true (lies_in h (region_of h e.slot) whole) (λ y.
       let s = slot_of h e m in
-      let c : Contains (objects h) s.owner = s.is_one in
-      let stood = home h valid s.owner c in
+      let stood = home h valid s.owner s.is_one in
       let fits = stands_refs h valid stood.0 s.owner stood.2 in
       let above = s.above in let within = s.within in let at = s.at in
       let z = in_run (region_of h e.slot) y in
-      let same : s.owner ≡ whole = run_alone s.owner s.m z.0 c (omega arith) z.1 (ap (region_of h) (sym at) ∙ z.2) in
+      let same : s.owner ≡ whole = run_alone s.owner s.m z.0 s.is_one (omega arith) z.1 (ap (region_of h) (sym at) ∙ z.2) in
       let word : has_word s.owner e.slot ≡ true =
       and_from (leb s.owner.at e.slot) (ltb e.slot (s.owner.at + s.owner.size)) (le-leb s.owner.at e.slot (omega arith)) (lt-ltb e.slot (s.owner.at + s.owner.size) (omega arith)) in
       false≢true (sym without ∙ subst (λ (x : Object). has_word x e.slot ≡ true) same word))

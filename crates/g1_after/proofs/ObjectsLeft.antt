@@ -9,7 +9,7 @@ use Rattle.g1_after.specs.Freed.{ObjectsLeft, heap_left}
 use Rattle.g1_after.specs.Unnamed.{unnamed_regions}
 use Rattle.g1_words.proofs.Computed.{Contains-range}
 use Rattle.g1_words.proofs.Indices.{range_bounds}
-use Rattle.g1_words.proofs.Members.{Contains-flat_map, flat_map_cases}
+use Rattle.g1_words.proofs.Members.{Contains-flat_map, flat_map_cases, none_contains}
 use Rattle.g1_words.proofs.Shapes.{IsBuilt, built}
 use Rattle.g1_words.proofs.Standing.{home, home_region, stands}
 use Rattle.g1_words.specs.Heap.{Heap, free_region, kind, object_at, objects, objects_by, objects_in, region, region_of, regions, word}
@@ -92,7 +92,7 @@ module _ (h : Heap) (valid : IsBuilt h) (words : List ℕ) (table : List Region)
       let r = flat_map_cases (objects_in (with_parts h words table)) (regions h) o m in
       let b = range_bounds 0 h.geometry.n r.0 r.1 in
       elim (cases_Bool (has (unnamed_regions h) r.0)) [
-        | inl t ↦ absurd (subst (λ xs. Contains xs o) (freed_is_empty r.0 (omega arith) t) r.2)
+        | inl t ↦ absurd (none_contains o (subst (λ xs. Contains xs o) (freed_is_empty r.0 (omega arith) t) r.2))
         | inr f ↦
             let k : Contains (objects_in h r.0) o = subst (λ xs. Contains xs o) (objects_same r.0 (omega arith) f) r.2 in
             (Contains-flat_map (objects_in h) (regions h) r.0 o r.1 k, ap (has (unnamed_regions h)) (in_home r.0 o k) ∙ f)
@@ -107,10 +107,7 @@ module _ (h : Heap) (valid : IsBuilt h) (words : List ℕ) (table : List Region)
       Contains-flat_map (objects_in (with_parts h words table)) (regions h) r.0 o (Contains-range 0 h.geometry.n r.0 (omega arith) (omega arith)) (subst (λ xs. Contains xs o) (sym (objects_same r.0 lt f)) r.1)
 
   left_is : (o : Object) → Contains (objects (with_parts h words table)) o ↔ (Contains (objects h) o × IsFalse (in_set h (unnamed_regions h) o.at))
-  left_is o = (
-    (λ c. let m = left_cases o c in (m.0, m.1)),
-    (λ c. (object_left o c.0 c.1)),
-  )
+  left_is o = (left_cases o, λ c. object_left o c.0 c.1)
 
 -- the objects that are left are those outside the freed regions
 pub objects_left : ObjectsLeft

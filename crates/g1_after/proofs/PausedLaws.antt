@@ -1,5 +1,5 @@
 -- What holds of the image after the pause: the survivors moved, and the unnamed humongous objects freed.
-use Rattle.std.proofs.Common.{◌≡◌, ◌↔◌, ℕ, ◌+◌, ◌/◌, ◌<◌, inl, inr, Bool, true, false, not, ◌||◌, List, ◌++◌, length, get_or, Contains, refl, sym, ◌∙◌, ap, subst, arith, eqb, add-zero}
+use Rattle.std.proofs.Common.{◌≡◌, ◌↔◌, ℕ, zero, ◌+◌, ◌/◌, ◌<◌, inl, inr, true, false, not, ◌||◌, List, ◌++◌, length, get_or, Contains, refl, sym, ◌∙◌, ap, subst, arith, eqb, add-zero}
 use Rattle.std.specs.List.{range_with_len}
 use Rattle.std.proofs.lemmas.List.{ext_get_or}
 use Rattle.std.proofs.lemmas.List.Folds.{list_any-append}
@@ -64,7 +64,7 @@ module _ (i : Image) (set l : List ℕ) (b : Image) (valid : IsValid i.heap) (a 
   freed = unnamed_regions b.heap
 
   -- the image between keeps the rules
-  built_between : IsBuilt b.heap
+  pub built_between : IsBuilt b.heap
   built_between = valid_moved i set l b (built i.heap valid) a m
 
   -- it is valid
@@ -122,8 +122,7 @@ module _ (i : Image) (set l : List ℕ) (b : Image) (valid : IsValid i.heap) (a 
   words_left k c out =
       let f : ℕ → ℕ = forward i.heap l in
       let s : IsSound i.heap = sound i.heap valid in
-      let there : Contains (objects b.heap) (moved_object f k) =
-      kept_is_moved i set l b s a m k c in
+      let there : Contains (objects b.heap) (moved_object f k) = kept_is_moved i set l b s a m k c in
       let size : length (words_at (heap_left b.heap) (f k.at) k.size) ≡ k.size = length-map-range_with_len (word (heap_left b.heap)) (f k.at) k.size in
       let size' : length (words_at b.heap (f k.at) k.size) ≡ k.size = length-map-range_with_len (word b.heap) (f k.at) k.size in
       ext_get_or 0 (words_at (heap_left b.heap) (f k.at) k.size) (words_at b.heap (f k.at) k.size) (size ∙ sym size')
@@ -150,7 +149,7 @@ module _ (i : Image) (set l : List ℕ) (b : Image) (valid : IsValid i.heap) (a 
       no_slot_into_set i set l b (sound i.heap valid) a m r.owner e.target r.is_kept
       (Contains-flat_map (λ p. named (word b.heap p)) (range_with_len (f r.owner.at + 1) r.owner.refs) (f r.owner.at + r.m) e.target
       (Contains-range (f r.owner.at + 1) r.owner.refs (f r.owner.at + r.m) (omega arith) (omega arith))
-      (subst (λ x. Contains (named x) e.target) (sym w) (inl (sym r.target_at))))
+      (subst (λ x. Contains (named x) e.target) (sym w) (zero, omega arith, sym r.target_at)))
 
 -- each object that remains is a copy
 pub copies_paused : CopiesPaused

@@ -1,7 +1,6 @@
 -- A reference is a slot of an object that names another, and each such slot is a reference.
 use Rattle.std.proofs.Common.{◌≡◌, ℕ, suc, ◌+◌, ◌-◌, ◌<◌, ◌≤◌, true, false, ◌&&◌, not, flat_map, refl, sym, ◌∙◌, ap, subst, arith, eqb, eqb-true, Contains, zero}
 use Rattle.std.proofs.lemmas.Bool.{and_parts, not-true}
-use Rattle.g1_after.proofs.RulesMoved.{named_suc}
 use Rattle.g1_image.specs.Cards.{leads_into}
 use Rattle.g1_image.specs.Image.{region_of_card}
 use Rattle.g1_words.proofs.Bounds.{card_in_region, cards_in_region}
@@ -9,6 +8,7 @@ use Rattle.g1_words.proofs.Computed.{Contains-range}
 use Rattle.g1_words.proofs.Indices.{range_bounds}
 use Rattle.g1_words.proofs.Members.{Contains-flat_map, Contains-map, flat_map_cases, map_cases}
 use Rattle.g1_words.proofs.Shapes.{IsBuilt}
+use Rattle.g1_words.proofs.Sound.{named_suc}
 use Rattle.g1_words.proofs.Standing.{card_positive}
 use Rattle.g1_words.specs.Heap.{Heap, card_of, objects, region_of, slots, word}
 use Rattle.g1_words.specs.References.{Ref, named, refs, refs_at}

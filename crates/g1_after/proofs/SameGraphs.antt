@@ -1,11 +1,11 @@
 -- After a pause the roots read the same graph, and nothing leads into the set.
-use Rattle.std.proofs.Common.{◌≡◌, ℕ, zero, suc, ◌+◌, ◌-◌, ◌<◌, ◌⊎◌, inl, inr, Bool, true, false, not, ◌&&◌, List, [], ◌∷◌, ◌++◌, length, get_or, map, filter, flat_map, Contains, refl}
+use Rattle.std.proofs.Common.{◌≡◌, ℕ, zero, suc, ◌+◌, ◌-◌, ◌<◌, inl, inr, true, false, not, ◌&&◌, List, [], ◌∷◌, ◌++◌, length, get_or, map, filter, flat_map, Contains, refl}
 use Rattle.std.proofs.Common.{sym, ◌∙◌, ap, subst, arith, add-zero}
 use Rattle.std.specs.List.{range_with_len}
-use Rattle.std.proofs.lemmas.Bool.{cases_Bool, false≢true}
+use Rattle.std.proofs.lemmas.Bool.{and_from, cases_Bool, false≢true}
 use Rattle.std.proofs.lemmas.List.{map-append, length-map, get_or-map, get_or_append_left}
 use Rattle.std.proofs.lemmas.List.FromFn.{get_or-map-range_with_len, length-map-range_with_len}
-use Rattle.std.proofs.lemmas.List.Elements.{Contains-append_cases, Contains-append_left, Contains-append_right}
+use Rattle.std.proofs.lemmas.List.Elements.{Contains-append_left, Contains-append_right}
 use Rattle.g1_words.specs.declared.region.Kind.TheVariants.{Free, Ordinary}
 use Rattle.g1_words.specs.Lists.{has}
 use Rattle.g1_words.specs.Heap.{Heap, kind, region_of, objects, object_at, slots, word}
@@ -19,21 +19,21 @@ use Rattle.g1_words.specs.Copy.{renamed, words_at, renamed_words, IsCopy}
 use Rattle.g1_after.specs.Moved.{IsMoved}
 use Rattle.g1_words.specs.Graph.{SameGraph}
 use Rattle.g1_words.proofs.Sound.{IsSound}
-use Rattle.g1_words.proofs.Members.{Contains-flat_map, flat_map_cases, Contains-map, map_cases, Contains-filter}
-use Rattle.g1_words.proofs.Members.{filter_member, Contains-from_has}
-use Rattle.g1_words.proofs.OneToOne.{target_in_refs, kept_object, forward_one_to_one, survivor_to_free, outside_stays}
+use Rattle.g1_words.proofs.Members.{Contains-flat_map, flat_map_cases, Contains-map, map_cases, Contains-filter, Contains-from_has}
+use Rattle.g1_words.proofs.OneToOne.{target_in_refs, kept_cases, kept_object, forward_one_to_one, survivor_to_free, outside_stays}
 use Rattle.g1_after.proofs.Determined.{word_from_copy}
 use Rattle.g1_after.proofs.ToSpace.{object_copied}
-use Rattle.g1_after.proofs.ObjectsOf.{kept_is_object, kept_is_moved}
+use Rattle.g1_after.proofs.ObjectsOf.{kept_is_moved}
 use Rattle.g1_words.specs.declared.object.Object.{Object}
 
-module _ (h : Heap) (set l : List ℕ) (sound : IsSound h) (room : HasRoom h set l) where
-  live_object : (a : ℕ) → Live h a → Contains (objects h) (object_at h a)
-  live_object a (seed c) = sound.root_named a c
-  live_object b (child {a = a} r c) =
-      let e = target_in_refs h set (object_at h a) b (live_object a r) c in
-      subst (λ x. Contains (objects h) (object_at h x)) e.2 (sound.slot_named e.0 e.1)
+-- what the roots reach is an object
+pub live_object : (h : Heap) → IsSound h → (a : ℕ) → Live h a → Contains (objects h) (object_at h a)
+live_object h sound a (seed c) = sound.root_named a c
+live_object h sound b (child {a = a} r c) =
+    let e = target_in_refs h [] (object_at h a) b (live_object h sound a r) c in
+    subst (λ x. Contains (objects h) (object_at h x)) e.2 (sound.slot_named e.0 e.1)
 
+module _ (h : Heap) (set l : List ℕ) (sound : IsSound h) (room : HasRoom h set l) where
   -- what an object outside the set names in the set is a seed
   named_from_outside : (o : Object) (b : ℕ) → Contains (objects h) o → in_set h set o.at ≡ false → Contains (flat_map (λ p. named (word h p)) (slots o)) b → in_set h set b ≡ true → Contains (seeds h set) b
   named_from_outside o b co out hb inb =
@@ -46,20 +46,12 @@ module _ (h : Heap) (set l : List ℕ) (sound : IsSound h) (room : HasRoom h set
         | inl t ↦
             let k : kind h (region_of h p.0) ≡ Ordinary = room.ordinary (region_of h p.0) (Contains-from_has set (region_of h p.0) t) in
             let home : region_of h p.0 ≡ region_of h o.at = sound.slots_at_home o p.0 co p.1 k in
-            absurd (false≢true (sym out ∙ ap (λ r. in_set_of r) (sym home) ∙ t))
+            absurd (false≢true (sym out ∙ ap (has set) (sym home) ∙ t))
       ] in
-      let passes : (in_set h set b && not (in_set h set p.0)) ≡ true = both (in_set h set b) (in_set h set p.0) inb away in
+      let passes : (in_set h set b && not (in_set h set p.0)) ≡ true = and_from (in_set h set b) (not (in_set h set p.0)) inb (ap not away) in
       Contains-append_right (filter (in_set h set) (root_targets h)) (map (λ e. e.target) (filter (λ e. in_set h set e.target && not (in_set h set e.slot)) (refs h))) b
       (Contains-map (λ (e : Ref). e.target) (filter (λ e. in_set h set e.target && not (in_set h set e.slot)) (refs h)) e
       (Contains-filter (λ (e : Ref). in_set h set e.target && not (in_set h set e.slot)) (refs h) e er passes))
-    where
-      in_set_of : ℕ → Bool
-      in_set_of r = has set r
-
-      both : (x y : Bool) → x ≡ true → y ≡ false → (x && not y) ≡ true
-      both true false e f = refl
-      both true true e f = cc
-      both false y e f = cc
 
   -- what the roots reach in the set is found
   pub live_found : (a : ℕ) → Live h a → in_set h set a ≡ true → Reached (seeds h set) (children h set) a
@@ -70,7 +62,7 @@ module _ (h : Heap) (set l : List ℕ) (sound : IsSound h) (room : HasRoom h set
   live_found b (child {a = a} r c) t =
       elim (cases_Bool (in_set h set a)) [
         | inl ina ↦ child (live_found a r ina) (Contains-filter (in_set h set) (targets h a) b c t)
-        | inr out ↦ seed (named_from_outside (object_at h a) b (live_object a r) out c t)
+        | inr out ↦ seed (named_from_outside (object_at h a) b (live_object h sound a r) out c t)
       ]
 
   pub live_kept : (a : ℕ) → Live h a → Contains (kept h set l) (object_at h a)
@@ -79,28 +71,17 @@ module _ (h : Heap) (set l : List ℕ) (sound : IsSound h) (room : HasRoom h set
         | inl t ↦ Contains-append_right (filter (λ o. not (in_set h set o.at)) (objects h)) (map (object_at h) l) (object_at h a)
             (Contains-map (object_at h) l a ((room.survivors.reached a).1 (live_found a r t)))
         | inr f ↦ Contains-append_left (filter (λ o. not (in_set h set o.at)) (objects h)) (map (object_at h) l) (object_at h a)
-            (Contains-filter (λ (o : Object). not (in_set h set o.at)) (objects h) (object_at h a) (live_object a r) (ap not f))
+            (Contains-filter (λ (o : Object). not (in_set h set o.at)) (objects h) (object_at h a) (live_object h sound a r) (ap not f))
       ]
 
   -- what a kept object names in the set is a survivor
   pub named_survives : (o : Object) (b : ℕ) → Contains (kept h set l) o → Contains (flat_map (λ p. named (word h p)) (slots o)) b → in_set h set b ≡ true → Contains l b
   named_survives o b k hb t =
-      (room.survivors.reached b).1 (elim (kept_cases_of o k) [
+      (room.survivors.reached b).1 (elim (kept_cases h set l sound room o k) [
         | inl x ↦ seed (named_from_outside o b x.1 x.0 hb t)
         | inr x ↦ child ((room.survivors.reached x.0).0 x.1)
             (Contains-filter (in_set h set) (targets h x.0) b (subst (λ (z : Object). Contains (flat_map (λ p. named (word h p)) (slots z)) b) (sym x.2) hb) t)
       ])
-    where
-      not_true : (b : Bool) → not b ≡ true → b ≡ false
-      not_true true e = cc
-      not_true false e = refl
-
-      kept_cases_of : (o : Object) → Contains (kept h set l) o → ((in_set h set o.at ≡ false) × Contains (objects h) o) ⊎ ((a : ℕ) × Contains l a × (object_at h a ≡ o))
-      kept_cases_of o k =
-          elim (Contains-append_cases (filter (λ o. not (in_set h set o.at)) (objects h)) (map (object_at h) l) o k) [
-            | inl m ↦ let f = filter_member (λ (o : Object). not (in_set h set o.at)) (objects h) o m in inl (not_true (in_set h set o.at) f.1, f.0)
-            | inr m ↦ inr (map_cases (object_at h) l o m)
-          ]
 
   -- a new address is none in the set
   pub away_from_set : (b : ℕ) → (in_set h set b ≡ true → Contains l b) → in_set h set (forward h l b) ≡ false
@@ -163,7 +144,7 @@ module _ (i : Image) (set l : List ℕ) (j : Image) (sound : IsSound i.heap) (ro
       let e : root_targets j.heap ≡ map f (root_targets i.heap) = ap (flat_map named) moved.roots ∙ roots_renamed f i.heap.roots in
       let m = map_cases f (root_targets i.heap) b (subst (λ xs. Contains xs b) e c) in
       let away : in_set i.heap set (f m.0) ≡ false = away_from_set i.heap set l sound room m.0
-      (λ t. ((room.survivors.reached m.0).1 (live_found i.heap set l sound room m.0 (seed m.1) t))) in
+      (λ t. (room.survivors.reached m.0).1 (live_found i.heap set l sound room m.0 (seed m.1) t)) in
       subst (λ x. in_set i.heap set x ≡ false) m.2 away
 
   pub no_slot_into_set : (o : Object) (b : ℕ) → Contains (kept i.heap set l) o
@@ -172,8 +153,7 @@ module _ (i : Image) (set l : List ℕ) (j : Image) (sound : IsSound i.heap) (ro
       let fits : o.refs < o.size = sound.slots_fit o (kept_object i.heap set l sound room o co) in
       let f : ℕ → ℕ = forward i.heap l in
       let e = copy_targets f i.heap j.heap o (moved.copies o co) fits in
-      let m = map_cases f (flat_map (λ p. named (word i.heap p)) (slots o)) b
-      (subst (λ xs. Contains xs b) e c) in
+      let m = map_cases f (flat_map (λ p. named (word i.heap p)) (slots o)) b (subst (λ xs. Contains xs b) e c) in
       let away : in_set i.heap set (f m.0) ≡ false = away_from_set i.heap set l sound room m.0
       (λ t. named_survives i.heap set l sound room o m.0 co m.1 t) in
       subst (λ x. in_set i.heap set x ≡ false) m.2 away
@@ -183,7 +163,7 @@ module _ (i : Image) (set l : List ℕ) (j : Image) (sound : IsSound i.heap) (ro
   live_stands a r =
       let k : Contains (kept i.heap set l) (object_at i.heap a) = live_kept i.heap set l sound room a r in
       let e : object_at j.heap (forward i.heap l a) ≡ moved_object (forward i.heap l) (object_at i.heap a) =
-      object_copied i set l j sound room moved (object_at i.heap a) k (kept_is_object i.heap set l sound room (object_at i.heap a) k) refl in
+      object_copied i set l j sound room moved (object_at i.heap a) k (kept_object i.heap set l sound room (object_at i.heap a) k) refl in
       let there : Contains (objects j.heap) (moved_object (forward i.heap l) (object_at i.heap a)) =
       kept_is_moved i set l j sound room moved (object_at i.heap a) k in
       subst (λ (o : Object). Contains (objects j.heap) o) (sym e) there

@@ -12,7 +12,7 @@ use Rattle.g1_image.specs.Image.{Image}
 use Rattle.g1_after.specs.Moved.{IsMoved}
 use Rattle.g1_words.proofs.Firsts.{Distinct, Distinct-firsts}
 use Rattle.g1_words.proofs.Indices.{Contains-take, is_free_region, not_has}
-use Rattle.g1_words.proofs.Members.{Contains-map, filter_member, has_from_contains, map_cases}
+use Rattle.g1_words.proofs.Members.{Contains-later, Contains-map, filter_member, has_from_contains, map_cases, none_contains}
 use Rattle.g1_words.proofs.NextFit.{Fitting, distinct_places, free_distinct, region_below, region_of_row, spot_below, spot_fits}
 use Rattle.g1_words.proofs.OneToOne.{all_fit, reached_object}
 use Rattle.g1_words.proofs.RowRegions.{offset_of, placed_in, placed_is_laid}
@@ -75,7 +75,7 @@ module _ (h j : Heap) (pos : 0 < h.geometry.w) (f : ℕ → ℕ) where
         b (p, s) (zero, omega arith, refl),
         o a (zero, omega arith, refl),
         paired l (p + s) d.1
-            (λ c k. let n : eqb a c ≡ false = ne_eqb a c (λ g. d.0 (subst (λ x. Contains l x) (sym g) k)) in e c (inr k) ∙ (λ t. cond (n t) (row_address h p) (moved_to l ps c)))
+            (λ c k. let n : eqb a c ≡ false = ne_eqb a c (λ g. d.0 (subst (λ x. Contains l x) (sym g) k)) in e c (Contains-later a l c k) ∙ (λ t. cond (n t) (row_address h p) (moved_to l ps c)))
             (λ c k. o c (suc k.0, omega (arith, k.1), k.2)) (λ x k. b x (suc k.0, omega (arith, k.1), k.2)),
       )
 
@@ -147,7 +147,7 @@ module _ (h j : Heap) (pos : 0 < h.geometry.w) (f : ℕ → ℕ) where
         → ((x : ℕ × ℕ) → Contains (map (offset_of h.geometry.w) F) x → (object_at j (region_at * h.geometry.w + x.0)).size ≡ x.1)
         → (x : ℕ × ℕ) → Contains (map (offset_of h.geometry.w) (cond b ((p, (object_at h a).size) ∷ F) F)) x → (object_at j (region_at * h.geometry.w + x.0)).size ≡ x.1
     headers_at a p F false e g o rest x k = rest x k
-    headers_at a p F true e g o rest x (suc j, b, eq) = rest x (j, omega (arith, b), eq)
+    headers_at a p F true e g o rest x (suc n, b, eq) = rest x (n, omega (arith, b), eq)
     headers_at a p F true e g o rest x (zero, b, k) =
         let q : p / h.geometry.w ≡ t = eqb-true (p / h.geometry.w) t e in
         let head : (object_at j (region_at * h.geometry.w + p % h.geometry.w)).size ≡ (object_at h a).size =
@@ -155,7 +155,7 @@ module _ (h j : Heap) (pos : 0 < h.geometry.w) (f : ℕ → ℕ) where
         subst (λ (y : ℕ × ℕ). (object_at j (region_at * h.geometry.w + y.0)).size ≡ y.1) k head
 
     pub headers : (l ps : List ℕ) → Paired h j f l ps → (x : ℕ × ℕ) → Contains (placed_in h.geometry.w t (zip ps (sizes_of h l))) x → (object_at j (region_at * h.geometry.w + x.0)).size ≡ x.1
-    headers [] [] k x m = absurd (omega (arith, m.1))
+    headers [] [] k x m = absurd (none_contains x m)
     headers [] (p ∷ ps) k x m = absurd k
     headers (a ∷ l) [] k x m = absurd k
     headers (a ∷ l) (p ∷ ps) k x m =
@@ -327,7 +327,7 @@ module _ (i : Image) (set l : List ℕ) (j : Image) (sound : IsSound i.heap) (ro
     row_objects = ap (map (λ x. object_at j.heap (goal_region * i.heap.geometry.w + x.0))) (sym placed_same)
         ∙ placed i.heap j.heap sound.w_positive (forward i.heap l) t there l (laid i.heap.geometry.w 0 (sizes_of i.heap l)) all_paired
 
-    -- the objects of a to-space region are the room.survivors placed there, in order, at their places
+    -- the objects of a to-space region are the survivors placed there, in order, at their places
     pub to_space_objects : objects_in j.heap goal_region ≡ placed_there i.heap l goal_region
     to_space_objects =
         let r : ℕ = goal_region in

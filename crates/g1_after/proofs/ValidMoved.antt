@@ -6,14 +6,14 @@ use Rattle.std.proofs.lemmas.Nat.{div-mul-add}
 use Rattle.std.proofs.Math.Nat.{mul-le-mul_right}
 use Rattle.std.proofs.Common.{div-add-mod', mod-lt, eq-eqb}
 use Rattle.g1_after.proofs.ObjectsMoved.{header_stays, objects_stay, region_moved}
-use Rattle.g1_after.proofs.ObjectsOf.{kept_is_moved, kept_is_object, kept_outside, region_cases, survivor_region, used_not_to_space}
+use Rattle.g1_after.proofs.ObjectsOf.{kept_is_moved, kept_outside, region_cases, survivor_region, used_not_to_space}
 use Rattle.g1_after.proofs.SameGraphs.{live_found, named_survives}
 use Rattle.g1_after.proofs.ToSpace.{goal_is_free, goal_kind, goal_top, object_copied, survivor_kept, survivor_object, to_space_objects, to_space_tiled}
 use Rattle.g1_image.specs.Image.{Image}
 use Rattle.g1_after.specs.Moved.{IsMoved}
 use Rattle.g1_words.proofs.Computed.{Contains-range}
 use Rattle.g1_words.proofs.Members.{Contains-filter, Contains-flat_map, Contains-map, filter_member, Contains-from_has, map_cases}
-use Rattle.g1_words.proofs.OneToOne.{kept_cases, outside_stays, survivor_fits, survivor_in_set, target_in_refs}
+use Rattle.g1_words.proofs.OneToOne.{kept_cases, kept_object, outside_stays, survivor_fits, survivor_in_set, target_in_refs}
 use Rattle.g1_words.proofs.Shapes.{BeginsRun, IsBuilt, IsBuiltBy, IsPlain, IsTiled, TakesRun}
 use Rattle.g1_words.proofs.Sound.{IsSound}
 use Rattle.g1_words.proofs.Standing.{home, home_region, run_object, stands, tiled_member, tiled_same, built_is_sound, w_pos, word_in_ordinary, word_used}
@@ -46,7 +46,7 @@ module _ (i : Image) (set l : List ℕ) (j : Image) (valid : IsBuilt i.heap) (ro
       elim m.2.2 [ inl x ↦ x.plain | inr x ↦ let clash : HumongousFirst ≡ Ordinary = sym x.kind ∙ one' in cc ]
 
   pub kept_refs : (k : Object) → Contains (kept i.heap set l) k → k.refs < k.size
-  kept_refs k m = sound_before.slots_fit k (kept_is_object i.heap set l sound_before room k m)
+  kept_refs k m = sound_before.slots_fit k (kept_object i.heap set l sound_before room k m)
 
   -- a word of a kept object outside the set lies in a used region that isn't in the set
   pub outside_word : (k : Object) (m : ℕ) → Contains (objects i.heap) k → in_set i.heap set k.at ≡ false → m < k.size
@@ -80,7 +80,7 @@ module _ (i : Image) (set l : List ℕ) (j : Image) (valid : IsBuilt i.heap) (ro
       let q : region j.heap r ≡ region i.heap r = region_moved i set l j sound_before room moved r lt ∙ rw (a, b) refl in
       (ap (λ (q : Region). q.kind) q, ap (λ (q : Region). q.top) q)
 
-  -- a region that is neither free nor room.ordinary stays as it is
+  -- a region that is neither free nor ordinary stays as it is
   pub humongous_shape : (r : ℕ) → r < i.heap.geometry.n → kind i.heap r ≢ Free → kind i.heap r ≢ Ordinary → (kind j.heap r ≡ kind i.heap r) × (top j.heap r ≡ top i.heap r)
   humongous_shape r lt a b =
       other_shape r lt
@@ -102,8 +102,7 @@ module _ (i : Image) (set l : List ℕ) (j : Image) (valid : IsBuilt i.heap) (ro
       let at : region_of i.heap o.at ≡ r = home_region i.heap valid r o (stands i.heap valid r o k) in
       let out : has set r ≡ false = elim (cases_Bool (has set r)) [
         | inr f ↦ f
-        | inl t ↦ let clash : Ordinary ≡ HumongousFirst =
-            sym (room.ordinary r (Contains-from_has set r t)) ∙ two in cc
+        | inl t ↦ let clash : Ordinary ≡ HumongousFirst = sym (room.ordinary r (Contains-from_has set r t)) ∙ two in cc
       ] in
       ap (λ y. object_at j.heap (r * y)) (ap (λ (g : Geometry). g.w) moved.geometry) ∙ object_stays o c (ap (has set) at ∙ out)
 
@@ -111,7 +110,7 @@ module _ (i : Image) (set l : List ℕ) (j : Image) (valid : IsBuilt i.heap) (ro
   other_by r Free lt a b e s = (other_shape r lt a b).1 ∙ s
   other_by r Ordinary lt a b e s =
       let t = (other_shape r lt a b).1 in
-      let w = (ap (λ (g : Geometry). g.w) moved.geometry) in
+      let w = ap (λ (g : Geometry). g.w) moved.geometry in
       let here : Contains (regions i.heap) r = Contains-range 0 i.heap.geometry.n r (omega arith) (omega arith) in
       let os : objects_in j.heap r ≡ objects_in i.heap r = objects_stay i set l j sound_before room moved r lt a b in
       let tiled : IsTiled j.heap (r * i.heap.geometry.w) (objects_in i.heap r) (r * i.heap.geometry.w + top i.heap r) =
@@ -127,7 +126,7 @@ module _ (i : Image) (set l : List ℕ) (j : Image) (valid : IsBuilt i.heap) (ro
       )
   other_by r HumongousFirst lt a b e s =
       let E : object_at j.heap (r * j.heap.geometry.w) ≡ object_at i.heap (r * i.heap.geometry.w) = first_stays r lt e s in
-      let w = (ap (λ (g : Geometry). g.w) moved.geometry) in let n = (ap (λ (g : Geometry). g.n) moved.geometry) in
+      let w = ap (λ (g : Geometry). g.w) moved.geometry in let n = ap (λ (g : Geometry). g.n) moved.geometry in
       record {
         refs = subst (λ (o : Object). o.refs < o.size) (sym E) s.refs;
         humongous = subst (λ (o : Object). 3 * j.heap.geometry.w < 4 * o.size) (sym E) (subst (λ y. 3 * y < 4 * (object_at i.heap (r * i.heap.geometry.w)).size) (sym w) s.humongous);
@@ -175,8 +174,7 @@ module _ (i : Image) (set l : List ℕ) (j : Image) (valid : IsBuilt i.heap) (ro
       let g = goal_top i set l j sound_before room moved t here in (
         g.0,
         subst (λ y. top j.heap (get_or (free_regions i.heap) t 0) ≤ y) (sym (ap (λ (g : Geometry). g.w) moved.geometry)) g.1,
-        to_space_tiled i set
-            l j sound_before room moved t here (placed_plain t here),
+        to_space_tiled i set l j sound_before room moved t here (placed_plain t here),
       )
 
   pub shaped_moved : (r : ℕ) → r < i.heap.geometry.n → IsBuiltBy j.heap r (kind j.heap r)
@@ -215,7 +213,7 @@ module _ (i : Image) (set l : List ℕ) (j : Image) (valid : IsBuilt i.heap) (ro
       subst (λ y. IsTiled j.heap (r * y) (objects_in j.heap r) (r * y + top j.heap r)) (ap (λ (g : Geometry). g.w) moved.geometry) g.2 in
       let b = tiled_member j.heap (r * i.heap.geometry.w) (objects_in j.heap r) (r * i.heap.geometry.w + top j.heap r) tiled (moved_object (forward i.heap l) (object_at i.heap a)) s.2 in
       let x : ℕ = forward i.heap l a + m - r * i.heap.geometry.w in
-      let low = b.0 in let high = b.1 in let t = g.1 in let w = (ap (λ (g : Geometry). g.w) moved.geometry) in
+      let low = b.0 in let high = b.1 in let t = g.1 in let w = ap (λ (g : Geometry). g.w) moved.geometry in
       let e : forward i.heap l a + m ≡ r * i.heap.geometry.w + x = omega arith in
       (s.0, s.1, ap (λ y. y / i.heap.geometry.w) e ∙ div-mul-add r i.heap.geometry.w x (omega arith), omega arith)
 
@@ -246,13 +244,11 @@ module _ (i : Image) (set l : List ℕ) (j : Image) (valid : IsBuilt i.heap) (ro
 
   -- what a root or a slot of a kept object names is kept
   pub root_kept : (b : ℕ) → Contains (root_targets i.heap) b → Contains (kept i.heap set l) (object_at i.heap b)
-  root_kept b m =
-      let c : Contains (root_targets i.heap) b = m in
-      kept_if b (valid.root_named b c) (λ t. ((room.survivors.reached b).1 (live_found i.heap set l sound_before room b (seed c) t)))
+  root_kept b m = kept_if b (valid.root_named b m) (λ t. (room.survivors.reached b).1 (live_found i.heap set l sound_before room b (seed m) t))
 
   pub slot_kept : (k : Object) (b : ℕ) → Contains (kept i.heap set l) k → Contains (flat_map (λ p. named (word i.heap p)) (slots k)) b → Contains (kept i.heap set l) (object_at i.heap b)
   slot_kept k b c m =
-      let e = target_in_refs i.heap set k b (kept_is_object i.heap set l sound_before room k c) m in
+      let e = target_in_refs i.heap set k b (kept_object i.heap set l sound_before room k c) m in
       kept_if b (subst (λ x. Contains (objects i.heap) (object_at i.heap x)) e.2 (valid.slot_named e.0 e.1))
       (λ t. named_survives i.heap set l sound_before room k b c m t)
 
@@ -265,5 +261,5 @@ module _ (i : Image) (set l : List ℕ) (j : Image) (valid : IsBuilt i.heap) (ro
   pub object_moved : (b : ℕ) → Contains (kept i.heap set l) (object_at i.heap b) → Contains (objects j.heap) (object_at j.heap (forward i.heap l b))
   object_moved b k =
       let e : object_at j.heap (forward i.heap l b) ≡ moved_object (forward i.heap l) (object_at i.heap b) =
-      object_copied i set l j sound_before room moved (object_at i.heap b) k (kept_is_object i.heap set l sound_before room (object_at i.heap b) k) refl in
+      object_copied i set l j sound_before room moved (object_at i.heap b) k (kept_object i.heap set l sound_before room (object_at i.heap b) k) refl in
       subst (λ (x : Object). Contains (objects j.heap) x) (sym e) (kept_is_moved i set l j sound_before room moved (object_at i.heap b) k)

@@ -2,15 +2,17 @@
 use Rattle.std.proofs.Common.{◌≡◌, ◌≢◌, ℕ, zero, suc, ◌+◌, ◌<◌, ◌≤◌, ◌⊎◌, inl, inr, Bool, true, false, List, [], ◌∷◌, ◌++◌, take, length, get_or, Contains, IsTrue, IsFalse, refl, sym, ◌∙◌}
 use Rattle.std.proofs.Common.{ap, subst, arith, get_or-set_same, get_or-set_other}
 use Rattle.std.specs.Prelude.{◌↔◌, slice_index, slice_index_or, slice_set}
-use Rattle.std.proofs.lemmas.Bool.{cases_order, cases_lt, cases_eq}
+use Rattle.std.proofs.lemmas.Bool.{cases_Bool, cases_order, cases_lt, cases_eq}
 use Rattle.std.proofs.lemmas.List.{take_more, get_or_default, get_or_past}
-use Rattle.std.proofs.lemmas.List.Elements.{Contains-push, Contains-push_cases, Contains-append_left}
+use Rattle.std.proofs.lemmas.List.Elements.{Contains-get_or, Contains-push, Contains-push_cases, Contains-append_left}
 use Rattle.g1_words.specs.declared.region.Kind.{Kind}
 use Rattle.g1_words.specs.declared.region.Kind.TheVariants.{Free, Ordinary, HumongousFirst, Continuation}
 use Rattle.g1_words.specs.declared.region.Region.{Region}
 use Rattle.g1_words.specs.Heap.{Heap, kind, pinned, regions, free_region}
 use Rattle.g1_words.proofs.Indices.{Contains-take, take_cases}
 use Rattle.g1_words.proofs.Computed.{Contains-range}
+use Rattle.g1_words.proofs.Members.{Contains-from_has, has_from_contains}
+use Rattle.g1_words.specs.Lists.{has}
 use Rattle.g1_choose.specs.Named.{AreTakeable, IsBadAt, IsFirstBad}
 
 -- of the regions of a heap, those of the list are marked
@@ -40,10 +42,6 @@ marked_more n i marks list count len lt m q below =
 pub both : {b : Bool} → IsTrue b → IsFalse b → ⊥
 both t f = let clash : true ≡ false = sym t ∙ f in cc
 
-pub true_or_false : (b : Bool) → IsTrue b ⊎ IsFalse b
-true_or_false true = inl refl
-true_or_false false = inr refl
-
 -- the region at a place is good, and those before it are
 pub good_more : (h : Heap) (list : List ℕ) (i : ℕ) → ((j : ℕ) → j < i → IsBadAt h list j → ⊥) → slice_index list i < h.geometry.n →
     kind h (slice_index list i) ≡ Ordinary → IsFalse (pinned h (slice_index list i))
@@ -72,7 +70,7 @@ all_good h list good =
           ordinary_from (kind h r) (λ ne. good k.0 k.1 (inr (inl (subst (λ x. kind h x ≢ Ordinary) (sym same) ne))));
       unpinned = λ r k.
           let same : slice_index list k.0 ≡ r = get_or_default list k.0 0 r k.1 ∙ k.2 in
-          elim (true_or_false (pinned h r)) [
+          elim (cases_Bool (pinned h r)) [
             | inl t ↦ absurd (good k.0 k.1 (inr (inr (inl (subst (λ x. IsTrue (pinned h x)) (sym same) t)))))
             | inr f ↦ f
           ];
@@ -90,8 +88,7 @@ ordinary_within h r count e = elim (cases_lt r h.geometry.n) [
 
 -- and its regions are the heap's
 pub all_within : (h : Heap) (list : List ℕ) → ((i : ℕ) → i < length list → IsBadAt h list i → ⊥) → (r : ℕ) → Contains list r → Contains (regions h) r
-all_within h list good r m =
-    let k = m in
+all_within h list good r k =
     let same : slice_index list k.0 ≡ r = get_or_default list k.0 0 r k.1 ∙ k.2 in
     elim (cases_lt r h.geometry.n) [
       | inl lt ↦ Contains-range 0 h.geometry.n r (omega arith) (omega arith)
@@ -107,10 +104,9 @@ ordinary_or_not HumongousFirst = inr (λ e. cc)
 ordinary_or_not Continuation = inr (λ e. cc)
 
 in_or_not : (xs : List ℕ) (r : ℕ) → Contains xs r ⊎ (Contains xs r → ⊥)
-in_or_not [] r = inr (λ i. i)
-in_or_not (x ∷ xs) r = elim (cases_eq x r) [
-  | inl e ↦ inl (inl e)
-  | inr ne ↦ elim (in_or_not xs r) [ inl i ↦ inl (inr i) | inr no_more ↦ inr (λ i. elim i [ inl e ↦ ne e | inr k ↦ no_more k ]) ]
+in_or_not xs r = elim (cases_Bool (has xs r)) [
+  | inl t ↦ inl (Contains-from_has xs r t)
+  | inr f ↦ inr (λ i. both {b = has xs r} (has_from_contains xs r i) f)
 ]
 
 bad_or_good : (h : Heap) (list : List ℕ) (i : ℕ) → IsBadAt h list i ⊎ (IsBadAt h list i → ⊥)
@@ -120,7 +116,7 @@ bad_or_good h list i =
       | inr ge ↦ inl (inl ge)
       | inl lt ↦ elim (ordinary_or_not (kind h r)) [
         | inr other ↦ inl (inr (inl other))
-        | inl ordinary ↦ elim (true_or_false (pinned h r)) [
+        | inl ordinary ↦ elim (cases_Bool (pinned h r)) [
           | inl pin ↦ inl (inr (inr (inl pin)))
           | inr free ↦ elim (in_or_not (take i list) r) [
             | inl again ↦ inl (inr (inr (inr again)))
@@ -159,7 +155,7 @@ accepted_or_bad h list = elim (good_or_first h list (length list) (omega arith))
 pub accepted_not_bad : (h : Heap) (list : List ℕ) (i : ℕ) → length h.regions ≡ h.geometry.n → AreTakeable h list → IsFirstBad h list i → ⊥
 accepted_not_bad h list i count a bad =
     let r : ℕ = slice_index list i in
-    let there : Contains list r = (i, bad.within, get_or_default list i r 0 bad.within) in
+    let there : Contains list r = Contains-get_or list i 0 bad.within in
     elim bad.bad [
       | inl past ↦ let within = ordinary_within h r count (a.ordinary r there) in omega arith
       | inr b ↦ elim b [

@@ -7,7 +7,7 @@ use Rattle.std.proofs.lemmas.List.Sorted.{Contains-permutation, IsPermutation-sy
 use Rattle.std.specs.Prelude.{not, ◌&&◌}
 use Rattle.g1_words.specs.Heap.{Heap, kind, pinned, regions, is_ordinary}
 use Rattle.g1_words.specs.Lists.{has}
-use Rattle.g1_words.proofs.Members.{Contains-filter, filter_member, has_from_contains, Contains-from_has}
+use Rattle.g1_words.proofs.Members.{Contains-filter, Contains-first, filter_member, has_from_contains, Contains-from_has}
 use Rattle.g1_words.proofs.Ordered.{Ordered, Ordered-from_pairs, pairs_from_ordered, same_order}
 use Rattle.g1_words.proofs.Indices.{taken_in}
 use Rattle.g1_choose.specs.declared.parameters.Cost.{Cost}
@@ -78,8 +78,8 @@ module _ (c : Cost) (h : Heap) (remembered : List (List ℕ)) (lives : List ℕ)
       same_order First (comes_before-one_way c h remembered lives) xs ys
       (Ordered-from_pairs First xs a.sorted)
       (Ordered-from_pairs First ys b.sorted)
-      (λ z k. ((b.all z).1 ((a.all z).0 k)))
-      (λ z k. ((a.all z).1 ((b.all z).0 k)))
+      (λ z k. (b.all z).1 ((a.all z).0 k))
+      (λ z k. (a.all z).1 ((b.all z).0 k))
 
   -- of the beginnings up to a length, the longest that the budget pays
   longest_up_to : (d budget : ℕ) (order : List ℕ) (n : ℕ) → n ≤ length order
@@ -168,5 +168,5 @@ module _ (c : Cost) (h : Heap) (remembered : List (List ℕ)) (lives : List ℕ)
       taken_some : (n : ℕ) (order set : List ℕ) → set ≡ filter (has (take n order)) (regions h) → 0 < length set → 0 < n
       taken_some n order [] e lt = absurd (omega arith)
       taken_some n order (x ∷ set) e lt =
-          let i : Contains (filter (has (take n order)) (regions h)) x = subst (λ l. Contains l x) e (zero, omega arith, refl) in
+          let i : Contains (filter (has (take n order)) (regions h)) x = subst (λ l. Contains l x) e (Contains-first x set) in
           some_taken n order x (Contains-from_has (take n order) x (filter_member (has (take n order)) (regions h) x i).1)

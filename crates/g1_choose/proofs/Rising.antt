@@ -23,7 +23,7 @@ rising_is h xs ys p o within =
     (λ r k.
     let i = Contains-permutation ys xs r (IsPermutation-sym xs ys p) k in
     Contains-filter (has xs) (regions h) r (within r i) (has_from_contains xs r i))
-    (λ r k. (Contains-permutation xs ys r p (Contains-from_has xs r (filter_member (has xs) (regions h) r k).1)))
+    (λ r k. Contains-permutation xs ys r p (Contains-from_has xs r (filter_member (has xs) (regions h) r k).1))
 
 -- and when they are sorted
 pub risen : (h : Heap) (xs ys : List ℕ) → IsPermutation xs ys → IsSorted nat_cmp ys → AllPairs (λ r q. r ≢ q) xs → ((r : ℕ) → Contains xs r → Contains (regions h) r) → ys ≡ filter (has xs) (regions h)

@@ -80,10 +80,9 @@ module _ (h : Heap) (window : List ℕ) (valid : IsValid h) (rising : AreRegions
       let f : Object → ℕ = λ o. n * h.geometry.w + (o.at - start h (get_or window n 0)) in
       let q = map_cases f (objects_in h r) p m.2 in
       let o : Object = q.0 in
-      let c = q.1 in
-      let home : o.at / w ≡ r = (sound h valid).in_region r o c in
+      let home : o.at / w ≡ r = (sound h valid).in_region r o q.1 in
       let low : r < h.geometry.n = all_in (λ x. x < h.geometry.n) window r rising.below (Contains-get_or window n 0 lt) in
-      let has_it = in_region_has h r o valid.shaped low c in
+      let has_it = in_region_has h r o valid.shaped low q.1 in
       let at = read_at window r n rising.rise lt refl in
       let spot : place h window o.at ≡ f o =
       ap (λ x. position window x * w + o.at % w) home ∙ ap (λ x. x * w + o.at % w) (sym at.1) ∙ ap (λ x. n * w + x) (sym (offset_is w o.at).1) ∙ ap (λ x. n * w + (o.at - x * w)) home in
