@@ -26,7 +26,7 @@ use Rattle.g1_words.specs.Survivors.{in_set}
 use Rattle.g1_rem.specs.EntryCards.{cards_into}
 use Rattle.g1_copy.specs.Gathered.{to_space_words}
 use Rattle.g1_copy.specs.Laws.{RefinedFindPatches}
-use Rattle.g1_copy.specs.Patches.{AreFirsts, all_patches, patches_on}
+use Rattle.g1_copy.specs.Patches.{AreFirsts, all_patches, patches_by_card, patches_on}
 use Rattle.g1_copy.specs.Plans.{IsPauseOf}
 use Rattle.g1_words.specs.declared.region.Region.{Region}
 use Rattle.g1_copy.specs.Fates.{AreFates, AreReplaced, fate_at, region_by_fate}
@@ -37,6 +37,7 @@ use Rattle.g1_copy.specs.declared.fates.Fate.{Fate}
 use Rattle.g1_copy.specs.declared.fates.Fate.TheVariants.{Freed}
 use Rattle.g1_copy.proofs.FatesMade.{freed_beside}
 use Rattle.g1_copy.proofs.Ground.{room_of}
+use Rattle.g1_copy.proofs.OnCards.{patches_by_cards}
 use Rattle.g1_copy.proofs.PreparedRegions.{regions_by_fates}
 use Rattle.g1_copy.proofs.RememberedLeft.{sets_left, sets_stay}
 use Rattle.g1_copy.proofs.RememberedPaused.{outer_rise}
@@ -44,7 +45,7 @@ use Rattle.g1_copy.proofs.UnnamedRegions.{firsts_below, freed_below, freed_are}
 
 -- the cards that lead into a set rise, are the heap's, and lie outside it
 module _ (h : Heap) (remembered : List (List ℕ)) (set cards : List ℕ) (is : cards ≡ cards_into h remembered set) where
-  pub into_rise : IsStrictlyIncreasing cards
+  into_rise : IsStrictlyIncreasing cards
   into_rise = subst IsStrictlyIncreasing (sym is) (cards_rise h (λ c. list_any (λ r. has (slice_index_or remembered r []) c) set && not (in_set h set (c * h.geometry.k))))
 
   card_is : (k d : ℕ) → k < length cards → Contains (cards_into h remembered set) (get_or cards k d)
@@ -61,10 +62,11 @@ module _ (i : Image) (set : List ℕ) (p : Plan) (pause : IsPauseOf i.heap set p
   -- the patches on these cards are all that there are
   pub all_found : (h : Heap) (remembered : List (List ℕ)) (cards : List ℕ) (ps : List (ℕ × ℕ)) → RefinedFindPatches → IsImage i → Covered i →
       h ≡ i.heap → remembered ≡ map (refined i) (regions i.heap) → cards ≡ cards_into h remembered set
-      → ps ≡ patches_on h p.survivors cards → ps ≡ all_patches i.heap set p.survivors
+      → ps ≡ patches_by_card h p.survivors cards → ps ≡ all_patches i.heap set p.survivors
   all_found h remembered cards ps law image covered he se ce pe =
       let same : cards ≡ cards_into i.heap (map (refined i) (regions i.heap)) set = ce ∙ (λ q. cards_into (he q) (se q) set) in
-      pe ∙ (λ q. patches_on (he q) p.survivors (same q)) ∙ law i set p.survivors image covered (subst IsStrictlyIncreasing pause.same pause.made.placeable.rising) (room_of i.heap set p pause).ordinary pause.survivors
+      pe ∙ ap (λ x. patches_by_card x p.survivors cards) he ∙ patches_by_cards i.heap p.survivors cards image.heap (into_rise h remembered set cards ce)
+      ∙ ap (patches_on i.heap p.survivors) same ∙ law i set p.survivors image covered (subst IsStrictlyIncreasing pause.same pause.made.placeable.rising) (room_of i.heap set p pause).ordinary pause.survivors
 
   -- they are those of the plan's own set
   pub own_patches : (ps : List (ℕ × ℕ)) → ps ≡ all_patches i.heap set p.survivors → ps ≡ all_patches i.heap p.set p.survivors
