@@ -218,7 +218,7 @@ module _ (i : Image) (good : IsImage i) (r : ℕ) where
 
   -- none ahead, and each is covered
   pub all_covered : (cards : List ℕ) → LeadAhead i r [] cards → uncovered_into i r ≡ []
-  all_covered cards l = no_members (uncovered_into i r) (λ q k. not_yet [] cards l q (bare_of q k))
+  all_covered cards l = no_members (uncovered_into i r) (λ q k. none_contains q (not_yet [] cards l q (bare_of q k)))
 
   -- and the cards are the exact set
   pub all_exact : (cards : List ℕ) → LeadAhead i r [] cards → cards ≡ exact i.heap r

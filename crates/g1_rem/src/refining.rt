@@ -138,8 +138,9 @@ fn entering_cards(alloc: Global, indexed: &Indexed<'_>) -> Result<Vec<Vec<u32>>,
     ensures { IfOk result (λ v. AreRefining indexed.now (map (λ s. s.items) v.items)) }
 {
     let image = indexed.image;
+    let heap = image.heap();
     let dirty = dirty_cards(alloc, image)?;
-    let mut entering = no_cards(alloc, image.heap().geometry().regions())?;
+    let mut entering = no_cards(alloc, heap.geometry().regions())?;
     add_cards(alloc, indexed, &dirty, &mut entering)?;
     Ok(entering)
 }

@@ -2,6 +2,7 @@ use Rattle.std.proofs.Common.{◌≡◌, ◌<◌, ◌++◌, ◌∷◌, [], ◌�
 use Rattle.std.proofs.lemmas.List.{take_more, get_or-take, get_or_default, length-take}
 use Rattle.std.proofs.lemmas.List.Kept.{AllPairs-from_increasing}
 use Rattle.g1_words.specs.Heap.{Heap}
+use Rattle.g1_words.specs.Valid.{IsValid}
 use Rattle.g1_image.specs.Image.{Image}
 use Rattle.g1_rem.specs.Entering.{AreEntering, IsGrown}
 use Rattle.g1_rem.proofs.Entering.{entering_start, entering_step, entering_below, slot_good}
@@ -12,7 +13,8 @@ the_heap : (c : After-heap-heap) → c.heap-heap.result.now ≡ c.args.indexed.n
 the_heap c = c.heap-heap.ensures.same ∙ ap (λ (i : Image). i.heap) c.indexed.view_is
 
 pub add_card-requires-clause-slots : goal.add_card-requires-clause-slots
-add_card-requires-clause-slots c = λ p k. slot_good c.heap-heap.result.now (slice_index c.args.dirty.now c.loop-card.card-index) p c.heap-heap.ensures.valid.heap
+add_card-requires-clause-slots c = λ p k. slot_good c.heap-heap.result.now (slice_index c.args.dirty.now c.loop-card.card-index) p
+    (subst IsValid (sym c.heap-heap.ensures.same) c.heap-heap.ensures.valid.heap)
     (subst (λ l. Contains l p) (c.as_slice.ensures ∙ c.slots_on-slots.ensures.items) k)
 
 pub add_card-requires-clause-below : goal.add_card-requires-clause-below
