@@ -17,22 +17,20 @@ use Rattle.g1_words.proofs.Members.{filter_member, flat_map_cases, has_from_cont
 use Rattle.g1_words.proofs.OneToOne.{moved_stays}
 use Rattle.g1_words.proofs.Sound.{sound}
 use Rattle.g1_words.specs.Copy.{renamed}
-use Rattle.g1_layout.proofs.Stretches.{within_region}
+use Rattle.g1_layout.proofs.Stretches.{forward_at, within_region}
 use Rattle.g1_layout.specs.Placed.{CanPlace}
-use Rattle.g1_copy.proofs.GatheringWords.{forward_at, places_apart}
+use Rattle.g1_copy.proofs.GatheringWords.{places_apart}
 use Rattle.g1_copy.specs.Links.{moved_slots}
 
 module _ (h : Heap) (set l : List ℕ) (valid : IsValid h) (can : CanPlace h set l) (room : need h l ≤ length (free_regions h)) where
   -- a survivor is an object of the heap
   pub survivor_has : (a : ℕ) → Contains l a → HasObject h (object_at h a)
-  survivor_has a i =
-      let c = i in
+  survivor_has a c =
       contains_has h (object_at h a) valid.shaped (subst (λ x. Contains (objects h) (object_at h x)) c.2 (can.objects c.0 a c.1))
 
   -- its slots are among its words
   pub survivor_slots : (a : ℕ) → Contains l a → (object_at h a).refs < (object_at h a).size
-  survivor_slots a i =
-      let c = i in
+  survivor_slots a c =
       (sound h valid).slots_fit (object_at h a) (subst (λ x. Contains (objects h) (object_at h x)) c.2 (can.objects c.0 a c.1))
 
   -- the survivors, one after another at their places

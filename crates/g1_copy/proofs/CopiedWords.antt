@@ -16,12 +16,15 @@ use Rattle.g1_words.specs.Heap.{Heap, is_free, kind, object_at, regions, start, 
 use Rattle.g1_words.specs.Layout.{forward, free_regions, laid, need, places, sizes_of}
 use Rattle.g1_words.specs.Valid.{IsValid}
 use Rattle.g1_words.proofs.Indices.{is_free_region, range_bounds}
-use Rattle.g1_words.proofs.Members.{filter_member, map_cases}
+use Rattle.g1_words.proofs.Lists.{all_in}
+use Rattle.g1_words.proofs.Members.{Contains-later, filter_member, map_cases}
+use Rattle.g1_words.proofs.Sound.{w_positive}
 use Rattle.g1_words.specs.Copy.{renamed, renamed_words, words_at}
 use Rattle.g1_after.specs.Made.{moved_word}
 use Rattle.g1_layout.proofs.Conditions.{can_lay}
 use Rattle.g1_layout.proofs.Lists.{range-more}
 use Rattle.g1_layout.proofs.Running.{count_places, fits, laid_before-more, place_is, size_is, stretch_lies}
+use Rattle.g1_layout.proofs.Stretches.{forward_at}
 use Rattle.g1_layout.specs.Placed.{CanPlace}
 use Rattle.g1_layout.specs.Plan.{Plan, laid_before, run_at, runs}
 use Rattle.g1_layout.specs.declared.plan.Run.{Run}
@@ -29,8 +32,9 @@ use Rattle.g1_copy.specs.Plans.{IsPlanOf}
 use Rattle.g1_copy.specs.Gathered.{placed_words, to_space_words}
 use Rattle.g1_copy.specs.Filled.{filled_slots}
 use Rattle.g1_copy.specs.Links.{copied_between, moved_slots}
+use Rattle.g1_copy.proofs.Plans.{places_of_plan, run_is, runs_count}
 use Rattle.g1_copy.proofs.CopiedSlots.{place_within, survivor_slots, slot_named, slots_before}
-use Rattle.g1_copy.proofs.GatheringWords.{forward_at, get_or-placed_words, get_or-to_space_words, length-placed_words, length-to_space_words, placed_word}
+use Rattle.g1_copy.proofs.GatheringWords.{get_or-placed_words, get_or-to_space_words, length-placed_words, length-to_space_words, placed_word}
 
 -- ---- the slots of one object, one by one
 
@@ -71,7 +75,7 @@ module _ (xs : List ℕ) (at place : ℕ) where
   first_below before k low = λ m d lt. below (get_or (before ++ first_slots k) m d) (Contains-get_or (before ++ first_slots k) m d lt) where
     below : (x : ℕ × ℕ) → Contains (before ++ first_slots k) x → x.0 ≤ place + k + 1
     below x i = elim (Contains-append_cases before (first_slots k) x i) [
-      | inl old ↦ let c = old in let le : x.0 ≤ place = subst (λ (z : ℕ × ℕ). z.0 ≤ place) c.2 (low c.0 x c.1) in omega (arith, le)
+      | inl old ↦ let le : x.0 ≤ place = all_in (λ (z : ℕ × ℕ). z.0 ≤ place) before x low old in omega (arith, le)
       | inr new ↦
           let m = map_cases slot_there (filter filled (range_with_len 1 k)) x new in
           let f = filter_member filled (range_with_len 1 k) m.0 m.1 in
@@ -109,7 +113,7 @@ same_slots f g w p [] same = refl
 same_slots f g w p (k ∷ ks) same =
     let e : g k ≡ renamed f (w k) = same k (zero, omega arith, refl) in
     let test : not (eqb (g k) 0) ≡ not (eqb (w k) 0) = ap (λ x. not (eqb x 0)) e ∙ ap not (renamed_null f (w k)) in
-    head e (not (eqb (g k) 0)) (not (eqb (w k) 0)) test (filter (λ k. not (eqb (g k) 0)) ks) (filter (λ k. not (eqb (w k) 0)) ks) (same_slots f g w p ks (λ j i. same j (suc i.0, omega (arith, i.1), i.2)))
+    head e (not (eqb (g k) 0)) (not (eqb (w k) 0)) test (filter (λ k. not (eqb (g k) 0)) ks) (filter (λ k. not (eqb (w k) 0)) ks) (same_slots f g w p ks (λ j i. same j (Contains-later k ks j i)))
   where
     head : g k ≡ renamed f (w k) → (b c : Bool) → b ≡ c → (ys zs : List ℕ) → slots_by g p ys ≡ slots_by (λ k. renamed f (w k)) p zs
         → slots_by g p (cond b (k ∷ ys) ys) ≡ slots_by (λ k. renamed f (w k)) p (cond c (k ∷ zs) zs)
@@ -152,9 +156,6 @@ module _ (h : Heap) (l : List ℕ) where
   between_first i j x le k = subst (λ ys. Contains ys x) (first_between i j le) (Contains-append_right (first_copied h l i) (copied_between h l i j) x k)
 
 module _ (h : Heap) (set l : List ℕ) (valid : IsValid h) (can : CanPlace h set l) (room : need h l ≤ length (free_regions h)) where
-  positive : 0 < h.geometry.w
-  positive = omega (arith, valid.limits.w_least)
-
   -- ---- the survivors of one run
 
   -- where the i-th survivor stands in its region
@@ -173,20 +174,20 @@ module _ (h : Heap) (set l : List ℕ) (valid : IsValid h) (can : CanPlace h set
     words = placed_words h l (get_or (free_regions h) t 0)
 
     pub in_list : i < length l
-    in_list = (stretch_lies h l positive (can_lay h set l valid can) room t there i from to).0
+    in_list = (stretch_lies h l (w_positive h valid) (can_lay h set l valid can) room t there i from to).0
 
     -- its place lies in the run's region
     pub place_there : place ≡ get_or (free_regions h) t 0 * h.geometry.w + offset i
     place_there =
         let lay = can_lay h set l valid can in
-        place_is h l positive lay room i in_list ∙ ap (λ q. get_or (free_regions h) q 0 * h.geometry.w + offset i) (stretch_lies h l positive lay room t there i from to).1
+        place_is h l (w_positive h valid) lay room i in_list ∙ ap (λ q. get_or (free_regions h) q 0 * h.geometry.w + offset i) (stretch_lies h l (w_positive h valid) lay room t there i from to).1
 
     -- and so does all of it
     pub ends_within : offset i + (object_at h survivor).size ≤ h.geometry.w
     ends_within =
         let lay = can_lay h set l valid can in
-        let f = fits h l positive lay room i in_list in
-        let s = size_is h l positive lay room i in_list in
+        let f = fits h l (w_positive h valid) lay room i in_list in
+        let s = size_is h l (w_positive h valid) lay room i in_list in
         omega (arith, f.1, s)
 
     -- its words stand there, its references renamed
@@ -280,127 +281,110 @@ pub record AreSlotsAt (h : Heap) (p : Plan) (i place : ℕ) (words : List ℕ) (
   pub lower : (b : ℕ) → b ≤ i → All (λ x. x.0 ≤ place) (copied_between h p.survivors b i)
   pub more : (b : ℕ) → b ≤ i → copied_between h p.survivors b i ++ filled_slots words at place ≡ copied_between h p.survivors b (i + 1)
 
--- a plan's places and runs
-module _ (h : Heap) (p : Plan) (made : IsPlanOf h p) where
-  pub places_are : p.places ≡ places h p.survivors
-  places_are = ap (λ (q : Plan). q.places) made.plan
+-- the survivors of a run of the plan
 
-  pub runs_are : p.runs ≡ runs h p.survivors
-  runs_are = ap (λ (q : Plan). q.runs) made.plan
+module _ (h : Heap) (p : Plan) (made : IsPlanOf h p) (valid : IsValid h) (u : Run) (one : Contains p.runs u) where
+  can : CanPlace h p.set p.survivors
+  can = made.placeable
 
-  pub runs_count : length p.runs ≡ need h p.survivors
-  runs_count = ap length runs_are ∙ length-map-range_with_len (run_at h p.survivors) 0 (need h p.survivors)
+  room : need h p.survivors ≤ length (free_regions h)
+  room = made.room
 
-  pub run_is : (t : ℕ) (d : Run) → t < need h p.survivors → get_or p.runs t d ≡ run_at h p.survivors t
-  run_is t d lt = ap (λ us. get_or us t d) runs_are ∙ get_or-map-range_with_len (run_at h p.survivors) 0 (need h p.survivors) t t d lt (omega arith)
+  there : one.0 < need h p.survivors
+  there = omega (arith, one.1, runs_count h p made)
 
-  -- ---- the survivors of a run of the plan
+  is : u ≡ run_at h p.survivors one.0
+  is = sym one.2 ∙ run_is h p made one.0 u there
 
-  module _ (valid : IsValid h) (u : Run) (one : Contains p.runs u) where
-    can : CanPlace h p.set p.survivors
-    can = made.placeable
+  -- the run's region is one of the heap's
+  pub run_region : u.region < h.geometry.n
+  run_region = let e : u.region ≡ get_or (free_regions h) one.0 0 = ap (λ (v : Run). v.region) is in omega (arith, e, region_below h p.set p.survivors valid can room one.0 there)
 
-    room : need h p.survivors ≤ length (free_regions h)
-    room = made.room
+  -- the run doesn't end before it begins
+  pub run_order : u.from ≤ u.to
+  run_order =
+      let a : u.from ≡ laid_before h p.survivors one.0 = ap (λ (v : Run). v.from) is in
+      let b : u.to ≡ laid_before h p.survivors (one.0 + 1) = ap (λ (v : Run). v.to) is in
+      omega (arith, a, b, laid_before-more h p.survivors (w_positive h valid) (can_lay h p.set p.survivors valid can) room one.0 there)
 
-    there : one.0 < need h p.survivors
-    there = omega (arith, one.1, runs_count)
+  module _ (i : ℕ) (low : u.from ≤ i) (high : i < u.to) where
+    from : laid_before h p.survivors one.0 ≤ i
+    from = let e : u.from ≡ laid_before h p.survivors one.0 = ap (λ (v : Run). v.from) is in omega (arith, e, low)
 
-    is : u ≡ run_at h p.survivors one.0
-    is = sym one.2 ∙ run_is one.0 u there
+    to : i < laid_before h p.survivors (one.0 + 1)
+    to = let e : u.to ≡ laid_before h p.survivors (one.0 + 1) = ap (λ (v : Run). v.to) is in omega (arith, e, high)
 
-    -- the run's region is one of the heap's
-    pub run_region : u.region < h.geometry.n
-    run_region = let e : u.region ≡ get_or (free_regions h) one.0 0 = ap (λ (v : Run). v.region) is in omega (arith, e, region_below h p.set p.survivors valid can room one.0 there)
+    listed : i < length p.survivors
+    listed = in_list h p.set p.survivors valid can room one.0 there i from to
 
-    -- the run doesn't end before it begins
-    pub run_order : u.from ≤ u.to
-    run_order =
-        let a : u.from ≡ laid_before h p.survivors one.0 = ap (λ (v : Run). v.from) is in
-        let b : u.to ≡ laid_before h p.survivors (one.0 + 1) = ap (λ (v : Run). v.to) is in
-        let pos : 0 < h.geometry.w = omega (arith, valid.limits.w_least) in
-        omega (arith, a, b, laid_before-more h p.survivors pos (can_lay h p.set p.survivors valid can) room one.0 there)
+    -- a heap has few words, so few survivors
+    pub index_small : i < most_words
+    index_small = omega (arith, listed, (can_lay h p.set p.survivors valid can).few)
 
-    module _ (i : ℕ) (low : u.from ≤ i) (high : i < u.to) where
-      from : laid_before h p.survivors one.0 ≤ i
-      from = let e : u.from ≡ laid_before h p.survivors one.0 = ap (λ (v : Run). v.from) is in omega (arith, e, low)
+    -- there is a place for each survivor
+    pub in_places : i < length p.places
+    in_places =
+        omega (arith, listed, ap length (places_of_plan h p made), count_places h p.survivors (w_positive h valid) (can_lay h p.set p.survivors valid can) room)
 
-      to : i < laid_before h p.survivors (one.0 + 1)
-      to = let e : u.to ≡ laid_before h p.survivors (one.0 + 1) = ap (λ (v : Run). v.to) is in omega (arith, e, high)
+    module _ (place : ℕ) (place_is : place ≡ get_or p.places i 0) where
+      stands : place ≡ u.region * h.geometry.w + offset h p.set p.survivors valid can room i
+      stands =
+          place_is ∙ ap (λ xs. get_or xs i 0) (places_of_plan h p made) ∙ place_there h p.set p.survivors valid can room one.0 there i from to
+          ∙ ap (λ (v : Run). v.region * h.geometry.w + offset h p.set p.survivors valid can room i) (sym is)
 
-      listed : i < length p.survivors
-      listed = in_list h p.set p.survivors valid can room one.0 there i from to
+      -- a place isn't below its region
+      pub not_below : u.region * h.geometry.w ≤ place
+      not_below = omega (arith, stands)
 
-      -- a heap has few words, so few survivors
-      pub index_small : i < most_words
-      index_small = omega (arith, listed, (can_lay h p.set p.survivors valid can).few)
+      module _ (words : List ℕ) (at : ℕ) (words_are : words ≡ placed_words h p.survivors u.region) (at_is : at ≡ place - u.region * h.geometry.w) where
+        at_offset : at ≡ offset h p.set p.survivors valid can room i
+        at_offset = omega (arith, at_is, stands)
 
-      -- there is a place for each survivor
-      pub in_places : i < length p.places
-      in_places =
-          let pos : 0 < h.geometry.w = omega (arith, valid.limits.w_least) in
-          omega (arith, listed, ap length places_are, count_places h p.survivors pos (can_lay h p.set p.survivors valid can) room)
+        words_there : words ≡ placed_words h p.survivors (get_or (free_regions h) one.0 0)
+        words_there = words_are ∙ ap (λ (v : Run). placed_words h p.survivors v.region) is
 
-      module _ (place : ℕ) (place_is : place ≡ get_or p.places i 0) where
-        stands : place ≡ u.region * h.geometry.w + offset h p.set p.survivors valid can room i
-        stands =
-            place_is ∙ ap (λ xs. get_or xs i 0) places_are ∙ place_there h p.set p.survivors valid can room one.0 there i from to
-            ∙ ap (λ (v : Run). v.region * h.geometry.w + offset h p.set p.survivors valid can room i) (sym is)
+        refs_are : slice_index words at % 2 ^ 32 ≡ (object_at h (get_or p.survivors i 0)).refs
+        refs_are = (λ j. slice_index (words_there j) (at_offset j) % 2 ^ 32) ∙ refs_there h p.set p.survivors valid can room one.0 there i from to
 
-        -- a place isn't below its region
-        pub not_below : u.region * h.geometry.w ≤ place
-        not_below = omega (arith, stands)
+        -- the slots stand among the words
+        slots_within : at + slice_index words at % 2 ^ 32 < length words
+        slots_within =
+            let count = ap length words_are ∙ length-placed_words h p.survivors u.region in
+            omega (arith, at_offset, refs_are, count, some_slots h p.set p.survivors valid can room one.0 there i from to, ends_within h p.set p.survivors valid can room one.0 there i from to)
 
-        module _ (words : List ℕ) (at : ℕ) (words_are : words ≡ placed_words h p.survivors u.region) (at_is : at ≡ place - u.region * h.geometry.w) where
-          at_offset : at ≡ offset h p.set p.survivors valid can room i
-          at_offset = omega (arith, at_is, stands)
+        -- and at addresses of the heap
+        slots_inside : place + slice_index words at % 2 ^ 32 < h.geometry.n * h.geometry.w
+        slots_inside =
+            let goes = place_is ∙ ap (λ xs. get_or xs i 0) (places_of_plan h p made) ∙ sym (forward_at h p.set p.survivors valid can room i listed) in
+            let ends = place_within h p.set p.survivors valid can room (get_or p.survivors i 0) (Contains-get_or p.survivors i 0 listed) in
+            let some = some_slots h p.set p.survivors valid can room one.0 there i from to in
+            omega (arith, refs_are, goes, ends, some)
 
-          words_there : words ≡ placed_words h p.survivors (get_or (free_regions h) one.0 0)
-          words_there = words_are ∙ ap (λ (v : Run). placed_words h p.survivors v.region) is
+        slots_below : place + slice_index words at % 2 ^ 32 < 2 ^ 64
+        slots_below = omega (arith, slots_inside, valid.limits.words_most)
 
-          refs_are : slice_index words at % 2 ^ 32 ≡ (object_at h (get_or p.survivors i 0)).refs
-          refs_are = (λ j. slice_index (words_there j) (at_offset j) % 2 ^ 32) ∙ refs_there h p.set p.survivors valid can room one.0 there i from to
+        -- what they name is there
+        slots_named : (k : ℕ) → k < slice_index words at % 2 ^ 32 → slice_index words (at + k + 1) ≤ h.geometry.n * h.geometry.w
+        slots_named k less =
+            let is : slice_index words (at + k + 1) ≡ slice_index (placed_words h p.survivors (get_or (free_regions h) one.0 0))
+            (offset h p.set p.survivors valid can room i + k + 1) = λ j. slice_index (words_there j) (at_offset j + k + 1) in
+            omega (arith, is, named_there h p.set p.survivors valid can room one.0 there i from to k (omega (arith, less, refs_are)))
 
-          -- the slots stand among the words
-          slots_within : at + slice_index words at % 2 ^ 32 < length words
-          slots_within =
-              let count = ap length words_are ∙ length-placed_words h p.survivors u.region in
-              omega (arith, at_offset, refs_are, count, some_slots h p.set p.survivors valid can room one.0 there i from to, ends_within h p.set p.survivors valid can room one.0 there i from to)
+        -- the slots of the survivors before this one stand below it
+        slots_lower : (b : ℕ) → b ≤ i → All (λ x. x.0 ≤ place) (copied_between h p.survivors b i)
+        slots_lower b le =
+            let goes : forward h p.survivors (get_or p.survivors i 0) ≡ place = forward_at h p.set p.survivors valid can room i listed ∙ sym (place_is ∙ ap (λ xs. get_or xs i 0) (places_of_plan h p made)) in
+            let all = subst (λ q. All (λ x. x.0 ≤ q) (first_copied h p.survivors i)) goes (slots_before h p.set p.survivors valid can room i listed) in
+            λ k d lt.
+            let x : ℕ × ℕ = get_or (copied_between h p.survivors b i) k d in
+            all_in (λ (z : ℕ × ℕ). z.0 ≤ place) (first_copied h p.survivors i) x all (between_first h p.survivors b i x le (Contains-get_or (copied_between h p.survivors b i) k d lt))
 
-          -- and at addresses of the heap
-          slots_inside : place + slice_index words at % 2 ^ 32 < h.geometry.n * h.geometry.w
-          slots_inside =
-              let goes = place_is ∙ ap (λ xs. get_or xs i 0) places_are ∙ sym (forward_at h p.set p.survivors valid can room i listed) in
-              let ends = place_within h p.set p.survivors valid can room (get_or p.survivors i 0) (Contains-get_or p.survivors i 0 listed) in
-              let some = some_slots h p.set p.survivors valid can room one.0 there i from to in
-              omega (arith, refs_are, goes, ends, some)
+        -- one survivor more
+        slots_more : (b : ℕ) → b ≤ i → copied_between h p.survivors b i ++ filled_slots words at place ≡ copied_between h p.survivors b (i + 1)
+        slots_more b le =
+            let goes : place ≡ get_or (places h p.survivors) i 0 = place_is ∙ ap (λ xs. get_or xs i 0) (places_of_plan h p made) in
+            (λ j. copied_between h p.survivors b i ++ filled_slots (words_there j) (at_offset j) (goes j))
+            ∙ run_more h p.set p.survivors valid can room one.0 there i from to b le
 
-          slots_below : place + slice_index words at % 2 ^ 32 < 2 ^ 64
-          slots_below = omega (arith, slots_inside, valid.limits.words_most)
-
-          -- what they name is there
-          slots_named : (k : ℕ) → k < slice_index words at % 2 ^ 32 → slice_index words (at + k + 1) ≤ h.geometry.n * h.geometry.w
-          slots_named k less =
-              let is : slice_index words (at + k + 1) ≡ slice_index (placed_words h p.survivors (get_or (free_regions h) one.0 0))
-              (offset h p.set p.survivors valid can room i + k + 1) = λ j. slice_index (words_there j) (at_offset j + k + 1) in
-              omega (arith, is, named_there h p.set p.survivors valid can room one.0 there i from to k (omega (arith, less, refs_are)))
-
-          -- the slots of the survivors before this one stand below it
-          slots_lower : (b : ℕ) → b ≤ i → All (λ x. x.0 ≤ place) (copied_between h p.survivors b i)
-          slots_lower b le =
-              let goes : forward h p.survivors (get_or p.survivors i 0) ≡ place = forward_at h p.set p.survivors valid can room i listed ∙ sym (place_is ∙ ap (λ xs. get_or xs i 0) places_are) in
-              let all = subst (λ q. All (λ x. x.0 ≤ q) (first_copied h p.survivors i)) goes (slots_before h p.set p.survivors valid can room i listed) in
-              λ k d lt.
-              let m = between_first h p.survivors b i (get_or (copied_between h p.survivors b i) k d) le (Contains-get_or (copied_between h p.survivors b i) k d lt) in
-              let c = m in
-              subst (λ (z : ℕ × ℕ). z.0 ≤ place) c.2 (all c.0 (get_or (copied_between h p.survivors b i) k d) c.1)
-
-          -- one survivor more
-          slots_more : (b : ℕ) → b ≤ i → copied_between h p.survivors b i ++ filled_slots words at place ≡ copied_between h p.survivors b (i + 1)
-          slots_more b le =
-              let goes : place ≡ get_or (places h p.survivors) i 0 = place_is ∙ ap (λ xs. get_or xs i 0) places_are in
-              (λ j. copied_between h p.survivors b i ++ filled_slots (words_there j) (at_offset j) (goes j))
-              ∙ run_more h p.set p.survivors valid can room one.0 there i from to b le
-
-          pub slots_at : AreSlotsAt h p i place words at
-          slots_at = record { within = slots_within; inside = slots_inside; below = slots_below; named = slots_named; lower = slots_lower; more = slots_more }
+        pub slots_at : AreSlotsAt h p i place words at
+        slots_at = record { within = slots_within; inside = slots_inside; below = slots_below; named = slots_named; lower = slots_lower; more = slots_more }

@@ -1,16 +1,17 @@
 -- The table of fates that is made for a plan.
-use Rattle.std.proofs.Common.{◌≡◌, ◌≢◌, ℕ, suc, ◌+◌, ◌<◌, ◌⊎◌, inl, inr, Bool, true, false, cond, ◌||◌, List, [], ◌∷◌, ◌++◌, All, AllPairs, Some, None, length, get_or, set, replicate, Contains, zero}
+use Rattle.std.proofs.Common.{◌≡◌, ◌≢◌, ℕ, ◌+◌, ◌<◌, inl, inr, Bool, true, false, cond, ◌||◌, List, ◌++◌, All, AllPairs, Some, None, length, get_or, set, replicate, Contains}
 use Rattle.std.proofs.Common.{position, refl, sym, ◌∙◌, ap, subst, arith, eqb}
-use Rattle.std.proofs.lemmas.Bool.{cases_Bool, cases_lt, false≢true}
-use Rattle.std.proofs.lemmas.List.{get_or-replicate, get_or-set_other, get_or-set_same, length-replicate, length-set}
-use Rattle.std.proofs.lemmas.List.Folds.{list_any-append}
+use Rattle.std.proofs.lemmas.Bool.{cases_Bool, cases_lt, cases_order, false≢true}
+use Rattle.std.proofs.lemmas.List.{get_or_default, get_or-replicate, get_or-set_other, get_or-set_same, length-replicate, length-set}
 use Rattle.std.proofs.lemmas.List.Elements.{Contains-get_or}
 use Rattle.g1_layout.proofs.Conditions.{set_in_heap}
 use Rattle.g1_layout.specs.Plan.{Plan}
 use Rattle.g1_words.proofs.Firsts.{Distinct}
 use Rattle.g1_words.proofs.Indices.{is_free_region, taken_in}
+use Rattle.g1_words.proofs.Lists.{has_both}
 use Rattle.g1_words.proofs.Members.{has_from_contains, Contains-from_has}
 use Rattle.g1_words.proofs.NextFit.{distinct_places, free_distinct}
+use Rattle.g1_words.proofs.Sound.{w_positive}
 use Rattle.g1_words.specs.Heap.{Heap}
 use Rattle.g1_words.specs.Layout.{free_regions, need, to_space}
 use Rattle.g1_words.specs.Lists.{has}
@@ -23,16 +24,8 @@ use Rattle.g1_copy.proofs.InPlaceSlices.{Distinct-take, is_position, no_position
 
 -- numbers and lists
 
-pub eq_or : (a b : ℕ) → (a ≡ b) ⊎ ((a < b) ⊎ (b < a))
-eq_or a b = elim (cases_lt a b) [
-  | inl lt ↦ inr (inl lt)
-  | inr ge ↦ elim (cases_lt b a) [ inl lt ↦ inr (inr lt) | inr le ↦ inl (omega arith) ]
-]
-
-pub place_of : (xs : List ℕ) (x : ℕ) → Contains xs x → (t : ℕ) × (t < length xs) × (get_or xs t 0 ≡ x)
-place_of [] x m = absurd (omega (arith, m.1))
-place_of (y ∷ xs) x (zero, b, e) = (0, omega arith, e)
-place_of (y ∷ xs) x (suc k, b, e) = let r = place_of xs x (k, omega (arith, b), e) in (suc r.0, omega (arith, r.1), r.2)
+place_of : (xs : List ℕ) (x : ℕ) → Contains xs x → (t : ℕ) × (t < length xs) × (get_or xs t 0 ≡ x)
+place_of xs x c = (c.0, c.1, get_or_default xs c.0 0 x c.1 ∙ c.2)
 
 -- the three fates
 
@@ -95,7 +88,7 @@ module _ (n : ℕ) (place : ℕ → ℕ) (told : ℕ → Fate) (old cur new : Li
     | inr ge ↦
         let e : n ≡ t = omega arith in
         subst (λ k. get_or new (place k) Kept ≡ told k) e replaced_here
-    | inl less ↦ elim (eq_or (place t) (place n)) [
+    | inl less ↦ elim (cases_order (place t) (place n)) [
       | inl e ↦ ap (λ k. get_or new k Kept) e ∙ replaced_here ∙ sym (agree t less e)
       | inr (inl a) ↦ replaced_off (place t) (λ e. absurd (omega (arith, e, a))) ∙ before.replaced t less
       | inr (inr a) ↦ replaced_off (place t) (λ e. absurd (omega (arith, e, a))) ∙ before.replaced t less
@@ -111,10 +104,6 @@ module _ (n : ℕ) (place : ℕ → ℕ) (told : ℕ → Fate) (old cur new : Li
   }
 
 -- regions freed beside the set
-
--- a region of two lists is one of either
-pub has_both : (xs ys : List ℕ) (r : ℕ) → has (xs ++ ys) r ≡ (has xs r || has ys r)
-has_both xs ys r = list_any-append (λ y. eqb r y) xs ys
 
 -- one of them is freed
 pub fate_freed : (set freed to : List ℕ) (r : ℕ) → has freed r ≡ true → fate_of (set ++ freed) to r ≡ Freed
@@ -146,9 +135,6 @@ freed_beside h set freed to one two are new = record {
 -- what a plan tells
 
 module _ (h : Heap) (chosen : List ℕ) (p : Plan) (valid : IsValid h) (pause : IsPauseOf h chosen p) where
-  w_positive : 0 < h.geometry.w
-  w_positive = let k = valid.limits.w_least in omega arith
-
   -- the regions of the set, and those of to-space, are the heap's
   pub set_below : All (λ r. r < h.geometry.n) chosen
   set_below = subst (λ xs. All (λ r. r < h.geometry.n) xs) pause.same (set_in_heap h p.set p.survivors valid pause.made.placeable)
@@ -163,7 +149,7 @@ module _ (h : Heap) (chosen : List ℕ) (p : Plan) (valid : IsValid h) (pause : 
   to_space_below to e k d lt = to_space_free (get_or to k d) (subst (λ xs. Contains xs (get_or to k d)) (e ∙ to_space_is) (Contains-get_or to k d lt))
 
   pub once : Distinct (to_space h p.survivors)
-  once = Distinct-take (need h p.survivors) (free_regions h) (free_distinct h w_positive)
+  once = Distinct-take (need h p.survivors) (free_regions h) (free_distinct h (w_positive h valid))
 
   pub to_space_distinct : (to : List ℕ) → to ≡ p.to_space → AllPairs (λ r q. r ≢ q) to
   to_space_distinct to e i j d a b same = let k = distinct_places to i j d (subst Distinct (sym (e ∙ to_space_is)) once) (omega arith) b same in omega arith

@@ -2,6 +2,7 @@
 use Rattle.std.proofs.Common.{◌≡◌, ℕ, ◌+◌, ◌-◌, ◌*◌, ◌<◌, ◌≤◌, ◌⊎◌, inl, inr, List, [], ◌∷◌, refl, sym, ◌∙◌, ap, subst, arith, Contains}
 use Rattle.std.proofs.lemmas.Bool.{cases_lt}
 use Rattle.std.proofs.Math.Nat.{add-mul}
+use Rattle.g1_words.proofs.Members.{Contains-first, Contains-later}
 use Rattle.g1_words.proofs.Shapes.{BeginsRun, IsBuilt, IsBuiltBy, IsTiled}
 use Rattle.g1_words.proofs.Standing.{run_object, w_pos}
 use Rattle.g1_words.specs.Heap.{Heap, kind, object_at, objects_in, top}
@@ -14,8 +15,8 @@ tiled_covers h a [] end p t le lt = absurd (omega (arith, t))
 tiled_covers h a (o ∷ os) end p t le lt =
     let at : o.at ≡ a = ap (λ (x : Object). x.at) t.0 in
     elim (cases_lt p (a + o.size)) [
-      | inl b ↦ (o, inl refl, omega arith, omega arith)
-      | inr b ↦ let r = tiled_covers h (a + o.size) os end p t.2 b lt in (r.0, inr r.1, r.2, r.3)
+      | inl b ↦ (o, Contains-first o os, omega arith, omega arith)
+      | inr b ↦ let r = tiled_covers h (a + o.size) os end p t.2 b lt in (r.0, Contains-later o os r.0 r.1, r.2, r.3)
     ]
 
 module _ (h : Heap) (valid : IsBuilt h) where

@@ -1,7 +1,8 @@
 -- The cards that lead into a set, and the patches on them.
-use Rattle.std.proofs.Common.{◌≡◌, ◌≢◌, ◌≤◌, ◌<◌, ℕ, zero, suc, ◌*◌, inl, inr, Bool, true, false, not, ◌&&◌, ◌||◌, List, [], ◌∷◌, length, slice_index_or, map, Contains, arith, refl, sym, ap, ◌∙◌}
-use Rattle.std.specs.List.{range_with_len, list_any}
-use Rattle.std.proofs.lemmas.Bool.{cases_lt}
+use Rattle.std.proofs.Common.{◌≡◌, ◌≢◌, ◌<◌, ℕ, ◌*◌, inl, inr, Bool, true, false, not, ◌&&◌, List, [], slice_index_or, map, Contains, arith, refl, sym, ap, ◌∙◌}
+use Rattle.std.specs.List.{range_with_len}
+use Rattle.std.proofs.lemmas.Bool.{cases_lt, not-true}
+use Rattle.std.proofs.lemmas.List.{get_or_past}
 use Rattle.std.proofs.lemmas.List.FromFn.{get_or-map-range_with_len}
 use Rattle.std.proofs.lemmas.List.Elements.{Contains-get_or}
 use Rattle.g1_words.specs.declared.region.Kind.TheVariants.{Free, Ordinary}
@@ -12,6 +13,7 @@ use Rattle.g1_words.specs.Survivors.{in_set}
 use Rattle.g1_words.specs.Valid.{IsValid}
 use Rattle.g1_words.proofs.Computed.{range_below}
 use Rattle.g1_words.proofs.Indices.{not_has}
+use Rattle.g1_words.proofs.Lists.{any_from_in, filter_same_in}
 use Rattle.g1_words.proofs.Members.{Contains-filter, filter_member, has_from_contains, Contains-from_has, and_true, any_member}
 use Rattle.g1_words.proofs.OneToOne.{reached_in_set}
 use Rattle.g1_image.specs.Image.{Image}
@@ -21,30 +23,16 @@ use Rattle.g1_rem.specs.Starts.{card_count}
 use Rattle.g1_rem.specs.EntryCards.{cards_into, is_listed}
 use Rattle.g1_copy.specs.Laws.{CardsLeadIn, CardsStandOutside, RefinedFindPatches}
 use Rattle.g1_copy.specs.Patches.{patch}
-use Rattle.g1_rem.proofs.EntryCards.{filter_same_in}
-
-not_true : (b : Bool) → not b ≡ true → b ≡ false
-not_true true e = cc
-not_true false e = refl
-
-any_by_member : (p : ℕ → Bool) (xs : List ℕ) (x : ℕ) → Contains xs x → p x ≡ true → list_any p xs ≡ true
-any_by_member p [] x i t = absurd (omega (arith, i.1))
-any_by_member p (y ∷ ys) x (zero, b, e) t = rw (ap p e ∙ t) refl
-any_by_member p (y ∷ ys) x (suc k, lt, e) t = elim (p y) as (λ b. (b || list_any p ys) ≡ true) [ true ↦ refl | false ↦ any_by_member p ys x (k, omega (arith, lt), e) t ]
 
 -- an ordinary region is one of the heap's
 ordinary_in_heap : (h : Heap) (r : ℕ) → IsValid h → kind h r ≡ Ordinary → r < h.geometry.n
 ordinary_in_heap h r valid e = elim (cases_lt r h.geometry.n) [
   | inl lt ↦ lt
   | inr ge ↦ (
-      let free : region h r ≡ free_region = past h.regions r free_region (omega (arith, ge, valid.region_count)) in
+      let free : region h r ≡ free_region = get_or_past h.regions r free_region (omega (arith, ge, valid.region_count)) in
       let clash : Ordinary ≡ Free = sym e ∙ ap (λ q. q.kind) free in
       cc)
-] where
-  past : {A : Type 0} (xs : List A) (r : ℕ) (d : A) → length xs ≤ r → slice_index_or xs r d ≡ d
-  past [] r d le = refl
-  past (x ∷ xs) zero d le = absurd (omega (arith, le))
-  past (x ∷ xs) (suc r) d le = past xs r d (omega (arith, le))
+]
 
 -- ---- the cards
 
@@ -57,7 +45,7 @@ module _ (h : Heap) (remembered : List (List ℕ)) (set : List ℕ) where
   listed_is c i =
       let m = filter_member leads (range_with_len 0 (card_count h)) c i in
       let t = and_true (is_listed remembered set c) (not (in_set h set (c * h.geometry.k))) m.1 in
-      (omega (arith, range_below 0 (card_count h) c m.0), t.0, not_true (in_set h set (c * h.geometry.k)) t.1)
+      (omega (arith, range_below 0 (card_count h) c m.0), t.0, not-true (in_set h set (c * h.geometry.k)) t.1)
 
 pub cards_stand_outside : CardsStandOutside
 cards_stand_outside h remembered set = (
@@ -87,11 +75,9 @@ cards_lead i set good ordinary c = (to, from) where
 
   from : (((r : ℕ) × Contains set r × Contains (refined i r) c) × (in_set i.heap set (c * i.heap.geometry.k) ≡ false)) → Contains (cards_into i.heap (map (refined i) (regions i.heap)) set) c
   from ((r, k, m), out) =
-      let j : Contains set r = k in
-      let n : Contains (refined i r) c = m in
       let listed : is_listed (map (refined i) (regions i.heap)) set c ≡ true =
-      any_by_member (λ r. has (slice_index_or remembered r []) c) set r j (ap (λ l. has l c) (at r j) ∙ has_from_contains (refined i r) c n) in
-      Contains-filter (leads i.heap remembered set) (range_with_len 0 (card_count i.heap)) c (filter_member (is_refined i r) (range_with_len 0 (card_count i.heap)) c n).0 (rw (listed, out) refl)
+      any_from_in (λ r. has (slice_index_or remembered r []) c) set r k (ap (λ l. has l c) (at r k) ∙ has_from_contains (refined i r) c m) in
+      Contains-filter (leads i.heap remembered set) (range_with_len 0 (card_count i.heap)) c (filter_member (is_refined i r) (range_with_len 0 (card_count i.heap)) c m).0 (rw (listed, out) refl)
 
 -- ---- the patches
 
@@ -129,8 +115,7 @@ refined_find_patches i set l good covered rising ordinary survivors =
         let clash : true ≡ false = sym f ∙ sym (home e) ∙ out in cc)
     listed e k t false f =
         let there : Contains set (region_of i.heap e.target) = Contains-from_has set (region_of i.heap e.target) (target_in e.target t) in
-        let lt : region_of i.heap e.target < i.heap.geometry.n = ordinary_in_heap i.heap (region_of i.heap e.target) good.heap
-        (ordinary (region_of i.heap e.target) there) in
+        let lt : region_of i.heap e.target < i.heap.geometry.n = ordinary_in_heap i.heap (region_of i.heap e.target) good.heap (ordinary (region_of i.heap e.target) there) in
         let d : region_of i.heap e.slot ≢ region_of i.heap e.target = λ s. (let clash : true ≡ false = sym (target_in e.target t) ∙ ap (has set) (sym s) ∙ f in cc) in
         has_from_contains cards (card_of i.heap e.slot) ((cards_lead i set good ordinary (card_of i.heap e.slot)).1 ((region_of i.heap e.target, there, on_refined e k lt d), home e ∙ f))
 

@@ -1,5 +1,5 @@
 -- Survivors move, and nothing else does: what a slot's word is patched to.
-use Rattle.std.proofs.Common.{◌≡◌, ◌≢◌, ℕ, zero, suc, ◌+◌, ◌-◌, ◌*◌, ◌<◌, ◌≤◌, Bool, true, false, cond, List, [], ◌∷◌, length, slice_index, map, filter, Contains, All, arith, refl, sym, ap}
+use Rattle.std.proofs.Common.{◌≡◌, ◌≢◌, ℕ, zero, suc, ◌+◌, ◌-◌, ◌*◌, ◌<◌, ◌≤◌, Bool, true, false, cond, List, [], ◌∷◌, length, slice_index, map, filter, Contains, arith, refl, sym, ap}
 use Rattle.std.proofs.Common.{subst, ◌∙◌}
 use Rattle.std.proofs.Math.Nat.{div-lt_iff_lt-mul}
 use Rattle.g1_words.specs.declared.region.Kind.TheVariants.{Free, Ordinary}
@@ -9,17 +9,15 @@ use Rattle.g1_words.specs.Lists.{has}
 use Rattle.g1_words.specs.References.{named}
 use Rattle.g1_words.specs.Valid.{IsValid}
 use Rattle.g1_words.proofs.Indices.{is_free_region, taken_in, not_has}
+use Rattle.g1_words.proofs.Lists.{all_in}
 use Rattle.g1_words.proofs.Members.{has_from_contains, Contains-from_has}
 use Rattle.g1_words.proofs.OneToOne.{moved_stays}
+use Rattle.g1_words.proofs.Sound.{w_positive}
 use Rattle.g1_layout.specs.Placed.{CanPlace}
 use Rattle.g1_layout.specs.Plan.{Plan}
 use Rattle.g1_layout.proofs.Stretches.{within_region}
 use Rattle.g1_copy.specs.Plans.{IsPlanOf}
 use Rattle.g1_copy.specs.Patches.{patch, patch_at}
-
--- what all members are, one is
-pub all_in : (P : ℕ → Type 0) (xs : List ℕ) (x : ℕ) → All P xs → Contains xs x → P x
-all_in P xs x f i = let c = i in subst P c.2 (f c.0 x c.1)
 
 module _ (h : Heap) (set l : List ℕ) (valid : IsValid h) (can : CanPlace h set l) (room : need h l ≤ length (free_regions h)) where
   -- a survivor goes into a free region
@@ -38,7 +36,7 @@ module _ (h : Heap) (set l : List ℕ) (valid : IsValid h) (can : CanPlace h set
 
   -- its place is one of the heap's words
   pub place_in_heap : (a : ℕ) → Contains l a → forward h l a < h.geometry.n * h.geometry.w
-  place_in_heap a i = (div-lt_iff_lt-mul (let e = valid.limits.w_least in omega (arith, e))).0 (place_free a i).1
+  place_in_heap a i = (div-lt_iff_lt-mul (w_positive h valid)).0 (place_free a i).1
 
 -- the patch of a slot that names an address
 patch_named : (h : Heap) (l : List ℕ) (p a : ℕ) (b : Bool) → word h p ≡ suc a → has l a ≡ b → patch_at h l p ≡ cond b ((p, suc (forward h l a)) ∷ []) []

@@ -9,14 +9,13 @@ use Rattle.g1_words.specs.Heap.{Heap, object_at, regions}
 use Rattle.g1_words.specs.Lists.{has}
 use Rattle.g1_words.specs.References.{Ref, refs}
 use Rattle.g1_words.specs.Survivors.{in_set}
-use Rattle.g1_words.specs.Layout.{forward, free_regions, need, to_space, HasRoom}
+use Rattle.g1_words.specs.Layout.{forward, free_regions, need, to_space}
 use Rattle.g1_words.specs.Valid.{IsValid}
 use Rattle.g1_words.proofs.Bounds.{object_within}
 use Rattle.g1_words.proofs.Computed.{contains_has}
 use Rattle.g1_words.proofs.Members.{filter_member, map_cases}
 use Rattle.g1_words.proofs.Ordered.{pairs_from_ordered}
 use Rattle.g1_words.proofs.Rising.{Ordered-filter, Ordered-map, refs_ordered}
-use Rattle.g1_words.proofs.Shapes.{built}
 use Rattle.g1_words.proofs.Sound.{sound}
 use Rattle.g1_image.specs.Image.{Image, IsImage}
 use Rattle.g1_image.specs.Cards.{refined}
@@ -31,6 +30,7 @@ use Rattle.g1_copy.specs.Fates.{AreFates}
 use Rattle.g1_copy.specs.Remembered.{AreSources, AreJoined}
 use Rattle.g1_copy.specs.declared.fates.Fate.{Fate}
 use Rattle.g1_copy.proofs.CopiedSlots.{forward_below}
+use Rattle.g1_copy.proofs.Ground.{Ground, ground, room_of}
 use Rattle.g1_copy.proofs.RememberedLinks.{owner_of}
 use Rattle.g1_copy.proofs.RememberedJoined.{are_sources, remembered_moved_are}
 
@@ -80,8 +80,8 @@ module _ (i : Image) (set : List ℕ) (p : Plan) (image : IsImage i) (pause : Is
   pub can : CanPlace i.heap set l
   can = subst (λ s. CanPlace i.heap s l) pause.same pause.made.placeable
 
-  has_room : HasRoom i.heap set l
-  has_room = record { ordinary = can.ordinary; survivors = pause.survivors; room = pause.made.room }
+  abbrev g : Ground i set l
+  g = ground i set l image.heap (room_of i.heap set p pause)
 
   pub outer_rise : IsStrictlyIncreasing (map (λ x. x.0) (all_patches i.heap set l))
   outer_rise = patches_rise i.heap set l image.heap can pause.made.room
@@ -100,10 +100,10 @@ module _ (i : Image) (set : List ℕ) (p : Plan) (image : IsImage i) (pause : Is
 
     pub paused_sources : AreSources h fates remembered outer inner
     paused_sources = subst (λ x. AreSources x fates remembered outer inner) (sym heap)
-        (are_sources i set l (built i.heap image.heap) has_room fates are remembered outer inner the_remembered outer_are inner_are)
+        (are_sources i set l g fates are remembered outer inner the_remembered outer_are inner_are)
 
     paused_news : (news : List (List ℕ)) → AreJoined h fates remembered outer inner news → news ≡ map (remembered_moved i set l (heap_moved i.heap set l)) (regions i.heap)
-    paused_news news m = remembered_moved_are i set l (built i.heap image.heap) has_room fates are remembered outer inner the_remembered outer_are inner_are news
+    paused_news news m = remembered_moved_are i set l g fates are remembered outer inner the_remembered outer_are inner_are news
         (subst (λ x. AreJoined x fates remembered outer inner news) heap m)
 
     -- the sets after the pause

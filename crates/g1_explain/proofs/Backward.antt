@@ -1,5 +1,5 @@
 -- Each object is found from a root, from a slot outside, or from an object that was found before it.
-use Rattle.std.proofs.Common.{◌≡◌, ℕ, suc, ◌+◌, ◌-◌, ◌<◌, ◌≤◌, ◌⊎◌, inl, inr, true, List, [], ◌∷◌, ◌++◌, length, flat_map, slice_index, Contains, sym, ◌∙◌, ap, subst, arith, append-nil, refl}
+use Rattle.std.proofs.Common.{◌≡◌, ℕ, suc, ◌+◌, ◌-◌, ◌<◌, ◌≤◌, ◌⊎◌, inl, inr, true, List, [], ◌++◌, length, slice_index, Contains, sym, ◌∙◌, ap, subst, arith, append-nil, refl}
 use Rattle.std.proofs.lemmas.Bool.{cases_eq, cases_lt}
 use Rattle.std.proofs.lemmas.List.Elements.{Contains-append_cases, Contains-append_left, Contains-get_or}
 use Rattle.g1_words.specs.Heap.{Heap, word, object_at, slots}

@@ -19,7 +19,7 @@ use Rattle.g1_words.specs.References.{Ref, refs, named, root_targets}
 use Rattle.g1_words.specs.Survivors.{in_set}
 use Rattle.g1_words.specs.Valid.{IsValid}
 use Rattle.g1_words.proofs.Computed.{Contains-range, contains_has}
-use Rattle.g1_words.proofs.Members.{Contains-flat_map, Contains-filter, filter_member, flat_map_cases, has_from_contains, Contains-from_has}
+use Rattle.g1_words.proofs.Members.{Contains-flat_map, Contains-filter, filter_member, flat_map_cases}
 use Rattle.g1_words.proofs.Rising.{told_ref}
 use Rattle.g1_words.proofs.Sound.{sound, object_in}
 use Rattle.g1_words.proofs.Lists.{filter_same_in, all_in, all_from_in}
@@ -31,6 +31,7 @@ use Rattle.g1_rem.specs.Starts.{card_count}
 use Rattle.g1_rem.proofs.Rising.{Rises-filter, Rises-range, Rises-increasing}
 use Rattle.g1_frontier.specs.Window.{AreCards, AreOutside, LeadIn}
 use Rattle.g1_frontier.proofs.Leading.{refined_leads_in}
+use Rattle.g1_frontier.proofs.Marks.{has_one, one_member, only_one}
 use Rattle.g1_copy.proofs.UnnamedFirsts.{first_by_test}
 use Rattle.g1_explain.specs.declared.humongous.Keeper.{Keeper}
 use Rattle.g1_explain.specs.declared.humongous.Keeper.TheVariants.{NoObject, Nothing}
@@ -65,7 +66,7 @@ module _ (h : Heap) (valid : IsValid h) (r : ℕ) (first : is_first (kind h r) �
       let m = flat_map_cases (objects_in h) (regions h) o c in
       let home : region_of h a ≡ m.0 = (sound h valid).in_region m.0 o m.2 in
       let here : Contains (objects_by HumongousFirst h r) o = subst (λ k. Contains (objects_by k h r) o) two (subst (λ q. Contains (objects_in h q) o) (sym home ∙ e) m.2) in
-      elim here [ inl same ↦ sym (ap (λ (x : Object). x.at) same) | inr k ↦ absurd k ]
+      sym (ap (λ (x : Object). x.at) (one_member (object_at h (start h r)) o here))
 
   pub start_there : region_of h (start h r) ≡ r
   start_there = let z : r * h.geometry.w ≡ r * h.geometry.w + 0 = omega arith in ap (region_of h) z ∙ div-mul-add r h.geometry.w 0 (omega (arith, valid.limits.w_least))
@@ -104,7 +105,9 @@ module _ (h : Heap) (valid : IsValid h) (r : ℕ) (first : is_first (kind h r) �
 pub root_objects : (h : Heap) → IsValid h → (l : Lead) → Contains (root_leads h) l → Contains (objects h) (object_at h l.target)
 root_objects h valid l k =
     let t = root_tells h [] l k in
-    let there : Contains (root_targets h) l.target = Contains-flat_map named h.roots (slice_index h.roots t.number) l.target (Contains-get_or h.roots t.number 0 t.below) (subst (λ x. Contains (named x) l.target) (sym t.reads) (zero, omega arith, refl)) in
+    let there : Contains (root_targets h) l.target =
+    Contains-flat_map named h.roots (slice_index h.roots t.number) l.target
+    (Contains-get_or h.roots t.number 0 t.below) (subst (λ x. Contains (named x) l.target) (sym t.reads) (zero, omega arith, refl)) in
     (sound h valid).root_named l.target there
 
 pub found_there : (h : Heap) → IsValid h → (found : List ℕ) → AreObjects h found → (l : Lead) → Contains (found_leads h found (length found)) l → Contains (objects h) (object_at h l.target)
@@ -144,18 +147,14 @@ module _ (h : Heap) (valid : IsValid h) (set : List ℕ) (marks : List Bool) (ar
   outside : AreOutside h window looked
   outside c k = not-true (card_in h window c) (sym (apart_is c) ∙ (filter_member (is_apart h marks r) (cards_where h test) c k).1)
 
-  single : (q : ℕ) → Contains (r ∷ []) q → q ≡ r
-  single q (zero, b, e) = sym e
-  single q (suc j, b, e) = absurd (omega (arith, b))
-
   there : (e : Ref) → Contains (refs h) e → eqb e.target (start h r) ≡ true → in_set h window e.slot ≡ false → Contains looked (card_of h e.slot)
   there e c t out =
       let q : ℕ = region_of h e.slot in
       let card : ℕ = card_of h e.slot in
       let to : region_of h e.target ≡ r = ap (region_of h) (eqb-true e.target (start h r) t) ∙ start_there h valid r first in
-      let into : in_set h (r ∷ []) e.target ≡ true = has_from_contains (r ∷ []) (region_of h e.target) (inl (sym to)) in
+      let into : in_set h (r ∷ []) e.target ≡ true = has_one r (region_of h e.target) to in
       let off : in_set h (r ∷ []) e.slot ≡ false = false_from_ne_true (has (r ∷ []) q) (λ y.
-      let home : q ≡ r = single q (Contains-from_has (r ∷ []) q y) in
+      let home : q ≡ r = only_one r q y in
       let own : (has set q || has (run h r) q) ≡ true = (λ j. has set q || (ap (has (run h r)) home ∙ own_first h valid r first lt) j) ∙ or_true (has set q) in
       false≢true (sym out ∙ outside_both q ∙ own)) in
       let on : Contains (cards_where h test) card = lead.2 e c into off in

@@ -1,5 +1,5 @@
 -- The first references to objects: which they are, and that a search meets them.
-use Rattle.std.proofs.Common.{◌≡◌, ℕ, ◌<◌, inl, inr, Bool, true, false, cond, not, ◌&&◌, ◌||◌, List, [], ◌∷◌, ◌++◌, length, map, filter, slice_index, Contains, zero, suc}
+use Rattle.std.proofs.Common.{◌≡◌, ℕ, ◌<◌, Bool, true, false, cond, not, ◌&&◌, ◌||◌, List, [], ◌∷◌, ◌++◌, length, map, filter, slice_index, Contains, zero, suc}
 use Rattle.std.proofs.Common.{refl, sym, ◌∙◌, ap, subst, arith, append_assoc, append-nil, eqb, eqb-true, eq-eqb, lt-ltb, ltb-true, nat_lt}
 use Rattle.std.specs.Prelude.{if◌then◌else◌}
 use Rattle.std.proofs.lemmas.Bool.{false≢true, and_parts}
@@ -7,7 +7,7 @@ use Rattle.std.proofs.lemmas.List.{length-map, length-append, map-append}
 use Rattle.std.proofs.lemmas.List.Elements.{filter-append, Contains-get_or}
 use Rattle.g1_words.specs.Lists.{has}
 use Rattle.g1_words.specs.Survivors.{firsts}
-use Rattle.g1_words.proofs.Members.{Contains-filter, filter_member, Contains-from_has}
+use Rattle.g1_words.proofs.Members.{Contains-filter, filter_member, Contains-from_has, Contains-later}
 use Rattle.g1_words.proofs.Firsts.{Distinct, Distinct-firsts, Distinct-apart, Contains-firsts}
 use Rattle.g1_words.proofs.Logic.{eqb_sym}
 use Rattle.g1_explain.specs.declared.finder.Finder.{Finder}
@@ -41,14 +41,14 @@ first_member (x ∷ xs) l (suc j, b, e) = let m = first_member xs l (filter_memb
 -- each reference has a first one to its object
 pub some_first : (ls : List Lead) (l : Lead) → Contains ls l → (f : Lead) × Contains (first_leads ls) f × (f.target ≡ l.target)
 some_first [] l k = absurd (omega (arith, k.1))
-some_first (x ∷ xs) l (zero, b, e) = (x, inl refl, ap (λ (y : Lead). y.target) e)
+some_first (x ∷ xs) l (zero, b, e) = (x, (zero, omega arith, refl), ap (λ (y : Lead). y.target) e)
 some_first (x ∷ xs) l (suc j, b, e) = by (eqb x.target l.target) refl (some_first xs l (j, omega (arith, b), e))
   where
     by : (b : Bool) → eqb x.target l.target ≡ b → (f : Lead) × Contains (first_leads xs) f × (f.target ≡ l.target) → (f : Lead) × Contains (first_leads (x ∷ xs)) f × (f.target ≡ l.target)
-    by true e r = (x, inl refl, eqb-true x.target l.target e)
+    by true e r = (x, (zero, omega arith, refl), eqb-true x.target l.target e)
     by false e r =
         let apart : not (eqb x.target r.0.target) ≡ true = ap (λ t. not (eqb x.target t)) r.2 ∙ ap not e in
-        (r.0, inr (Contains-filter (λ y. not (eqb x.target y.target)) (first_leads xs) r.0 r.1 apart), r.2)
+        (r.0, Contains-later x (filter (λ y. not (eqb x.target y.target)) (first_leads xs)) r.0 (Contains-filter (λ y. not (eqb x.target y.target)) (first_leads xs) r.0 r.1 apart), r.2)
 
 -- one reference more
 pub first_snoc : (ls : List Lead) (l : Lead) → first_leads (ls ++ l ∷ []) ≡ first_leads ls ++ cond (has (targets_of ls) l.target) [] (l ∷ [])

@@ -12,6 +12,7 @@ use Rattle.g1_words.proofs.Members.{Contains-filter, Contains-flat_map}
 use Rattle.g1_words.proofs.Ordered.{Ordered}
 use Rattle.g1_same.specs.Path.{Lower, Before}
 use Rattle.g1_same.proofs.Routes.{before_push, before_last}
+use Rattle.g1_same.proofs.First.{before_trans}
 use Rattle.g1_explain.specs.declared.finder.Finder.{Finder}
 use Rattle.g1_explain.specs.declared.finder.Finder.TheVariants.{Root, Card, Object as Slot}
 use Rattle.g1_explain.specs.declared.paths.Leg.{Leg}
@@ -37,21 +38,6 @@ before_not p q (inl l) (inl m) = absurd (omega (arith, l, m))
 before_not p q (inl l) (inr m) = absurd (omega (arith, l, m.0))
 before_not p q (inr l) (inl m) = absurd (omega (arith, l.0, m))
 before_not p q (inr l) (inr m) = lower_not p q l.1 m.1
-
-lower_trans : (p q r : List ℕ) → Lower p q → Lower q r → Lower p r
-lower_trans [] q r l m = absurd l
-lower_trans (x ∷ p) [] r l m = absurd l
-lower_trans (x ∷ p) (y ∷ q) [] l m = absurd m
-lower_trans (x ∷ p) (y ∷ q) (z ∷ r) (inl l) (inl m) = inl (omega (arith, l, m))
-lower_trans (x ∷ p) (y ∷ q) (z ∷ r) (inl l) (inr m) = inl (omega (arith, l, m.0))
-lower_trans (x ∷ p) (y ∷ q) (z ∷ r) (inr l) (inl m) = inl (omega (arith, l.0, m))
-lower_trans (x ∷ p) (y ∷ q) (z ∷ r) (inr l) (inr m) = inr (omega (arith, l.0, m.0), lower_trans p q r l.1 m.1)
-
-before_trans : (p q r : List ℕ) → Before p q → Before q r → Before p r
-before_trans p q r (inl l) (inl m) = inl (omega (arith, l, m))
-before_trans p q r (inl l) (inr m) = inl (omega (arith, l, m.0))
-before_trans p q r (inr l) (inl m) = inl (omega (arith, l.0, m))
-before_trans p q r (inr l) (inr m) = inr (omega (arith, l.0, m.0), lower_trans p q r l.1 m.1)
 
 -- the path is another one or before it
 abbrev pub UpTo : List ℕ → List ℕ → Type 0

@@ -1,5 +1,5 @@
 -- The object that holds a slot, from the one over the first word of its card.
-use Rattle.std.proofs.Common.{◌≡◌, ◌≢◌, ℕ, ◌+◌, ◌*◌, ◌/◌, ◌<◌, ◌≤◌, inl, inr, List, [], ◌∷◌, ◌++◌, length, filter, flat_map, Contains, refl, sym, ◌∙◌, ap, subst, arith, eqb, eq-eqb}
+use Rattle.std.proofs.Common.{◌≡◌, ◌≢◌, ℕ, ◌+◌, ◌*◌, ◌/◌, ◌<◌, ◌≤◌, List, [], ◌∷◌, ◌++◌, length, filter, flat_map, Contains, refl, sym, ◌∙◌, ap, subst, arith, eqb, eq-eqb}
 use Rattle.std.specs.Prelude.{Option, Some, None}
 use Rattle.g1_words.specs.declared.object.Object.{Object}
 use Rattle.g1_words.specs.declared.region.Kind.{Kind}
@@ -19,6 +19,7 @@ use Rattle.g1_rem.specs.Starts.{IsOver, IsStartsOf}
 use Rattle.g1_rem.proofs.Card.{none_on, ordinary_on, alone_on}
 use Rattle.g1_rem.proofs.Entering.{slot_good}
 use Rattle.g1_rem.proofs.Order.{slot_in, object_fits}
+use Rattle.g1_frontier.proofs.Marks.{one_member}
 use Rattle.g1_explain.specs.Keeping.{IsReferring, ReachesHolder}
 use Rattle.g1_explain.proofs.Kept.{slot_there}
 
@@ -87,7 +88,7 @@ module _ (h : Heap) (valid : IsValid h) (c slot : ℕ) (refers : IsReferring h s
   lo = c * h.geometry.k
 
   on : Contains (slots_on h c) slot
-  on = Contains-filter (λ p. eqb (card_of h p) c) (all_slots h) slot (slot_there h valid 0 (record { slot = slot; target = refers.0 }) refers.1).0 (eq-eqb (card_of h slot) c (sym home))
+  on = Contains-filter (λ p. eqb (card_of h p) c) (all_slots h) slot (slot_there h (record { slot = slot; target = refers.0 }) refers.1).0 (eq-eqb (card_of h slot) c (sym home))
 
   no_slot : [] ≡ slots_on h c → ⊥
   no_slot e = subst (λ l. Contains l slot) (sym e) on
@@ -112,7 +113,8 @@ module _ (h : Heap) (valid : IsValid h) (c slot : ℕ) (refers : IsReferring h s
     stands = object_stands h (object_at h a) (a / h.geometry.w) valid (contains_has h (object_at h a) valid.shaped over.0) refl
 
     -- the holder is one of a row of objects of the heap
-    held : (os : List Object) (to : ℕ) → Tiles h.words a os to → ((o : Object) → Contains os o → Contains (objects h) o) → filter (is_between lo (lo + h.geometry.k)) (flat_map slots os) ≡ slots_on h c → ReachesHolder h a slot
+    held : (os : List Object) (to : ℕ) → Tiles h.words a os to → ((o : Object) → Contains os o → Contains (objects h) o)
+        → filter (is_between lo (lo + h.geometry.k)) (flat_map slots os) ≡ slots_on h c → ReachesHolder h a slot
     held os to t ours all =
         let i = (filter_member (is_between lo (lo + h.geometry.k)) (flat_map slots os) slot (subst (λ l. Contains l slot) (sym all) on)).0 in
         let o = flat_map_cases slots os slot i in
@@ -140,7 +142,7 @@ module _ (h : Heap) (valid : IsValid h) (c slot : ℕ) (refers : IsReferring h s
         let it : IsObject h.words (object_at h a) = stands_object (kind h (a / h.geometry.w)) h (a / h.geometry.w) (object_at h a) stands.1 in
         let row : Tiles h.words a (object_at h a ∷ []) (a + (object_at h a).size) = (refl, it, refl) in
         held (object_at h a ∷ []) (a + (object_at h a).size) row
-        (λ o i. elim i [ inl e ↦ subst (Contains (objects h)) e over.0 | inr n ↦ absurd n ]) (q.1 (object_at h a ∷ []) row)
+        (λ o i. subst (Contains (objects h)) (one_member (object_at h a) o i) over.0) (q.1 (object_at h a ∷ []) row)
 
     -- the row from that object reaches the holder
     pub reaches : ReachesHolder h a slot

@@ -8,7 +8,7 @@ use Rattle.g1_words.specs.References.{Ref, refs}
 use Rattle.g1_words.specs.Survivors.{in_set}
 use Rattle.g1_words.specs.Valid.{IsValid}
 use Rattle.g1_words.proofs.Computed.{range_below}
-use Rattle.g1_words.proofs.Members.{filter_member, flat_map_cases, map_cases}
+use Rattle.g1_words.proofs.Members.{filter_member, flat_map_cases, map_cases, none_contains, Contains-later}
 use Rattle.g1_words.proofs.Ordered.{Ordered}
 use Rattle.g1_words.proofs.Rising.{Ordered-append, Ordered-flat_map, Ordered-filter, Ordered-map, Ordered-range, refs_ordered}
 use Rattle.g1_explain.specs.declared.finder.Finder.{Finder}
@@ -41,7 +41,7 @@ lead_tells f (suc a) l (suc j, b, e) = absurd (omega (arith, b))
 
 lead_ordered : (f : Finder) (x : ℕ) → Ordered IsEarlierLead (lead f x)
 lead_ordered f zero = tt
-lead_ordered f (suc a) = ((λ y k. absurd k), tt)
+lead_ordered f (suc a) = ((λ y k. absurd (none_contains y k)), tt)
 
 earlier_along : (f g p q : Finder) → p ≡ f → q ≡ g → Earlier f g → Earlier p q
 earlier_along f g p q e d l = subst (λ z. Earlier z q) (sym e) (subst (λ z. Earlier f z) (sym d) l)
@@ -167,7 +167,8 @@ least (x ∷ xs) o f l (suc k, b, eq) (zero, lt, j) e =
     let t = (filter_member (λ (y : Lead). not (eqb x.target y.target)) (first_leads xs) f (k, omega (arith, b), eq)).1 in
     let same : eqb x.target f.target ≡ true = eq-eqb x.target f.target (ap (λ (z : Lead). z.target) j ∙ sym e) in
     absurd (false≢true (sym (ap not same) ∙ t))
-least (x ∷ xs) o f l (suc k, b, eq) (suc n, lt, same) e = least xs o.1 f l (filter_member (λ (y : Lead). not (eqb x.target y.target)) (first_leads xs) f (k, omega (arith, b), eq)).0 (n, omega (arith, lt), same) e
+least (x ∷ xs) o f l (suc k, b, eq) (suc n, lt, same) e =
+    least xs o.1 f l (filter_member (λ (y : Lead). not (eqb x.target y.target)) (first_leads xs) f (k, omega (arith, b), eq)).0 (n, omega (arith, lt), same) e
 
 pub first_in_order : (ls : List Lead) → Ordered IsEarlierLead ls → Ordered IsEarlierLead (first_leads ls)
 first_in_order [] o = tt
@@ -186,13 +187,15 @@ pub record IsLeadAt (ls : List Lead) (j : ℕ) (l : Lead) : Type 0 where
 
 pub lead_at : (ls : List Lead) (j : ℕ) → j < length ls → (l : Lead) × IsLeadAt ls j l
 lead_at [] j lt = absurd (omega (arith, lt))
-lead_at (x ∷ xs) zero lt = (x, record { there = inl refl; finder = refl; target = refl })
-lead_at (x ∷ xs) (suc j) lt = let r = lead_at xs j (omega (arith, lt)) in (r.0, record { there = inr r.1.there; finder = r.1.finder; target = r.1.target })
+lead_at (x ∷ xs) zero lt = (x, record { there = (zero, omega arith, refl); finder = refl; target = refl })
+lead_at (x ∷ xs) (suc j) lt = let r = lead_at xs j (omega (arith, lt)) in (r.0, record { there = Contains-later x xs r.0 r.1.there; finder = r.1.finder; target = r.1.target })
 
 pub place_in : (ls : List Lead) (l : Lead) → Contains ls l → (j : ℕ) × (j < length ls) × IsLeadAt ls j l
 place_in [] l k = absurd (omega (arith, k.1))
-place_in (x ∷ xs) l (zero, b, e) = (zero, omega arith, record { there = inl e; finder = ap (λ (y : Lead). y.finder) e; target = ap (λ (y : Lead). y.target) e })
-place_in (x ∷ xs) l (suc j, b, e) = let r = place_in xs l (j, omega (arith, b), e) in (suc r.0, omega (arith, r.1), record { there = inr r.2.there; finder = r.2.finder; target = r.2.target })
+place_in (x ∷ xs) l (zero, b, e) = (zero, omega arith, record { there = (zero, omega arith, e); finder = ap (λ (y : Lead). y.finder) e; target = ap (λ (y : Lead). y.target) e })
+place_in (x ∷ xs) l (suc j, b, e) =
+    let r = place_in xs l (j, omega (arith, b), e) in
+    (suc r.0, omega (arith, r.1), record { there = Contains-later x xs l r.2.there; finder = r.2.finder; target = r.2.target })
 
 pub places_in_order : (ls : List Lead) → Ordered IsEarlierLead ls → (i j : ℕ) → i < j → j < length ls → Earlier (finder_at (finders_of ls) i) (finder_at (finders_of ls) j)
 places_in_order [] o i j lt le = absurd (omega (arith, le))

@@ -2,6 +2,7 @@
 use Rattle.std.proofs.Common.{◌≡◌, ◌<◌, ℕ, suc, inl, inr, true, false, List, [], ◌∷◌, Contains, refl, sym, ◌∙◌, ap, subst, Vec, Global}
 use Rattle.std.specs.Prelude.{Option, Some, None, IfSome, IfNone, Result, Ok, Err, IfOk, IfErr}
 use Rattle.std.proofs.lemmas.Bool.{false≢true}
+use Rattle.std.proofs.lemmas.List.Elements.{All-nil}
 use Rattle.g1_words.specs.declared.fault.Fault.{Fault}
 use Rattle.g1_words.specs.declared.fault.Fault.TheVariants.{Memory}
 use Rattle.g1_words.specs.Heap.{Heap, kind, region_of, is_first, object_at, objects}
@@ -11,6 +12,7 @@ use Rattle.g1_words.specs.Valid.{IsValid}
 use Rattle.g1_words.proofs.OneToOne.{reached_object}
 use Rattle.g1_words.proofs.Sound.{sound}
 use Rattle.g1_words.proofs.Lists.{all_from_in}
+use Rattle.g1_words.proofs.Members.{none_contains}
 use Rattle.g1_image.specs.Image.{Image}
 use Rattle.g1_rem.specs.Entries.{uncovered_into, IsEntryFault}
 use Rattle.g1_rem.specs.Starts.{card_count}
@@ -52,8 +54,8 @@ module _ (h : Heap) (valid : IsValid h) (found : List ℕ) (survivors : Survivor
   -- no card has to be looked at where all regions are searched
   pub live_search : IsSearch h (used h) [] found
   live_search = record {
-    rising = record { rise = Rises-increasing 0 [] tt; below = all_from_in (λ x. x < card_count h) [] (λ x k. absurd k) };
-    outside = λ c k. absurd k;
+    rising = record { rise = Rises-increasing 0 [] tt; below = All-nil (λ x. x < card_count h) };
+    outside = λ c k. absurd (none_contains c k);
     lead_in = λ e i t f. absurd (false≢true (sym f ∙ slot_used h valid e i));
     survivors = survivors;
   }

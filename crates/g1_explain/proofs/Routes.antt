@@ -1,6 +1,5 @@
 -- The legs of a route, and the paths that they have.
 use Rattle.std.proofs.Common.{◌≡◌, ℕ, suc, ◌+◌, ◌<◌, inl, inr, false, List, [], ◌∷◌, ◌++◌, length, slice_index, refl, sym, ◌∙◌, ap, subst, arith, Contains}
-use Rattle.std.proofs.lemmas.List.{length_push}
 use Rattle.std.proofs.lemmas.List.Elements.{Contains-append_cases, Contains-get_or}
 use Rattle.g1_words.specs.Heap.{Heap, word, card_of, object_at}
 use Rattle.g1_words.specs.References.{Ref, refs}
@@ -66,7 +65,7 @@ module _ (h : Heap) (set found : List ℕ) (searched : found ≡ targets_of (fir
         (subst (λ g. P (keeping.leg h g a ∷ []) a) (sym is) (subst (λ b. P (keeping.leg h (Card (card_of h e.slot) e.slot) b ∷ []) b) t (card e i out)))
     step f a legs (by_slot m s e lt fit w) r sub =
         subst (λ g. P (legs ++ keeping.leg h g a ∷ []) a) (sym e)
-        (slot legs m (slice_index found m) s a (sub m (ap before e)) (Rattle.g1_words.proofs.Indices.Contains-get_or found m 0 lt) fit w)
+        (slot legs m (slice_index found m) s a (sub m (ap before e)) (Contains-get_or found m 0 lt) fit w)
 
     by_from : (n : ℕ) (legs : List Leg) → IsRoute h found (all_finders h set found) n legs → (j : ℕ) → n ≡ suc j → P legs (slice_index found j)
     by_from n legs none j e = absurd (omega (arith, e))

@@ -1,5 +1,5 @@
 -- The humongous objects that nothing keeps are those that a pause frees.
-use Rattle.std.proofs.Common.{◌≡◌, ℕ, suc, ◌+◌, ◌-◌, ◌*◌, ◌<◌, ◌≤◌, inl, inr, Bool, true, false, not, cond, ◌&&◌, ◌||◌, List, [], ◌∷◌, ◌++◌, length, get_or, map, filter, flat_map, slice_index, Contains, refl, sym, ◌∙◌, ap, subst, arith, eqb, eqb-true, eq-eqb, leb, ltb, leb-true, ltb-true, lt-ltb}
+use Rattle.std.proofs.Common.{◌≡◌, ℕ, suc, ◌+◌, ◌-◌, ◌*◌, ◌<◌, ◌≤◌, inl, inr, Bool, true, false, not, cond, ◌&&◌, ◌||◌, List, [], ◌∷◌, ◌++◌, length, get_or, map, filter, flat_map, slice_index, Contains, refl, sym, ◌∙◌, ap, subst, arith, eqb, eqb-true, eq-eqb, leb, ltb, leb-true, ltb-true, lt-ltb, zero}
 use Rattle.std.specs.Int.{div_ceil}
 use Rattle.std.specs.List.{list_any}
 use Rattle.std.proofs.lemmas.Bool.{cases_lt, false≢true, or_parts, or_from as either, and_from, false_from_ne_true, and_parts, or_cases}
@@ -56,7 +56,7 @@ use Rattle.g1_explain.proofs.Targets.{root_part, found_targets}
 -- a reference is there if there is a first one
 some_lead : (ls : List Lead) → not (is_nothing (first_keeper ls)) ≡ true → (l : Lead) × Contains ls l
 some_lead [] e = absurd (false≢true e)
-some_lead (l ∷ ls) e = (l, inl refl)
+some_lead (l ∷ ls) e = (l, (zero, omega arith, refl))
 
 lead_first : (ls : List Lead) (l : Lead) → Contains ls l → not (is_nothing (first_keeper ls)) ≡ true
 lead_first [] l k = absurd (omega (arith, k.1))
@@ -73,13 +73,13 @@ module _ (i : Image) (set l : List ℕ) (tracked : IsTracked i) (a : HasRoom i.h
   abbrev j : Image
   j = image_moved i set l
 
-  valid : IsBuilt i.heap
+  abbrev valid : IsBuilt i.heap
   valid = built i.heap tracked.image.heap
 
-  s : IsSound i.heap
+  abbrev s : IsSound i.heap
   s = built_is_sound i.heap valid
 
-  moved : IsMoved i set l (image_moved i set l)
+  abbrev moved : IsMoved i set l (image_moved i set l)
   moved = made_is_moved i set l valid a
 
   abbrev f : ℕ → ℕ
@@ -187,7 +187,8 @@ module _ (i : Image) (set l : List ℕ) (tracked : IsTracked i) (a : HasRoom i.h
           ] in
           let there = (word_used h valid r o (q.at + m - at) o_home.0 (omega (arith, low, high))).0 in
           let within : region_of h (q.at + m) < h.geometry.n = subst (λ z. region_of h z < h.geometry.n) same there in
-          has_from_contains (run h r) (region_of h (q.at + m)) (Contains-range r (run_end h r - r) (region_of h (q.at + m)) (omega (arith, home)) (omega (arith, home, few, within, valid.limits.n_most)))
+          has_from_contains (run h r) (region_of h (q.at + m))
+          (Contains-range r (run_end h r - r) (region_of h (q.at + m)) (omega (arith, home)) (omega (arith, home, few, within, valid.limits.n_most)))
 
     -- a reference that counts, by where it leads
     of_roots : Contains (root_targets h) at → (x : Lead) × Contains (leads_to h set l r) x
@@ -241,7 +242,6 @@ module _ (i : Image) (set l : List ℕ) (tracked : IsTracked i) (a : HasRoom i.h
             let reads : word h (m.owner.at + m.m) ≡ suc at = m.word_before ∙ ap suc before in
             elim (kept_cases h set l s a m.owner m.is_kept) [
               | inl y ↦
-                  let c : Contains (objects h) m.owner = y.1 in
                   let fits = kept_refs i set l j valid a moved m.owner m.is_kept in
                   let less : m.m < m.owner.size = omega (arith, fits, m.within) in
                   let place : e.slot ≡ m.owner.at + m.m = m.slot ∙ ap (λ z. z + m.m) (outside_stays h set l s a m.owner.at y.0) in
@@ -249,7 +249,7 @@ module _ (i : Image) (set l : List ℕ) (tracked : IsTracked i) (a : HasRoom i.h
                   ref_of h (record { slot = m.owner.at + m.m; target = at }) (record { owner = m.owner; is_one = y.1; m = m.m; above = m.above; within = m.within; at = refl; names = reads }) in
                   let no_word : has_word o (m.owner.at + m.m) ≡ false = false_from_ne_true (has_word o (m.owner.at + m.m)) (λ z. false≢true (sym (ap not (ap (has_word o) place ∙ z)) ∙ off)) in
                   of_slot (m.owner.at + m.m) ref (window_is (region_of h (m.owner.at + m.m))
-                  ∙ either (in_set h set (m.owner.at + m.m)) (has (run h r) (region_of h (m.owner.at + m.m))) (slot_outside m.owner m.m c less y.0) (own_word m.owner m.m c less ∙ no_word))
+                  ∙ either (in_set h set (m.owner.at + m.m)) (has (run h r) (region_of h (m.owner.at + m.m))) (slot_outside m.owner m.m y.1 less y.0) (own_word m.owner m.m y.1 less ∙ no_word))
               | inr y ↦
                   let word_of : word h (y.0 + m.m) ≡ suc at = ap (λ (q : Object). word h (q.at + m.m)) y.2 ∙ reads in
                   let few : m.m ≤ (object_at h y.0).refs = subst (λ (q : Object). m.m ≤ q.refs) (sym y.2) m.within in
@@ -285,7 +285,8 @@ module _ (i : Image) (set l : List ℕ) (tracked : IsTracked i) (a : HasRoom i.h
       where
         by_root : x.target ≡ at → Contains (root_leads h) x → is_named j.heap o ≡ true
         by_root target y =
-            let n : Contains (root_targets h) at = subst (Contains (root_targets h)) target (subst (λ xs. Contains xs x.target) (root_part h set) (Contains-map (λ (l : Lead). l.target) (root_leads h) x y)) in
+            let n : Contains (root_targets h) at =
+            subst (Contains (root_targets h)) target (subst (λ xs. Contains xs x.target) (root_part h set) (Contains-map (λ (l : Lead). l.target) (root_leads h) x y)) in
             let mapped : Contains (map (forward h l) (root_targets h)) at = subst (Contains (map (forward h l) (root_targets h))) stays (Contains-map (forward h l) (root_targets h) at n) in
             let named : has (root_targets j.heap) at ≡ true = has_from_contains (root_targets j.heap) at (subst (λ xs. Contains xs at) (sym (roots_renamed (forward h l) h.roots)) mapped) in
             ap (λ b. b || list_any (λ e. eqb e.target at && not (has_word o e.slot)) (refs j.heap)) named
@@ -294,15 +295,14 @@ module _ (i : Image) (set l : List ℕ) (tracked : IsTracked i) (a : HasRoom i.h
         by_slot target y =
             let t = slot_tells h (set ++ run h r) x y in
             let w = slot_of h t.ref t.there in
-            let c : Contains (objects h) w.owner = w.is_one in
-            let less : w.m < w.owner.size = omega (arith, s.slots_fit w.owner c, w.within) in
+            let less : w.m < w.owner.size = omega (arith, s.slots_fit w.owner w.is_one, w.within) in
             let both = or_parts (has set (region_of h (w.owner.at + w.m))) (has (run h r) (region_of h (w.owner.at + w.m)))
             (sym (window_is (region_of h (w.owner.at + w.m))) ∙ ap (λ z. has (set ++ run h r) (region_of h z)) (sym w.at) ∙ t.outside) in
-            let out : in_set h set w.owner.at ≡ false = false_from_ne_true (in_set h set w.owner.at) (λ z. false≢true (sym both.0 ∙ slot_home w.owner w.m c less z)) in
+            let out : in_set h set w.owner.at ≡ false = false_from_ne_true (in_set h set w.owner.at) (λ z. false≢true (sym both.0 ∙ slot_home w.owner w.m w.is_one less z)) in
             let place : f w.owner.at ≡ w.owner.at = outside_stays h set l s a w.owner.at out in
             let reads : word h (w.owner.at + w.m) ≡ suc at = ap (word h) (sym w.at) ∙ w.names ∙ ap suc (sym t.target ∙ target) in
             named_by w.owner w.m (kept_outside i set l j s a moved w.owner w.is_one out) w.above w.within reads
-            (ap (λ z. has_word o (z + w.m)) place ∙ sym (own_word w.owner w.m c less) ∙ both.1)
+            (ap (λ z. has_word o (z + w.m)) place ∙ sym (own_word w.owner w.m w.is_one less) ∙ both.1)
 
         by_found : x.target ≡ at → Contains (found_leads h l (length l)) x → is_named j.heap o ≡ true
         by_found target y =
@@ -349,7 +349,8 @@ module _ (i : Image) (set l : List ℕ) (tracked : IsTracked i) (a : HasRoom i.h
   one_region r true lt e =
       let kind_is : kind h r ≡ HumongousFirst = first_by_test (kind h r) e in
       let same_kind : kind j.heap r ≡ HumongousFirst =
-      (humongous_shape i set l j valid a moved r lt (λ z. let clash : HumongousFirst ≡ Free = sym kind_is ∙ z in cc) (λ z. let clash : HumongousFirst ≡ Ordinary = sym kind_is ∙ z in cc)).0 ∙ kind_is in
+      (humongous_shape i set l j valid a moved r lt
+      (λ z. let clash : HumongousFirst ≡ Free = sym kind_is ∙ z in cc) (λ z. let clash : HumongousFirst ≡ Ordinary = sym kind_is ∙ z in cc)).0 ∙ kind_is in
       let stands : objects_in j.heap r ≡ object_at j.heap (start h r) ∷ [] = ap (λ k. objects_by k j.heap r) same_kind in
       let home : region_of h (start h r) ≡ r = there r lt e in
       let first : is_first (kind j.heap (region_of j.heap (start h r))) ≡ true = ap (λ x. is_first (kind j.heap x)) home ∙ ap is_first same_kind in

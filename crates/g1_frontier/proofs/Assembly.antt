@@ -24,7 +24,8 @@ use Rattle.g1_frontier.proofs.Scopes.{all_map}
 abbrev pub RankLess : ℕ × ℕ → ℕ × ℕ → Type 0
 RankLess q r = q.0 < r.0
 
-in_kept_at : (m : Try) (ms ks : List Try) (q : ℕ × ℕ) → (Contains (map pair_of ks) q → Contains (map pair_of ms) q) → (b : Bool) → Contains (map pair_of (cond b (m ∷ ks) ks)) q → Contains (map pair_of (m ∷ ms)) q
+in_kept_at : (m : Try) (ms ks : List Try) (q : ℕ × ℕ) → (Contains (map pair_of ks) q → Contains (map pair_of ms) q)
+    → (b : Bool) → Contains (map pair_of (cond b (m ∷ ks) ks)) q → Contains (map pair_of (m ∷ ms)) q
 in_kept_at m ms ks q f true (zero, b, e) = (zero, omega arith, e)
 in_kept_at m ms ks q f true (suc j, b, e) = let c = f (j, omega (arith, b), e) in (suc c.0, omega (arith, c.1), c.2)
 in_kept_at m ms ks q f false k = let c = f k in (suc c.0, omega (arith, c.1), c.2)

@@ -8,9 +8,11 @@ use Rattle.g1_words.specs.declared.object.Object.{Object}
 use Rattle.g1_words.specs.Heap.{Heap, objects_in, object_at, start, region_of}
 use Rattle.g1_words.specs.Valid.{Tiles, IsValid}
 use Rattle.g1_words.proofs.Sound.{sound}
+use Rattle.g1_words.proofs.Members.{Contains-later}
 use Rattle.g1_rem.proofs.Next.{NextOf}
 use Rattle.g1_rem.proofs.Filled.{Tiles-none, row_front, row_rest, row_step}
 use Rattle.g1_frontier.specs.Numbers.{and_marked, places_from}
+use Rattle.g1_frontier.proofs.Scopes.{Contains-drop}
 
 -- ---- marks
 
@@ -51,10 +53,10 @@ pub mark_listed : (xs : List Bool) (ps : List ℕ) (q : ℕ) → get_or (and_mar
 mark_listed xs [] q e = inl e
 mark_listed xs (p ∷ ps) q e = elim (mark_listed (set xs p true) ps q e) [
   | inl there ↦ elim (cases_eq q p) [
-    | inl is ↦ inr (inl (sym is))
+    | inl is ↦ inr (zero, omega arith, sym is)
     | inr other ↦ inl (sym (get_or-set_other xs p q true false other) ∙ there)
   ]
-  | inr i ↦ inr (inr i)
+  | inr i ↦ inr (Contains-later p ps q i)
 ]
 
 -- ---- the walk over a region's objects
@@ -95,17 +97,12 @@ module _ (h : Heap) (r first at to : ℕ) (old new : List Bool) (valid : IsValid
   marking_within =
       let n = front in
       let there : Contains (drop m.place (objects_in h r)) n.object = subst (λ l. Contains l n.object) (sym n.splits) (zero, omega arith, refl) in
-      let home : region_of h n.object.at ≡ r = (sound h valid).in_region r n.object (in_rest m.place (objects_in h r) n.object there) in
+      let home : region_of h n.object.at ≡ r = (sound h valid).in_region r n.object (Contains-drop m.place (objects_in h r) n.object there) in
       let some : 0 < h.geometry.w = omega (arith, valid.limits.w_least) in
       let e = div-add-mod' n.object.at h.geometry.w in
       let rows : n.object.at / h.geometry.w * h.geometry.w ≡ r * h.geometry.w = ap (λ x. x * h.geometry.w) home in
       let l = mod-lt n.object.at some in
       (omega (arith, e, rows, n.at_is), omega (arith, e, rows, l, n.at_is))
-    where
-      in_rest : (j : ℕ) (xs : List Object) (x : Object) → Contains (drop j xs) x → Contains xs x
-      in_rest zero xs x i = i
-      in_rest (suc j) [] x i = i
-      in_rest (suc j) (y ∷ ys) x i = let m = in_rest j ys x i in (suc m.0, omega (arith, m.1), m.2)
 
   -- it has a word at least
   pub marking_some : (size : ℕ) → size ≡ (object_at h at).size → (0 < size) × (at + size ≤ to)

@@ -2,7 +2,7 @@
 use Rattle.std.proofs.Common.{◌≡◌, ◌≢◌, ℕ, ◌+◌, ◌-◌, ◌<◌, ◌≤◌, ◌^◌, length, true, false, cond, eqb, List, [], ◌∷◌, map, filter, sym, refl, ap, ◌∙◌, subst, arith, zero, suc}
 use Rattle.std.proofs.Common.{Contains, IsPermutation, All, AllPairs, Vec, Global}
 use Rattle.std.specs.List.{flat_map}
-use Rattle.std.proofs.lemmas.List.Sorted.{IsPermutation-sym, IsPermutation-map}
+use Rattle.std.proofs.lemmas.List.Sorted.{IsPermutation-sym, IsPermutation-map, Contains-permutation}
 use Rattle.std.proofs.lemmas.Map.Keys.{IsDistinct-IsPermutation}
 use Rattle.std.proofs.lemmas.Map.Made.{AllPairs-from_IsDistinct, IsDistinct-from_AllPairs}
 use Rattle.std.proofs.lemmas.Bool.Decides.{Decides-eqb}
@@ -23,11 +23,11 @@ use Rattle.g1_frontier.specs.declared.item.Item.{Item}
 use Rattle.g1_frontier.specs.declared.item.Item.TheVariants.{Root, Card, Object}
 use Rattle.g1_frontier.specs.Items.{IsItem, AreRanks, aims, pairs, all_pairs}
 use Rattle.g1_frontier.specs.Numbers.{BeginsIn}
-use Rattle.g1_frontier.proofs.Names.{root_reference, card_reference, object_reference}
+use Rattle.g1_frontier.proofs.Names.{root_reference, card_reference, slot_reference}
 use Rattle.g1_frontier.specs.Offering.{Try, pair_of, answered_true, offer_of}
 use Rattle.g1_frontier.specs.Round.{Rises, AreAbove, bid_of, bid, AddsOffers, winners, HasOffered, IsByRank}
 use Rattle.g1_frontier.proofs.Assembly.{RankLess, in_kept}
-use Rattle.g1_frontier.proofs.Winning.{RanksDiffer, in_permuted, merged_won}
+use Rattle.g1_frontier.proofs.Winning.{RanksDiffer, merged_won}
 use Rattle.g1_frontier.proofs.Merges.{rises_strictly}
 
 pub lists_rise : (vs : List (Vec (ℕ × ℕ) Global)) → All Rises (map (λ v. v.items) vs) → All (λ v. Rises v.items) vs
@@ -64,7 +64,7 @@ pairs_object h window (Card c b) q valid ok i =
     aims_object h window (b + m.0) (word h m.0) q valid (card_reference h valid c m.0 m.1) m.2
 pairs_object h window (Object a b) q valid ok i =
     let m = flat_map_cases (λ p. aims h window (b + (p - (a + 1))) (word h p)) (slots (object_at h a)) q i in
-    aims_object h window (b + (m.0 - (a + 1))) (word h m.0) q valid (object_reference h valid a m.0 ok m.1) m.2
+    aims_object h window (b + (m.0 - (a + 1))) (word h m.0) q valid (slot_reference h valid (object_at h a) m.0 ok m.1) m.2
 
 -- what is offered are objects of the window
 pub all_begin : (h : Heap) (window : List ℕ) (items : List Item) (q : ℕ × ℕ) → IsValid h → All (IsItem h) items → Contains (all_pairs h window items) q → BeginsIn h window q.1
@@ -130,8 +130,8 @@ module _ (t : TableView) (place : ℕ → ℕ) (ps : List (ℕ × ℕ)) (before 
     kept_all = subst (λ l. IsPermutation l merged) o.kept perm
 
     pub merged_from : (q : ℕ × ℕ) → Contains merged q → Contains ps q
-    merged_from q i = in_permuted (map pair_of o.made) ps q o.each (in_kept o.made q
-        (in_permuted merged (map pair_of (filter answered_true o.made)) q (IsPermutation-sym (map pair_of (filter answered_true o.made)) merged kept_all) i))
+    merged_from q i = Contains-permutation (map pair_of o.made) ps q o.each (in_kept o.made q
+        (Contains-permutation merged (map pair_of (filter answered_true o.made)) q (IsPermutation-sym (map pair_of (filter answered_true o.made)) merged kept_all) i))
 
     made_differ : Ordered RankLess ps → Ordered RanksDiffer (map pair_of o.made)
     made_differ risen = differ_permuted ps (map pair_of o.made) (IsPermutation-sym (map pair_of o.made) ps o.each) (rises_differ ps risen)

@@ -17,6 +17,7 @@ use Rattle.g1_image.proofs.Covers.{cards_rise, exact_tells, refined_tells, cover
 use Rattle.g1_rem.specs.Starts.{card_count}
 use Rattle.g1_frontier.specs.Laws.{AreRefinedOf, RefinedLeadIn, RefinedLeadsIn}
 use Rattle.g1_frontier.specs.Window.{AreCards, AreOutside, LeadIn}
+use Rattle.g1_frontier.proofs.Marks.{one_member, only_one}
 
 module _ (i : Image) (good : IsImage i) where
   -- a card of a slot lies in the slot's region
@@ -68,28 +69,20 @@ refined_leads_in i r good covered lt =
     let one : List ℕ = r ∷ [] in
     let are : AreRefinedOf i (r ∷ []) (refined i r) = λ c. (
       (λ k. (
-        (r, inl refl, k),
+        (r, (zero, omega arith, refl), k),
         false_from_ne_true (has (r ∷ []) (c * i.heap.geometry.k / i.heap.geometry.w))
-            (λ t. only c k (Contains-from_has (r ∷ []) (c * i.heap.geometry.k / i.heap.geometry.w) t)),
+            (λ t. refined_elsewhere i good r c lt k (only_one r (c * i.heap.geometry.k / i.heap.geometry.w) t)),
       )),
-      (λ k. subst (λ q. Contains (refined i q) c) (single k.0.0 k.0.1) k.0.2),
+      (λ k. subst (λ q. Contains (refined i q) c) (sym (one_member r k.0.0 k.0.1)) k.0.2),
     ) in
-    let lead = refined_lead_in i (r ∷ []) (refined i r) good covered (all_from_in (λ q. q < i.heap.geometry.n) (r ∷ []) (λ q k. subst (λ z. z < i.heap.geometry.n) (sym (single q k)) lt)) are in (
+    let lead = refined_lead_in i (r ∷ []) (refined i r) good covered (all_from_in (λ q. q < i.heap.geometry.n) (r ∷ []) (λ q k. subst (λ z. z < i.heap.geometry.n) (one_member r q k) lt)) are in (
       record {
         rise = cards_rise i.heap (is_refined i r);
-        below = all_from_in (λ c. c < card_count i.heap) (refined i r) (λ c k. refined_below i good r c k);
+        below = all_from_in (λ c. c < card_count i.heap) (refined i r) (refined_below i good r);
       },
       lead.0,
       lead.1,
     )
-  where
-    single : (q : ℕ) → Contains (r ∷ []) q → q ≡ r
-    single q (zero, b, e) = sym e
-    single q (suc j, b, e) = absurd (omega (arith, b))
-
-    only : (c : ℕ) → Contains (refined i r) c → Contains (r ∷ []) (c * i.heap.geometry.k / i.heap.geometry.w) → ⊥
-    only c k (zero, b, e) = refined_elsewhere i good r c lt k (sym e)
-    only c k (suc j, b, eq) = (j, omega (arith, b), eq)
 
 -- ---- one region's refined set, read from the list of all
 

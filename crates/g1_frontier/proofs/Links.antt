@@ -1,5 +1,5 @@
 -- From the least rank at each place to first occurrences.
-use Rattle.std.proofs.Common.{◌≡◌, ℕ, suc, ◌<◌, ◌≤◌, inl, inr, Bool, true, false, cond, not, ◌&&◌, ◌||◌, min, List, [], ◌∷◌, ◌++◌, map, filter, refl, sym, ◌∙◌, ap, arith, eqb, Contains, zero}
+use Rattle.std.proofs.Common.{◌≡◌, ℕ, suc, ◌<◌, ◌≤◌, Bool, true, false, cond, not, ◌&&◌, ◌||◌, min, List, [], ◌∷◌, ◌++◌, map, filter, refl, sym, ◌∙◌, ap, arith, eqb, Contains, zero}
 use Rattle.std.proofs.Common.{eq-eqb, ne_eqb, append_assoc, true≢false, IsPermutation}
 use Rattle.std.specs.List.{All}
 use Rattle.std.proofs.lemmas.List.Elements.{All-cons, All-nil}
@@ -8,7 +8,7 @@ use Rattle.g1_claim.specs.declared.rule.Offer.{Offer}
 use Rattle.g1_claim.specs.Claims.{empty, least_rank}
 use Rattle.g1_words.specs.Lists.{has}
 use Rattle.g1_words.specs.Survivors.{firsts}
-use Rattle.g1_words.proofs.Members.{has_from_contains, Contains-from_has}
+use Rattle.g1_words.proofs.Members.{has_from_contains, Contains-from_has, Contains-later}
 use Rattle.g1_words.proofs.Firsts.{filter_twice, filter-same}
 use Rattle.g1_words.proofs.Logic.{eqb_sym}
 use Rattle.g1_words.proofs.Lists.{has_more}
@@ -53,8 +53,8 @@ least_append p (i ∷ is) js = let r = least_append p is js in omega (arith, r)
 none_there : (p : ℕ) (is : List (ℕ × ℕ)) → (Contains (map place_of is) p → ⊥) → least_bid p is ≡ empty
 none_there p [] h = refl
 none_there p (i ∷ is) h =
-    let r = none_there p is (λ k. h (inr k)) in
-    let e : ◌≡◌ {A = ℕ} (cond (eqb i.0 p) i.1 empty) empty = ap (λ b. cond b i.1 empty) (ne_eqb i.0 p (λ k. h (inl k))) in
+    let r = none_there p is (λ k. h (Contains-later (place_of i) (map place_of is) p k)) in
+    let e : ◌≡◌ {A = ℕ} (cond (eqb i.0 p) i.1 empty) empty = ap (λ b. cond b i.1 empty) (ne_eqb i.0 p (λ k. h (zero, omega arith, k))) in
     omega (arith, r, e)
 
 -- a place that stands in a list of ranks below m has a rank below m there

@@ -93,7 +93,8 @@ module _ (place : ℕ → ℕ) where
         (λ l i.
         let low = all_in (λ l. l.1 ≤ least_in (place l.0.1) s.seen) h.looks l h.low i in
         let less = later_is_less (place l.0.1) known s.seen begins in
-        let there : Contains t.hand.sights (sight_of place l) = subst (λ ss. Contains ss (sight_of place l)) (sym h.sights) (Contains-append_right s.hand.sights (map (sight_of place) h.looks) (sight_of place l) (Contains-map (sight_of place) h.looks l i)) in
+        let there : Contains t.hand.sights (sight_of place l) =
+        subst (λ ss. Contains ss (sight_of place l)) (sym h.sights) (Contains-append_right s.hand.sights (map (sight_of place) h.looks) (sight_of place l) (Contains-map (sight_of place) h.looks l i)) in
         word_is_least (place l.0.1) l.1 os known are (omega (arith, low, less)) (won (sight_of place l) there))
         ∙ ap (winners place os) h.each
 

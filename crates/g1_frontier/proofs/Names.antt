@@ -42,9 +42,6 @@ module _ (h : Heap) (valid : IsValid h) where
   slot_reference o p i j =
       valid.slots o p (contains_has h o valid.shaped i) (omega (arith, range_above (o.at + 1) o.refs p j), omega (arith, range_below (o.at + 1) o.refs p j))
 
-  pub object_reference : (a p : ℕ) → Contains (objects h) (object_at h a) → Contains (slots (object_at h a)) p → IsReference h (word h p)
-  object_reference a p c i = slot_reference (object_at h a) p c i
-
   -- and a slot on a card
   pub card_reference : (c p : ℕ) → Contains (slots_on h c) p → IsReference h (word h p)
   card_reference c p i =

@@ -12,7 +12,8 @@ use Rattle.g1_words.specs.Valid.{IsValid}
 use Rattle.g1_words.proofs.Computed.{has_contains, in_region_has, Contains-range, range_below}
 use Rattle.g1_words.proofs.Members.{Contains-map, map_cases, Contains-flat_map, flat_map_cases, Contains-from_has}
 use Rattle.g1_words.proofs.Sound.{sound, has_is}
-use Rattle.g1_frontier.specs.Numbers.{BeginsIn, IsNumbering, AreStarts, number_at, and_marked, places_from}
+use Rattle.g1_words.specs.Numbers.{number_at}
+use Rattle.g1_frontier.specs.Numbers.{BeginsIn, IsNumbering, AreStarts, and_marked, places_from}
 use Rattle.g1_words.specs.Geometry.{most_words}
 use Rattle.g1_words.proofs.Lists.{range_push, same_there, all_in}
 use Rattle.g1_rem.specs.Starts.{IsStartsOf}
@@ -22,7 +23,7 @@ use Rattle.g1_frontier.specs.declared.scope.Scope.{Scope}
 use Rattle.g1_frontier.specs.Scope.{IsScope, Covers, count_by_numbering, place_by}
 use Rattle.g1_frontier.specs.Window.{AreRegions, AreWindowPositions, place, position}
 use Rattle.g1_frontier.proofs.Begins.{length-marked, listed_mark, mark_listed, marked_append}
-use Rattle.g1_frontier.proofs.Counts.{number_rises, number_apart}
+use Rattle.g1_words.proofs.Numbering.{number_rises, number_apart}
 use Rattle.g1_frontier.proofs.Places.{stands, read_at, place_below, place_apart}
 use Rattle.g1_frontier.proofs.Positions.{offset_is}
 
@@ -79,10 +80,9 @@ module _ (h : Heap) (window : List ℕ) (valid : IsValid h) (rising : AreRegions
       let f : Object → ℕ = λ o. n * h.geometry.w + (o.at - start h (get_or window n 0)) in
       let q = map_cases f (objects_in h r) p m.2 in
       let o : Object = q.0 in
-      let c = q.1 in
-      let home : o.at / w ≡ r = (sound h valid).in_region r o c in
+      let home : o.at / w ≡ r = (sound h valid).in_region r o q.1 in
       let low : r < h.geometry.n = all_in (λ x. x < h.geometry.n) window r rising.below (Contains-get_or window n 0 lt) in
-      let has_it = in_region_has h r o valid.shaped low c in
+      let has_it = in_region_has h r o valid.shaped low q.1 in
       let at = read_at window r n rising.rise lt refl in
       let spot : place h window o.at ≡ f o =
       ap (λ x. position window x * w + o.at % w) home ∙ ap (λ x. x * w + o.at % w) (sym at.1) ∙ ap (λ x. n * w + x) (sym (offset_is w o.at).1) ∙ ap (λ x. n * w + (o.at - x * w)) home in

@@ -1,5 +1,5 @@
 -- The bits of the parts of a window that follow one another, joined.
-use Rattle.std.proofs.Common.{◌≡◌, ◌≤◌, ◌<◌, ◌==◌, ℕ, zero, suc, ◌+◌, ◌-◌, ◌*◌, ◌/◌, ◌%◌, ◌^◌, inl, inr, ◌⊎◌, Bool, true, false, cond, List, [], ◌∷◌, ◌++◌, flat_map, take, drop, length, slice_index, get_or, Contains}
+use Rattle.std.proofs.Common.{◌≡◌, ◌≤◌, ◌<◌, ◌==◌, ℕ, zero, suc, ◌+◌, ◌-◌, ◌*◌, ◌/◌, ◌%◌, ◌^◌, inl, inr, Bool, true, false, cond, List, [], ◌∷◌, ◌++◌, flat_map, take, drop, length, slice_index, get_or, Contains}
 use Rattle.std.proofs.Common.{refl, sym, ap, ◌∙◌, subst, arith, min, eqb, eq-eqb, ne_eqb, pow-add, true≢false, append-nil}
 use Rattle.std.specs.Global.{Vec}
 use Rattle.std.specs.Int.{bit_at}
@@ -9,7 +9,7 @@ use Rattle.std.proofs.lemmas.Bool.{cases_lt}
 use Rattle.std.proofs.lemmas.List.{get_or_append_left, get_or-append_right, length-append, same_lists, take-append-drop, take_all, drop_all, drop-drop, get_or-take, get_or-drop, get_or-append-add, length-take, length-drop, length-take-le}
 use Rattle.std.proofs.lemmas.List.Kept.{AllPairs-from_increasing}
 use Rattle.std.proofs.Math.Pow.{pow-lt}
-use Rattle.std.proofs.lemmas.List.Elements.{All-take, All-drop}
+use Rattle.std.proofs.lemmas.List.Elements.{All-take, All-drop, Contains-append_left, Contains-append_right, Contains-append_cases}
 use native.Mathlib.Decide.{ℕ_discrete}
 use Rattle.g1_words.specs.Geometry.{IsWithinBounds, most_words}
 use Rattle.g1_words.specs.Heap.{Heap}
@@ -17,7 +17,7 @@ use Rattle.g1_words.specs.Lists.{has}
 use Rattle.g1_words.specs.Marks.{marks_of}
 use Rattle.g1_words.specs.Valid.{IsValid}
 use Rattle.g1_words.proofs.Bits.{length-marks_of, mark_of}
-use Rattle.g1_words.proofs.Members.{has_from_contains, Contains-from_has}
+use Rattle.g1_words.proofs.Members.{has_from_contains, Contains-from_has, Contains-later, cons_cases, none_contains}
 use Rattle.g1_words.proofs.Ordered.{Ordered, Ordered-from_pairs}
 use Rattle.g1_work.specs.Regions.{slice_of}
 use Rattle.g1_frontier.specs.Numbers.{BeginsIn, AreStarts, AreBits}
@@ -58,30 +58,15 @@ marks_append xs ys =
 -- ---- windows
 
 has_first : (xs ys : List ℕ) (r : ℕ) → Contains xs r → has (xs ++ ys) r ≡ true
-has_first xs ys r i = has_from_contains (xs ++ ys) r (first xs i)
-  where
-    first : (zs : List ℕ) → Contains zs r → Contains (zs ++ ys) r
-    first [] k = absurd (omega (arith, k.1))
-    first (z ∷ zs) (zero, b, e) = (zero, omega arith, e)
-    first (z ∷ zs) (suc j, b, e) = let m = first zs (j, omega (arith, b), e) in (suc m.0, omega (arith, m.1), m.2)
+has_first xs ys r i = has_from_contains (xs ++ ys) r (Contains-append_left xs ys r i)
 
 has_second : (xs ys : List ℕ) (r : ℕ) → Contains ys r → has (xs ++ ys) r ≡ true
-has_second xs ys r i = has_from_contains (xs ++ ys) r (second xs)
-  where
-    second : (zs : List ℕ) → Contains (zs ++ ys) r
-    second [] = i
-    second (z ∷ zs) = let m = second zs in (suc m.0, omega (arith, m.1), m.2)
+has_second xs ys r i = has_from_contains (xs ++ ys) r (Contains-append_right xs ys r i)
 
--- a region of a joined window is in one of the two
-in_either : (xs ys : List ℕ) (r : ℕ) → Contains (xs ++ ys) r → Contains xs r ⊎ Contains ys r
-in_either [] ys r i = inr i
-in_either (x ∷ xs) ys r (zero, b, e) = inl (inl e)
-in_either (x ∷ xs) ys r (suc j, b, e) = elim (in_either xs ys r (j, omega (arith, b), e)) [ inl i ↦ inl (inr i) | inr i ↦ inr i ]
-
--- and not in both, if the regions rise
+-- a region of a joined window is not in both, if the regions rise
 not_both : (xs ys : List ℕ) (r : ℕ) → Ordered (λ x y. x < y) (xs ++ ys) → Contains xs r → Contains ys r → ⊥
-not_both [] ys r o i j = i
-not_both (x ∷ xs) ys r o (zero, b, e) j = let k = o.0 r (Contains-from_has (xs ++ ys) r (has_second xs ys r j)) in omega (arith, k, e)
+not_both [] ys r o i j = none_contains r i
+not_both (x ∷ xs) ys r o (zero, b, e) j = let k = o.0 r (Contains-append_right xs ys r j) in omega (arith, k, e)
 not_both (x ∷ xs) ys r o (suc k, b, e) j = not_both xs ys r o.1 (k, omega (arith, b), e) j
 
 -- a region of the first window stands where it stood
@@ -89,7 +74,7 @@ position_first : (xs ys : List ℕ) (r : ℕ) → Contains xs r → position (xs
 position_first [] ys r i = absurd (omega (arith, i.1))
 position_first (x ∷ xs) ys r i = elim (ℕ_discrete x r) [
   | yes e ↦ ap (λ b. cond b 0 (position (xs ++ ys) r + 1)) (eq-eqb x r e) ∙ sym (ap (λ b. cond b 0 (position xs r + 1)) (eq-eqb x r e))
-  | no d ↦ elim i [
+  | no d ↦ elim (cons_cases x xs r i) [
     | inl e ↦ absurd (d e)
     | inr k ↦ ap (λ n. cond (eqb x r) 0 (n + 1)) (position_first xs ys r k)
   ]
@@ -99,8 +84,8 @@ position_first (x ∷ xs) ys r i = elim (ℕ_discrete x r) [
 position_second : (xs ys : List ℕ) (r : ℕ) → (Contains xs r → ⊥) → position (xs ++ ys) r ≡ length xs + position ys r
 position_second [] ys r out = omega arith
 position_second (x ∷ xs) ys r out =
-    let rest = position_second xs ys r (λ k. out (inr k)) in
-    ap (λ b. cond b 0 (position (xs ++ ys) r + 1)) (ne_eqb x r (λ e. out (inl e))) ∙ (omega (arith, rest))
+    let rest = position_second xs ys r (λ k. out (Contains-later x xs r k)) in
+    ap (λ b. cond b 0 (position (xs ++ ys) r + 1)) (ne_eqb x r (λ e. out (zero, omega arith, e))) ∙ omega (arith, rest)
 
 -- ---- starts
 
@@ -142,7 +127,7 @@ module _ (h : Heap) (xs ys : List ℕ) (some : 0 < h.geometry.w) (rising : AreRe
           ap (λ p. get_or (s ++ t) p false) (place_first a i) ∙ get_or_append_left s t false (place h xs a) (omega (arith, low, exact)) ∙ first.each a (e, b.1)
       at_region a false e b =
           let out : Contains xs (a / w) → ⊥ = λ k. true≢false (sym (has_from_contains xs (a / w) k) ∙ e) in
-          let i : Contains ys (a / w) = elim (in_either xs ys (a / w) (Contains-from_has (xs ++ ys) (a / w) b.0)) [ inl k ↦ absurd (out k) | inr k ↦ k ] in
+          let i : Contains ys (a / w) = elim (Contains-append_cases xs ys (a / w) (Contains-from_has (xs ++ ys) (a / w) b.0)) [ inl k ↦ absurd (out k) | inr k ↦ k ] in
           let behind : place h (xs ++ ys) a ≡ length s + place h ys a = (let e = place_second a out in omega (arith, e, exact)) in
           ap (λ p. get_or (s ++ t) p false) behind ∙ get_or-append-add s t (place h ys a) false ∙ second.each a (has_from_contains ys (a / w) i, b.1)
 

@@ -5,11 +5,10 @@ use Rattle.std.proofs.lemmas.List.{drop-drop, take_rest, take_min, map-append}
 use Rattle.std.proofs.lemmas.List.Concat.{flat_map-append}
 use Rattle.std.proofs.lemmas.Nat.{div-add-mod'}
 use Rattle.std.proofs.Math.Nat.{mod-lt, mul-le-mul_right, mul-le-mul_left}
-use Rattle.std.proofs.lemmas.List.Elements.{Contains-append_left}
-use Rattle.std.proofs.lemmas.List.Elements.{Contains-append_right}
+use Rattle.std.proofs.lemmas.List.Elements.{Contains-append_left, Contains-append_right}
 use native.Mathlib.Decide.{dec_le}
 use Rattle.g1_work.specs.Each.{RisesBelow, chunks_of}
-use Rattle.g1_words.proofs.Members.{Contains-flat_map, flat_map_cases}
+use Rattle.g1_words.proofs.Members.{Contains-flat_map, flat_map_cases, cons_cases, none_contains}
 use Rattle.g1_words.proofs.Ordered.{Ordered}
 use Rattle.g1_words.proofs.Rising.{Ordered-flat_map}
 use Rattle.g1_words.proofs.Indices.{taken_in}
@@ -101,12 +100,12 @@ module _ {A B O : Type 0} (f : A → B) (items : O → List B) (size : ℕ) (xs 
 -- ---- pieces in order
 
 Ordered-apart : {B : Type 0} (R : B → B → Type 0) (xs ys : List B) → Ordered R (xs ++ ys) → Ordered R xs × Ordered R ys × ((x y : B) → Contains xs x → Contains ys y → R x y)
-Ordered-apart R [] ys o = (tt, o, (λ x y i j. absurd i))
+Ordered-apart R [] ys o = (tt, o, (λ x y i j. absurd (none_contains x i)))
 Ordered-apart {B} R (x ∷ xs) ys o =
     let r = Ordered-apart R xs ys o.1 in (
-      ((λ y i. o.0 y (Rattle.g1_words.proofs.Members.Contains-append_left xs ys y i)), r.0),
+      ((λ y i. o.0 y (Contains-append_left xs ys y i)), r.0),
       r.1,
-      (λ z y i j. elim i [ inl e ↦ subst (λ w. R w y) e (o.0 y (Rattle.g1_words.proofs.Members.Contains-append_right xs ys y j)) | inr k ↦ r.2 z y k j ]),
+      (λ z y i j. elim (cons_cases x xs z i) [ inl e ↦ subst (λ w. R w y) e (o.0 y (Contains-append_right xs ys y j)) | inr k ↦ r.2 z y k j ]),
     )
 
 early : {A : Type 0} (m n l : ℕ) (xs : List A) (x : A) → n + m ≤ l → Contains (take m (drop n xs)) x → Contains (take l xs) x
@@ -121,10 +120,10 @@ early (suc m) (suc n) (suc l) (y ∷ ys) x le i = let c = early (suc m) n l ys x
 
 chunks_ordered : {O : Type 0} (n : ℕ) (xs : List (ℕ × O)) → RisesBelow n (chunks_of xs) → Ordered (λ x y. x.0 < y.0) xs
 chunks_ordered n [] r = tt
-chunks_ordered n (x ∷ []) r = ((λ y i. absurd i), tt)
+chunks_ordered n (x ∷ []) r = ((λ y i. absurd (none_contains y i)), tt)
 chunks_ordered {O} n (x ∷ y ∷ ys) r =
     let rest = chunks_ordered n (y ∷ ys) r.1 in
-    ((λ z i. elim i [ inl e ↦ let k : y.0 ≡ z.0 = ap (λ (q : ℕ × O). q.0) e in omega (arith, r.0, k) | inr j ↦ let k = rest.0 z j in omega (arith, r.0, k) ]), rest)
+    ((λ z i. elim (cons_cases y ys z i) [ inl e ↦ let k : y.0 ≡ z.0 = ap (λ (q : ℕ × O). q.0) e in omega (arith, r.0, k) | inr j ↦ let k = rest.0 z j in omega (arith, r.0, k) ]), rest)
 
 module _ {A B : Type 0} (R : B → B → Type 0) (f : A → List B) (size : ℕ) (xs : List A) (o : Ordered R (flat_map f xs)) where
   cut : (n : ℕ) → Ordered R (flat_map f (take n xs)) × Ordered R (flat_map f (drop n xs)) × ((x y : B) → Contains (flat_map f (take n xs)) x → Contains (flat_map f (drop n xs)) y → R x y)

@@ -20,6 +20,7 @@ use Rattle.g1_words.proofs.Members.{flat_map_cases}
 use Rattle.g1_words.proofs.OneToOne.{reached_object}
 use Rattle.g1_words.proofs.Sound.{sound}
 use Rattle.g1_words.proofs.Lists.{has_more, same_there, all_from_in}
+use Rattle.g1_words.proofs.Indices.{taken_in}
 use Rattle.g1_rem.specs.Slots.{slots_on}
 use Rattle.g1_frontier.specs.declared.queue.Queue.{Queue}
 use Rattle.g1_frontier.specs.declared.scope.Scope.{Scope}
@@ -32,10 +33,10 @@ use Rattle.g1_frontier.proofs.Finding.{same_test}
 use Rattle.g1_frontier.proofs.Marks.{firsts_again, firsts_more}
 use Rattle.g1_frontier.proofs.Places.{past_regions}
 use Rattle.g1_frontier.proofs.Names.{size_small}
-use Rattle.g1_frontier.proofs.Scopes.{apart, below, some_words, all_of_map}
+use Rattle.g1_frontier.proofs.Scopes.{apart, below, some_words, all_of_map, Contains-drop}
 use Rattle.g1_frontier.proofs.Searching.{distinct_few}
 use Rattle.g1_frontier.proofs.Seeds.{filter_flat, flat_same, leads_named, seeds_named}
-use Rattle.g1_frontier.proofs.Turns.{take_longer, take_parts, in_front, in_rest, ends}
+use Rattle.g1_frontier.proofs.Turns.{take_longer, take_parts, ends}
 use mathlib.Core.List.{map-map}
 
 -- ---- first occurrences
@@ -92,7 +93,7 @@ module _ (s : Scope) (ok : IsScope s) where
   pub found_small : (q : Queue) → HasFound s q → length q.found.items ≤ most_words
   found_small q f =
       let found : List ℕ = q.found.items in
-      let in_window : (a : ℕ) → Contains found a → inside s a ≡ true = λ a i. let c = i in subst (λ b. inside s b ≡ true) c.2 (f.within c.0 a c.1) in
+      let in_window : (a : ℕ) → Contains found a → inside s a ≡ true = λ a i. subst (λ b. inside s b ≡ true) i.2 (f.within i.0 a i.1) in
       let few = distinct_few found (s.heap.now.geometry.n * s.heap.now.geometry.w) (subst Distinct (sym f.once) (Distinct-firsts found)) (λ a i. inside_below a (in_window a i)) in
       omega (arith, few, ok.valid.limits.words_most)
 
@@ -194,7 +195,7 @@ module _ (s : Scope) (ok : IsScope s) where
     batch = take n (drop from a.found.items)
 
     batch_reached : (c : ℕ) → Contains (take n (drop from a.found.items)) c → Reached (seeds s.heap.now s.window.now) (children s.heap.now s.window.now) c
-    batch_reached c i = u.reached c (in_rest from a.found.items c (in_front n (drop from a.found.items) c i))
+    batch_reached c i = u.reached c (Contains-drop from a.found.items c (taken_in n (drop from a.found.items) c i))
 
     -- they are objects
     pub batch_objects : All (λ c. Contains (objects s.heap.now) (object_at s.heap.now c)) (take n (drop from a.found.items))
@@ -260,4 +261,4 @@ module _ (s : Scope) (ok : IsScope s) where
 
   -- all are searched
   pub searched : (from : ℕ) (q : Queue) → IsUnderWay s from q → length q.found.items ≤ from → Survivors s.heap.now s.window.now q.found.items
-  searched from q u le = ends first_seeds next_of q.found.items from le u.in_order (λ a i. u.reached a i)
+  searched from q u le = ends first_seeds next_of q.found.items from le u.in_order u.reached

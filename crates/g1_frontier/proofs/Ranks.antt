@@ -12,7 +12,7 @@ use Rattle.g1_words.specs.Heap.{Heap, word, slots, object_at, card_of}
 use Rattle.g1_words.specs.References.{named}
 use Rattle.g1_words.specs.Survivors.{in_set, children, seeds}
 use Rattle.g1_words.specs.Valid.{IsValid}
-use Rattle.g1_words.proofs.Members.{map_cases, flat_map_cases}
+use Rattle.g1_words.proofs.Members.{map_cases, flat_map_cases, Contains-later, none_contains}
 use Rattle.g1_words.proofs.Ordered.{Ordered, Ordered-from_pairs}
 use Rattle.g1_words.proofs.Rising.{Ordered-append, Ordered-flat_map, Ordered-filter, Ordered-range}
 use Rattle.g1_words.proofs.Computed.{range_above, range_below}
@@ -32,7 +32,7 @@ module _ (h : Heap) (window : List ℕ) where
   aims_rank rank x q i = let m = map_cases (λ a. (rank, a)) (filter (in_set h window) (named x)) q i in sym (ap (λ (r : ℕ × ℕ). r.0) m.2)
 
   aims_ordered_at : (rank a : ℕ) (b : Bool) → Ordered RankLess (map (λ a. (rank, a)) (cond b (a ∷ []) []))
-  aims_ordered_at rank a true = ((λ y i. absurd i), tt)
+  aims_ordered_at rank a true = ((λ y i. absurd (none_contains y i)), tt)
   aims_ordered_at rank a false = tt
 
   aims_ordered : (rank x : ℕ) → Ordered RankLess (aims h window rank x)
@@ -107,8 +107,8 @@ module _ (h : Heap) (window : List ℕ) where
 
   pub objects_some : (base : ℕ) (all_of : List ℕ) (i : Item) → Contains (object_items h base all_of) i → (a : ℕ) × (b : ℕ) × Contains all_of a × (Object a b ≡ i)
   objects_some base [] i k = absurd (omega (arith, k.1))
-  objects_some base (a ∷ rest) i (zero, b, e) = (a, base, inl refl, e)
-  objects_some base (a ∷ rest) i (suc j, b, e) = let m = objects_some (base + slot_count h a) rest i (j, omega (arith, b), e) in (m.0, m.1, inr m.2, m.3)
+  objects_some base (a ∷ rest) i (zero, b, e) = (a, base, (zero, omega arith, refl), e)
+  objects_some base (a ∷ rest) i (suc j, b, e) = let m = objects_some (base + slot_count h a) rest i (j, omega (arith, b), e) in (m.0, m.1, Contains-later a rest m.0 m.2, m.3)
 
   pub objects_count : (base : ℕ) (all_of : List ℕ) → length (object_items h base all_of) ≡ length all_of
   objects_count base [] = refl
@@ -163,11 +163,11 @@ module _ (h : Heap) (window : List ℕ) where
         (Ordered-flat_map (λ x y. x < y) RankLess (λ c. flat_map (λ p. aims h window (base + p) (word h p)) (slots_on h c)) cards
         (Ordered-from_pairs (λ x y. x < y) cards (AllPairs-from_increasing cards rising.rise))
         (λ c i. aimed_ordered (λ p. base + p) (word h) (slots_on h c) (shifted (slots_on h c)
-        (Ordered-filter (λ x y. x < y) (λ p. eqb (card_of h p) c) (all_slots h) (slots_ordered h window cards valid rising outside lead_in))))
+        (Ordered-filter (λ x y. x < y) (λ p. eqb (card_of h p) c) (all_slots h) (slots_ordered h valid))))
         (λ c d a b i j lt k l.
         let m = card_rank c a k in
         let n = card_rank d b l in
-        let less = apart h window cards valid rising outside lead_in c d m.0 n.0 lt m.1 n.1 in
+        let less = apart h valid c d m.0 n.0 lt m.1 n.1 in
         let e = m.2 in let f = n.2 in omega (arith, less, e, f)))
 
     cards_range : (q : ℕ × ℕ) → Contains (all_pairs h window (map (λ c. Card c base) cards)) q → (base ≤ q.0) × (q.0 < base + length h.words)
@@ -199,7 +199,8 @@ module _ (h : Heap) (window : List ℕ) where
         (λ q r i j. let a = roots_rank (length h.roots) q i in let b = cards_range valid cards rising outside lead_in (length h.roots) r j in omega (arith, a, b.0)))
 
     pub first_range : (q : ℕ × ℕ) → Contains (all_pairs h window (first_items (length h.roots) cards)) q → q.0 < length h.roots + length h.words
-    first_range q i = elim (Contains-append_cases (all_pairs h window (root_items (length h.roots))) (all_pairs h window (map (λ c. Card c (length h.roots)) cards)) q (subst (λ l. Contains l q) split i)) [
+    first_range q i = elim (Contains-append_cases (all_pairs h window (root_items (length h.roots))) (all_pairs h window (map (λ c. Card c (length h.roots)) cards)) q
+        (subst (λ l. Contains l q) split i)) [
       | inl k ↦ let a = roots_rank (length h.roots) q k in omega (arith, a)
       | inr k ↦ (cards_range valid cards rising outside lead_in (length h.roots) q k).1
     ]

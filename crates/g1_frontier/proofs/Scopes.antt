@@ -37,14 +37,10 @@ pub read : {A : Type 0} (xs : List A) (i j : ℕ) (o v d : A) → i ≡ j → j 
 read xs i j o v d same lt e f = get_or_default xs j d o lt ∙ ap (λ k. get_or xs k o) (sym same) ∙ sym e ∙ f
 
 pub all_map : {A B : Type 0} (P : B → Type 0) (f : A → B) (xs : List A) → ((x : A) → Contains xs x → P (f x)) → All P (map f xs)
-all_map P f xs h = all_from_in P (map f xs) (λ y i. let m = Rattle.g1_words.proofs.Members.map_cases f xs y i in subst P m.2 (h m.0 m.1))
+all_map P f xs h = all_from_in P (map f xs) (λ y i. let m = map_cases f xs y i in subst P m.2 (h m.0 m.1))
 
 pub all_of_map : {A B : Type 0} (P : B → Type 0) (f : A → B) (xs : List A) → All (λ x. P (f x)) xs → All P (map f xs)
 all_of_map P f xs h = all_map P f xs (λ x i. all_in (λ x. P (f x)) xs x h i)
-
--- a list among those that were put together
-pub part_all : {A : Type 0} (P : ℕ → Type 0) (f : A → List ℕ) (xs : List A) (x : A) → All P (flat_map f xs) → Contains xs x → All P (f x)
-part_all P f xs x h i = all_from_in P (f x) (λ y j. all_in P (flat_map f xs) y h (Contains-flat_map f xs x y i j))
 
 -- what holds of lists that were put together holds of each
 pub all_part : {A B : Type 0} (P : B → Type 0) (f : A → List B) (xs : List A) (x : A) → All P (flat_map f xs) → Contains xs x → All P (f x)

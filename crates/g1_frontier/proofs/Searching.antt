@@ -40,8 +40,8 @@ use Rattle.g1_frontier.proofs.Names.{object_in_words}
 use Rattle.g1_frontier.proofs.Claimed.{all_begin}
 use Rattle.g1_frontier.specs.Numbers.{BeginsIn, IsNumbering}
 use Rattle.g1_frontier.proofs.Ranks.{objects_range, objects_rise, objects_name, objects_some, objects_count, first_rise, first_range, first_name}
-use Rattle.g1_frontier.proofs.Scopes.{all_map, rising_few}
-use Rattle.g1_frontier.proofs.Turns.{length_rest, take_front, in_rest, begins, begins_reached, turn, turn_reached}
+use Rattle.g1_frontier.proofs.Scopes.{all_map, rising_few, Contains-drop}
+use Rattle.g1_frontier.proofs.Turns.{length_rest, take_front, begins, begins_reached, turn, turn_reached}
 
 -- ---- lists of items
 
@@ -74,7 +74,8 @@ items_more h base all_of i lt = sym (items_snoc h base (take i all_of) (get_or a
 -- different numbers below a bound are no more than it
 pub distinct_few : (all_of : List ℕ) (bound : ℕ) → Distinct all_of → ((a : ℕ) → Contains all_of a → a < bound) → length all_of ≤ bound
 distinct_few all_of bound d low =
-    length-le_from_distinct_below all_of bound (IsDistinct-from_AllPairs Decides-eqb all_of (pairs_from_ordered (λ x y. x ≢ y) all_of (Distinct-differ all_of d))) (λ q e. low q (Contains-from_has all_of q e))
+    length-le_from_distinct_below all_of bound
+    (IsDistinct-from_AllPairs Decides-eqb all_of (pairs_from_ordered (λ x y. x ≢ y) all_of (Distinct-differ all_of d))) (λ q e. low q (Contains-from_has all_of q e))
 
 either : {A : Type 0} (R : A → A → Type 0) (xs : List A) (x y : A) → Ordered R xs → Contains xs x → Contains xs y → (x ≡ y) ⊎ (R x y ⊎ R y x)
 either R [] x y o i j = absurd (omega (arith, i.1))
@@ -200,7 +201,7 @@ module _ (h : Heap) (valid : IsValid h) where
           next = let z : sum_by (slot_count h) (take s.from s.found.items) ≡ 0 = ap (sum_by (slot_count h)) none in omega (arith, next, z);
           from = omega (arith, from);
           in_order = begins (seeds h window) (children h window) s.found.items e ∙ ap (λ l. firsts (seeds h window ++ flat_map (children h window) l)) (sym none);
-          reached = λ a c. begins_reached (seeds h window) (children h window) s.found.items e a c;
+          reached = begins_reached (seeds h window) (children h window) s.found.items e;
         }
 
   -- ---- a further round
@@ -228,7 +229,7 @@ module _ (h : Heap) (valid : IsValid h) where
     total_parts = sym (sum_by-append (slot_count h) (take s.from s.found.items) (drop s.from s.found.items)) ∙ ap (sum_by (slot_count h)) (take-append-drop s.from s.found.items)
 
     pub rest_objects : All (λ a. Contains (objects h) (object_at h a)) (drop s.from s.found.items)
-    rest_objects = all_from_in (λ a. Contains (objects h) (object_at h a)) (drop s.from s.found.items) (λ a i. found_objects a (in_rest s.from s.found.items a i))
+    rest_objects = all_from_in (λ a. Contains (objects h) (object_at h a)) (drop s.from s.found.items) (λ a i. found_objects a (Contains-drop s.from s.found.items a i))
 
     pub ranks_fit : s.next + sum_by (slot_count h) (drop s.from s.found.items) < 2 ^ 32
     ranks_fit =
@@ -243,7 +244,7 @@ module _ (h : Heap) (valid : IsValid h) where
     qs = all_pairs h window (object_items h s.next (drop s.from s.found.items))
 
     pub rest_are_items : All (IsItem h) (object_items h s.next (drop s.from s.found.items))
-    rest_are_items = all_from_in (IsItem h) items (λ i k. let m = objects_some h window s.next rest i k in subst (IsItem h) m.3 (found_objects m.0 (in_rest s.from found m.0 m.2)))
+    rest_are_items = all_from_in (IsItem h) items (λ i k. let m = objects_some h window s.next rest i k in subst (IsItem h) m.3 (found_objects m.0 (Contains-drop s.from found m.0 m.2)))
 
     pub rest_few : length (object_items h s.next (drop s.from s.found.items)) < 2 ^ 32
     rest_few =
@@ -296,5 +297,5 @@ module _ (h : Heap) (valid : IsValid h) where
           from = omega (arith, from, long, t.found.ok);
           in_order = turn (seeds h window) (children h window) found t.found.items s.from r.in_order e
               ∙ ap (λ n. firsts (seeds h window ++ flat_map (children h window) (take n t.found.items))) (sym from);
-          reached = λ a c. turn_reached (seeds h window) (children h window) found t.found.items s.from (λ b i. r.reached b i) e a c;
+          reached = turn_reached (seeds h window) (children h window) found t.found.items s.from r.reached e;
         }

@@ -4,7 +4,7 @@ use Rattle.std.proofs.Common.{append-nil, length-append, IsPermutation}
 use Rattle.std.specs.Prelude.{slice_index_or}
 use Rattle.std.specs.List.{flat_map, enumerate_from, range_with_len}
 use Rattle.std.proofs.lemmas.List.Concat.{flat_map-append}
-use Rattle.std.proofs.lemmas.List.Sorted.{IsPermutation-trans, IsPermutation-sym, IsPermutation-append_comm}
+use Rattle.std.proofs.lemmas.List.Sorted.{IsPermutation-trans, IsPermutation-sym, IsPermutation-append_comm, Contains-permutation}
 use Rattle.std.proofs.lemmas.List.Folds.{flat_map-map}
 use Rattle.std.proofs.lemmas.List.Elements.{Contains-append_cases}
 use Rattle.itertools.proofs.KMergeLemmas.{flat-permutation}
@@ -14,13 +14,13 @@ use Rattle.g1_claim.specs.Claims.{TableView, SeatView}
 use Rattle.g1_words.proofs.Ordered.{Ordered, pairs_from_ordered}
 use Rattle.g1_words.proofs.Rising.{Ordered-flat_map}
 use Rattle.g1_words.proofs.Lists.{all_in, all_from_in}
+use Rattle.g1_words.proofs.Members.{Contains-later}
 use Rattle.g1_frontier.specs.declared.offering.Holder.{Holder}
 use Rattle.g1_frontier.specs.declared.offering.Span.{Span}
 use Rattle.g1_frontier.specs.Offering.{Try, pair_of, answered_true, HasTried, IsSpan, IsWithin, in_span}
 use Rattle.g1_frontier.specs.Round.{IsGivenOut, HasTaken, AreSpans}
 use Rattle.g1_frontier.proofs.Assembly.{RankLess, kept_ordered, ran_tried, last_apart, as_many, in_kept}
 use Rattle.g1_frontier.proofs.Pieces.{at_end, piece_ordered, pieces_apart}
-use Rattle.g1_frontier.proofs.Winning.{in_permuted}
 
 -- ---- lists
 
@@ -52,8 +52,8 @@ module _ {O : Type 0} where
 
   in_enumerated : (k : ℕ) (os : List O) (o : O) → Contains os o → (j : ℕ) × Contains (enumerate_from k os) (j, o)
   in_enumerated k [] o i = absurd (omega (arith, i.1))
-  in_enumerated k (p ∷ os) o (zero, b, e) = (k, inl (ap (λ (q : O). (k, q)) e))
-  in_enumerated k (p ∷ os) o (suc j, b, e) = let r = in_enumerated (k + 1) os o (j, omega (arith, b), e) in (r.0, inr r.1)
+  in_enumerated k (p ∷ os) o (zero, b, e) = (k, (zero, omega arith, ap (λ (q : O). (k, q)) e))
+  in_enumerated k (p ∷ os) o (suc j, b, e) = let r = in_enumerated (k + 1) os o (j, omega (arith, b), e) in (r.0, Contains-later (k, p) (enumerate_from (k + 1) os) (r.0, o) r.1)
 
   flat_enumerated : {B : Type 0} (f : O → List B) (k : ℕ) (os : List O) → flat_map (λ (x : ℕ × O). f x.1) (enumerate_from k os) ≡ flat_map f os
   flat_enumerated f k [] = refl
@@ -111,7 +111,8 @@ module _ (place : ℕ → ℕ) (P : ℕ → List (ℕ × ℕ)) (runs : Holder �
         )
 
     -- the spans of one worker's chunks
-    ran_has : (s : Holder) (xs : List (ℕ × Span)) (t : Holder) → Ran runs s xs t → s.number < length lists → slice_index_or lists s.number [] ≡ t.kept.items → (x : ℕ × Span) → Contains xs x → Has lists x
+    ran_has : (s : Holder) (xs : List (ℕ × Span)) (t : Holder) → Ran runs s xs t → s.number < length lists → slice_index_or lists s.number [] ≡ t.kept.items
+        → (x : ℕ × Span) → Contains xs x → Has lists x
     ran_has s [] t r lt e x i = absurd (omega (arith, i.1))
     ran_has s (y ∷ ys) t r lt e x (zero, b, same) =
         let rest = ran_tried place P runs tried r.0 ys t r.2 in
@@ -156,7 +157,8 @@ module _ (place : ℕ → ℕ) (P : ℕ → List (ℕ × ℕ)) (runs : Holder �
     each_flat n (s ∷ ss) (p ∷ ps) [] r f at = absurd r
     each_flat n (s ∷ ss) (p ∷ ps) (u ∷ us) r f at =
         flat_map-append (λ (x : ℕ × Span). in_span lists x.1) p (joined ps)
-        ∙ (λ i. fresh_flat s p u r.0 (f s (zero, omega arith, refl)) (at u (zero, omega arith, refl)) i ++ each_flat n ss ps us r.2 (λ s i. f s (suc i.0, omega (arith, i.1), i.2)) (λ t i. at t (suc i.0, omega (arith, i.1), i.2)) i)
+        ∙ (λ i. fresh_flat s p u r.0 (f s (zero, omega arith, refl)) (at u (zero, omega arith, refl)) i
+        ++ each_flat n ss ps us r.2 (λ s i. f s (suc i.0, omega (arith, i.1), i.2)) (λ t i. at t (suc i.0, omega (arith, i.1), i.2)) i)
 
     each_has : (n : ℕ) (ss : List Holder) (ps : List (List (ℕ × Span))) (ts : List Holder) → EachRan runs n ss ps ts →
         ((t : Holder) → Contains ts t → Roomed lists t) → (x : ℕ × Span) → Contains (joined ps) x → Has lists x
@@ -210,7 +212,7 @@ module _ {A : Type 0} (t : TableView) (place : ℕ → ℕ) (f : A → List (ℕ
         | inr j ↦ fresh_has place P runs says rooms g.last l.last k.last l.ran_last at_last x j
       ] in
       let has_out : (x : ℕ × Span) → Contains (enumerate_from 0 outs) x → Has place P runs says rooms x = λ x i.
-      has x (in_permuted (enumerate_from 0 outs) (joined r.parts) x (IsPermutation-sym (joined r.parts) (enumerate_from 0 outs) r.once) i) in
+      has x (Contains-permutation (enumerate_from 0 outs) (joined r.parts) x (IsPermutation-sym (joined r.parts) (enumerate_from 0 outs) r.once) i) in
       let all_of : flat_map (λ (x : ℕ × Span). in_span rooms x.1) (enumerate_from 0 outs) ≡ flat_map (in_span rooms) outs = flat_enumerated (in_span rooms) 0 outs in
       let rooms_flat : flat_map (λ (l : List (ℕ × ℕ)). l) rooms ≡ X ++ Y = ap (λ l. X ++ l) (flat_map-map (λ (l : List (ℕ × ℕ)). l) (λ (h : Holder). h.kept.items) k.others) in
       let moved : IsPermutation (X ++ Y) (flat_map (λ (x : ℕ × Span). in_span rooms x.1) (joined r.parts)) = subst (IsPermutation (X ++ Y)) (sym parts_flat) (IsPermutation-append_comm X Y) in
@@ -220,7 +222,8 @@ module _ {A : Type 0} (t : TableView) (place : ℕ → ℕ) (f : A → List (ℕ
       (λ c d a b i j lt p q.
       let x = (has_out c i).1 in
       let y = (has_out d j).1 in
-      pieces_apart RankLess f size items o c.0 d.0 a b lt (subst (λ l. Contains l a) x.1 (in_kept x.0 a (subst (λ l. Contains l a) x.2 p))) (subst (λ l. Contains l b) y.1 (in_kept y.0 b (subst (λ l. Contains l b) y.2 q)))) in
+      pieces_apart RankLess f size items o c.0 d.0 a b lt (subst (λ l. Contains l a) x.1 (in_kept x.0 a (subst (λ l. Contains l a) x.2 p)))
+      (subst (λ l. Contains l b) y.1 (in_kept y.0 b (subst (λ l. Contains l b) y.2 q)))) in
       let ordered : Ordered RankLess (flat_map (in_span rooms) outs) = subst (Ordered RankLess) all_of in_turn in
       let strictly = pairs_from_ordered RankLess (flat_map (in_span rooms) outs) ordered in
       subst (λ l. AreSpans l outs) (sym k.kept) (record {

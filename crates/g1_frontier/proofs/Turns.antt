@@ -4,7 +4,7 @@ use Rattle.std.proofs.Common.{length-append, ⊎_elim, take-append-drop}
 use Rattle.std.specs.List.{flat_map}
 use Rattle.std.proofs.lemmas.Grind.{flat_map-append}
 use Rattle.std.proofs.lemmas.List.{take-take, drop-take, take_rest}
-use Rattle.std.proofs.lemmas.List.Elements.{Contains-append_cases, Contains-append_left}
+use Rattle.std.proofs.lemmas.List.Elements.{Contains-append_cases}
 use Rattle.g1_words.specs.Lists.{has}
 use Rattle.g1_words.specs.Live.{Reached, seed, child}
 use Rattle.g1_words.specs.Survivors.{firsts, IsBreadthFirst}
@@ -12,6 +12,7 @@ use Rattle.g1_words.proofs.Members.{flat_map_cases}
 use Rattle.g1_words.proofs.Firsts.{firsts_member, firsts-append}
 use Rattle.g1_words.proofs.Unique.{all_reached}
 use Rattle.g1_frontier.proofs.Marks.{firsts_again, firsts_more}
+use Rattle.g1_frontier.proofs.Scopes.{Contains-drop}
 
 pub take_all : (ys : List ℕ) (n : ℕ) → length ys ≤ n → take n ys ≡ ys
 take_all [] zero l = refl
@@ -36,14 +37,6 @@ length_rest (suc n) (y ∷ ys) = let r = length_rest n ys in omega (arith, r)
 -- a slice from i to the end is no longer than the list
 pub rest_few : (xs : List ℕ) (i : ℕ) → length (take (length xs - i) (drop i xs)) ≤ length xs
 rest_few xs i = let e : length (take (length xs - i) (drop i xs)) ≡ length (drop i xs) = ap length (take_rest xs i) in let r = length_rest i xs in omega arith
-
-pub in_rest : (n : ℕ) (ys : List ℕ) (a : ℕ) → Contains (drop n ys) a → Contains ys a
-in_rest zero ys a h = h
-in_rest (suc n) [] a h = h
-in_rest (suc n) (y ∷ ys) a h = let m = in_rest n ys a h in (suc m.0, omega (arith, m.1), m.2)
-
-pub in_front : (n : ℕ) (ys : List ℕ) (a : ℕ) → Contains (take n ys) a → Contains ys a
-in_front n ys a h = subst (λ l. Contains l a) (take-append-drop n ys) (Contains-append_left (take n ys) (drop n ys) a h)
 
 -- what two parts take, one behind the other
 pub take_parts : (i n : ℕ) (xs : List ℕ) → take (i + n) xs ≡ take i xs ++ take n (drop i xs)
@@ -79,8 +72,8 @@ module _ (seeds : List ℕ) (children : ℕ → List ℕ) where
   pub turn_reached : (found more : List ℕ) (from : ℕ) → ((a : ℕ) → Contains found a → Reached seeds children a) →
       more ≡ firsts (found ++ flat_map children (drop from found)) → (a : ℕ) → Contains more a → Reached seeds children a
   turn_reached found more from r f a h =
-      ⊎_elim (λ (k : Contains found a). r a k)
-      (λ (k : Contains (flat_map children (drop from found)) a). let c = flat_map_cases children (drop from found) a k in child (r c.0 (in_rest from found c.0 c.1)) c.2)
+      ⊎_elim (r a)
+      (λ (k : Contains (flat_map children (drop from found)) a). let c = flat_map_cases children (drop from found) a k in child (r c.0 (Contains-drop from found c.0 c.1)) c.2)
       (Contains-append_cases found (flat_map children (drop from found)) a (firsts_member (found ++ flat_map children (drop from found)) a (subst (λ l. Contains l a) f h)))
 
   pub ends : (found : List ℕ) (from : ℕ) → length found ≤ from → found ≡ firsts (seeds ++ flat_map children (take from found)) →
@@ -88,8 +81,8 @@ module _ (seeds : List ℕ) (children : ℕ → List ℕ) where
   ends found from le e r =
       let whole : found ≡ firsts (seeds ++ flat_map children found) = e ∙ ap (λ l. firsts (seeds ++ flat_map children l)) (take_all found from le) in record {
         reached = λ a. (
-          (λ h. r a h),
-          (λ h. (subst (λ l. Contains l a) (sym whole) (all_reached seeds children found [] (whole ∙ sym (append-nil (firsts (seeds ++ flat_map children found)))) a h))),
+          r a,
+          (λ h. subst (λ l. Contains l a) (sym whole) (all_reached seeds children found [] (whole ∙ sym (append-nil (firsts (seeds ++ flat_map children found)))) a h)),
         );
         in_order = whole;
       }

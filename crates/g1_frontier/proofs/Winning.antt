@@ -1,22 +1,18 @@
 -- Which offers have the least rank of their place.
-use Rattle.std.proofs.Common.{◌≡◌, ◌≢◌, ℕ, Bool, true, false, ◌&&◌, eqb, List, [], ◌∷◌, ◌++◌, map, filter, sym, refl, ap, ◌∙◌, subst, ⊎_elim, inr, ◌⊎◌, arith, eq-eqb, ne_eqb, eqb-true, Contains, zero, suc}
+use Rattle.std.proofs.Common.{◌≡◌, ◌≢◌, ℕ, Bool, true, false, ◌&&◌, eqb, List, [], ◌∷◌, ◌++◌, map, filter, sym, refl, ap, ◌∙◌, subst, ⊎_elim, ◌⊎◌, arith, eq-eqb, ne_eqb, eqb-true, Contains, zero, suc}
 use Rattle.std.proofs.Common.{append_assoc, IsPermutation}
-use Rattle.std.proofs.lemmas.List.Sorted.{All-permutation, IsPermutation-sym}
+use Rattle.std.proofs.lemmas.List.Sorted.{IsPermutation-sym, Contains-permutation}
 use Rattle.std.proofs.lemmas.Bool.{cases_Bool}
-use Rattle.std.proofs.lemmas.List.Elements.{Contains-append_cases, Contains-get_or}
+use Rattle.std.proofs.lemmas.List.Elements.{Contains-push_cases}
 use Rattle.g1_claim.specs.declared.rule.Offer.{Offer}
 use Rattle.g1_claim.specs.Claims.{least_rank, times_offered, times_won, one_if, IsSettled}
 use Rattle.g1_claim.proofs.Totals.{times_offered-append, times_won-append}
-use Rattle.g1_words.proofs.Members.{Contains-map, map_cases, Contains-filter, filter_member}
+use Rattle.g1_words.proofs.Members.{Contains-map, map_cases, Contains-filter, filter_member, Contains-later}
 use Rattle.g1_words.proofs.Ordered.{Ordered, same_order}
 use Rattle.g1_words.proofs.Rising.{Ordered-filter}
-use Rattle.g1_words.proofs.Lists.{all_in}
 use Rattle.g1_frontier.specs.Offering.{Try, pair_of, answered_true, offer_of}
 use Rattle.g1_frontier.specs.Round.{is_least, winners}
 use Rattle.g1_frontier.proofs.Assembly.{RankLess}
-
-pub in_permuted : {A : Type 0} (xs ys : List A) (x : A) → IsPermutation xs ys → Contains xs x → Contains ys x
-in_permuted xs ys x p i = all_in (Contains ys) xs x (All-permutation (Contains ys) ys xs (IsPermutation-sym xs ys p) (λ k d lt. Contains-get_or ys k d lt)) i
 
 -- no offer of this rank has won
 none_won : (p r : ℕ) (os : List Offer) → ((o : Offer) → Contains os o → o.rank ≢ r) → times_won p r os ≡ 0
@@ -60,8 +56,8 @@ winner_won os pre (x ∷ ms) is low apart settled o (zero, b, e) least =
     (least_won os pre ms x is (λ a k. low a x k (zero, omega arith, refl)) (λ a k same. apart.0 a k (sym same)) settled) least
 winner_won os pre (x ∷ ms) is low apart settled o (suc j, lt, eq) least =
     winner_won os (pre ++ x ∷ []) ms (is ∙ sym (append_assoc pre (x ∷ []) ms))
-    (λ a b k l. ⊎_elim (λ (m : Contains pre a). low a b m (inr l)) (λ (m : Contains (x ∷ []) a). ⊎_elim
-    (λ (e : x ≡ a). subst (λ (y : Offer). y.rank ≢ b.rank) e (apart.0 b l)) (λ (n : ⊥). absurd n) m) (Contains-append_cases pre (x ∷ []) a k))
+    (λ a b k l. ⊎_elim (λ (m : Contains pre a). low a b m (Contains-later x ms b l))
+    (λ (e : x ≡ a). subst (λ (y : Offer). y.rank ≢ b.rank) e (apart.0 b l)) (Contains-push_cases pre x a k))
     apart.1 settled o (j, omega (arith, lt), eq) least
 
 -- the ranks of what was tried differ, where those of the pairs rise
@@ -86,20 +82,20 @@ merged_won place ps merged before after made is perm rise differ above settled k
     (Ordered-filter RankLess (is_least place after) merged in_order) (Ordered-filter RankLess (is_least place after) ps rise)
     (λ q i.
     let f = filter_member (is_least place after) merged q i in
-    let m = map_cases pair_of (filter answered_true made) q (in_permuted merged (map pair_of (filter answered_true made)) q
+    let m = map_cases pair_of (filter answered_true made) q (Contains-permutation merged (map pair_of (filter answered_true made)) q
     (IsPermutation-sym (map pair_of (filter answered_true made)) merged kept) f.0) in
     let t = filter_member answered_true made m.0 m.1 in
-    Contains-filter (is_least place after) ps q (in_permuted (map pair_of made) ps q perm (subst (Contains (map pair_of made)) m.2 (Contains-map pair_of made m.0 t.0))) f.1)
+    Contains-filter (is_least place after) ps q (Contains-permutation (map pair_of made) ps q perm (subst (Contains (map pair_of made)) m.2 (Contains-map pair_of made m.0 t.0))) f.1)
     (λ q i.
     let f = filter_member (is_least place after) ps q i in
-    let m = map_cases pair_of made q (in_permuted ps (map pair_of made) q (IsPermutation-sym (map pair_of made) ps perm) f.0) in
+    let m = map_cases pair_of made q (Contains-permutation ps (map pair_of made) q (IsPermutation-sym (map pair_of made) ps perm) f.0) in
     let won : answered_true m.0 ≡ true =
     winner_won after before (map (offer_of place) made) is
     (λ a b k l.
     let c = map_cases (offer_of place) made b l in
-    subst (λ (o : Offer). a.rank ≢ o.rank) c.2 (above a (pair_of c.0) k (in_permuted (map pair_of made) ps (pair_of c.0) perm (Contains-map pair_of made c.0 c.1))))
+    subst (λ (o : Offer). a.rank ≢ o.rank) c.2 (above a (pair_of c.0) k (Contains-permutation (map pair_of made) ps (pair_of c.0) perm (Contains-map pair_of made c.0 c.1))))
     (offers_differ place made differ) settled (offer_of place m.0) (Contains-map (offer_of place) made m.0 m.1)
     (subst (λ (r : ℕ × ℕ). is_least place after r ≡ true) (sym m.2) f.1) in
     Contains-filter (is_least place after) merged q
-    (in_permuted (map pair_of (filter answered_true made)) merged q kept (subst (Contains (map pair_of (filter answered_true made))) m.2
+    (Contains-permutation (map pair_of (filter answered_true made)) merged q kept (subst (Contains (map pair_of (filter answered_true made))) m.2
     (Contains-map pair_of (filter answered_true made) m.0 (Contains-filter answered_true made m.0 m.1 won)))) f.1)

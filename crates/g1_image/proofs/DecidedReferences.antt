@@ -18,7 +18,7 @@ module _ (h : Heap) (shaped : AllShaped h) where
 
   -- a word names an object or is null
   pub decided_reference : (x : ℕ) → Decided (IsReference h x)
-  decided_reference zero = inl (zero, omega arith, refl)
+  decided_reference zero = inl (inl refl)
   decided_reference (suc a) =
       decided_as ((o : Object) × Contains (objects h) o × (o.at ≡ a)) (IsReference h (suc a))
       (λ s. inr (s.0, unlisted s.0 s.1, omega (arith, s.2)))

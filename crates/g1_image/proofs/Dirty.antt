@@ -11,7 +11,7 @@ use Rattle.std.proofs.lemmas.List.Elements.{Contains-append_cases, Contains-appe
 use Rattle.g1_words.specs.Geometry.{IsWithinBounds}
 use Rattle.g1_words.specs.Heap.{Heap}
 use Rattle.g1_words.specs.Lists.{has}
-use Rattle.g1_words.proofs.Members.{has_from_contains, Contains-from_has}
+use Rattle.g1_words.proofs.Members.{has_from_contains, Contains-from_has, none_contains}
 use Rattle.g1_words.proofs.Ordered.{Ordered, Ordered-from_pairs, pairs_from_ordered}
 use Rattle.g1_words.proofs.Rising.{Ordered-append}
 use Rattle.g1_words.proofs.Lists.{all_from_in}
@@ -65,8 +65,8 @@ module _ (h : Heap) (limits : IsWithinBounds h.geometry.w h.geometry.k h.geometr
   module _ (log : List ℕ) (c : ℕ) (good : IsLog h log) (used : IsUsedCard h c) where
     used_at : (x : ℕ) → Contains log x ⊎ Contains (c ∷ []) x → IsUsedCard h x
     used_at x (inl m) = all_in (IsUsedCard h) log good.used x m
-    used_at x (inr (inl e)) = subst (IsUsedCard h) e used
-    used_at x (inr (inr e)) = absurd e
+    used_at x (inr (zero, b, e)) = subst (IsUsedCard h) e used
+    used_at x (inr (suc k, b, e)) = absurd (omega (arith, b))
 
     new : (Contains log c → ⊥) → (x y : ℕ) → Contains log x → Contains (c ∷ []) y → x ≢ y
     new none x y m (zero, b, e) same = none (subst (Contains log) (same ∙ sym e) m)
@@ -76,7 +76,7 @@ module _ (h : Heap) (limits : IsWithinBounds h.geometry.w h.geometry.k h.geometr
     one_more none =
         let all : All (IsUsedCard h) (log ++ c ∷ []) = all_from_in (IsUsedCard h) (log ++ c ∷ []) (λ x m. used_at x (Contains-append_cases log (c ∷ []) x m)) in
         let distinct : AllPairs (λ x y. x ≢ y) (log ++ c ∷ []) = pairs_from_ordered (λ x y. x ≢ y) (log ++ c ∷ [])
-        (Ordered-append (λ x y. x ≢ y) log (c ∷ []) (Ordered-from_pairs (λ x y. x ≢ y) log good.distinct) ((λ y k. absurd k), tt) (new none)) in
+        (Ordered-append (λ x y. x ≢ y) log (c ∷ []) (Ordered-from_pairs (λ x y. x ≢ y) log good.distinct) ((λ y k. absurd (none_contains y k)), tt) (new none)) in
         record { used = all; distinct = distinct; count = few (log ++ c ∷ []) all distinct }
 
     card_put : IsLog h (with_dirty_card log c)

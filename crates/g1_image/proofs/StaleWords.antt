@@ -19,6 +19,8 @@ use Rattle.g1_image.specs.Stale.{IsStaleRoot, IsStaleSlot, IsPut, HasLowerPlace,
 use Rattle.g1_image.proofs.DecidedReferences.{decided_reference}
 use Rattle.g1_image.proofs.Rows.{apart, has_header}
 use Rattle.g1_image.proofs.Slots.{ends_within}
+use Rattle.g1_words.proofs.Members.{Contains-later}
+use Rattle.g1_words.proofs.Members.{none_contains}
 
 -- ---- lists of places with their words
 
@@ -29,35 +31,35 @@ pub record Gathers (P : ℕ → ℕ → Type 0) (found : List (ℕ × ℕ)) : Ty
   pub rising : Ordered HasLowerPlace found
 
 pub gathers_none : (P : ℕ → ℕ → Type 0) → ((k x : ℕ) → P k x → ⊥) → Gathers P []
-gathers_none P none = record { sound = λ k x m. absurd m; whole = λ k x p. absurd (none k x p); rising = tt }
+gathers_none P none = record { sound = λ k x m. absurd (none_contains (k, x) m); whole = λ k x p. absurd (none k x p); rising = tt }
 
 pub gathers_same : (P Q : ℕ → ℕ → Type 0) (found : List (ℕ × ℕ)) → Gathers P found → ((k x : ℕ) → P k x → Q k x) → ((k x : ℕ) → Q k x → P k x) → Gathers Q found
 gathers_same P Q found g to from = record { sound = λ k x m. to k x (g.sound k x m); whole = λ k x q. g.whole k x (from k x q); rising = g.rising }
 
 module _ (P Q : ℕ → ℕ → Type 0) (found : List (ℕ × ℕ)) (a b : ℕ) (g : Gathers P found) (below : (k x : ℕ) → P k x → k < a) (to : (k x : ℕ) → P k x → Q k x) (here : Q a b)
     (from : (k x : ℕ) → Q k x → P k x ⊎ ((k ≡ a) × (x ≡ b))) where
-  sound_by : (k x : ℕ) → Contains found (k, x) ⊎ Contains {A = ℕ × ℕ} ((a, b) ∷ []) (k, x) → Q k x
+  sound_by : (k x : ℕ) → Contains found (k, x) ⊎ Contains {X = ℕ × ℕ} ((a, b) ∷ []) (k, x) → Q k x
   sound_by k x (inl m) = to k x (g.sound k x m)
-  sound_by k x (inr (inl e)) = subst (λ (e : ℕ × ℕ). Q e.0 e.1) e here
-  sound_by k x (inr (inr e)) = absurd e
+  sound_by k x (inr (zero, l, e)) = subst (λ (e : ℕ × ℕ). Q e.0 e.1) e here
+  sound_by k x (inr (suc j, l, e)) = absurd (omega (arith, l))
 
   whole_by : (k x : ℕ) → P k x ⊎ ((k ≡ a) × (x ≡ b)) → Contains (found ++ (a, b) ∷ []) (k, x)
   whole_by k x (inl p) = Contains-append_left found ((a, b) ∷ []) (k, x) (g.whole k x p)
   whole_by k x (inr e) =
       let pair : ℕ → ℕ → ℕ × ℕ = λ u v. (u, v) in
       let same : pair a b ≡ pair k x = λ t. pair (sym e.0 t) (sym e.1 t) in
-      Contains-append_right found ((a, b) ∷ []) (k, x) (inl same)
+      Contains-append_right found ((a, b) ∷ []) (k, x) (zero, omega arith, same)
 
-  order : (u v : ℕ × ℕ) → Contains found u → Contains {A = ℕ × ℕ} ((a, b) ∷ []) v → HasLowerPlace u v
-  order u v m (inl e) = subst (λ (y : ℕ × ℕ). u.0 < y.0) e (below u.0 u.1 (g.sound u.0 u.1 m))
-  order u v m (inr e) = absurd e
+  order : (u v : ℕ × ℕ) → Contains found u → Contains {X = ℕ × ℕ} ((a, b) ∷ []) v → HasLowerPlace u v
+  order u v m (zero, l, e) = subst (λ (y : ℕ × ℕ). u.0 < y.0) e (below u.0 u.1 (g.sound u.0 u.1 m))
+  order u v m (suc k, l, e) = absurd (omega (arith, l))
 
   -- one place more, behind the others
   pub gathers_more : Gathers Q (found ++ (a, b) ∷ [])
   gathers_more = record {
     sound = λ k x m. sound_by k x (Contains-append_cases found ((a, b) ∷ []) (k, x) m);
     whole = λ k x q. whole_by k x (from k x q);
-    rising = Ordered-append HasLowerPlace found ((a, b) ∷ []) g.rising ((λ y k. absurd k), tt) order;
+    rising = Ordered-append HasLowerPlace found ((a, b) ∷ []) g.rising ((λ y k. absurd (none_contains y k)), tt) order;
   }
 
 pub lists_of : (P : ℕ → ℕ → Type 0) (found : List (ℕ × ℕ)) → Gathers P found → Lists P found
@@ -126,12 +128,12 @@ nulled_more (e ∷ found) words (suc i) d lt =
 nulled_cases : (found : List (ℕ × ℕ)) (words : List ℕ) (k : ℕ) → ((x : ℕ) × Contains found (k, x)) ⊎ (slice_index (nulled found words) k ≡ slice_index words k)
 nulled_cases [] words k = inr refl
 nulled_cases (e ∷ found) words k = elim (nulled_cases found (set words e.0 0) k) [
-  | inl m ↦ inl (m.0, inr m.1)
+  | inl m ↦ inl (m.0, Contains-later e found (k, m.0) m.1)
   | inr same ↦ elim (cases_eq k e.0) [
     | inl here ↦
         let pair : ℕ → ℕ → ℕ × ℕ = λ u v. (u, v) in
         let found_here : pair e.0 e.1 ≡ pair k e.1 = λ t. pair (sym here t) e.1 in
-        inl (e.1, inl found_here)
+        inl (e.1, (zero, omega arith, found_here))
     | inr ne ↦ inr (same ∙ get_or-set_other words e.0 k 0 0 ne)
   ]
 ]

@@ -227,8 +227,7 @@ module _ (h : Heap) (l : List ℕ) (pos : 0 < h.geometry.w) (can : CanLay h l) (
     place_there k lt e = place_is k lt ∙ ap (λ q. get_or (free_regions h) q 0 * h.geometry.w + row k % h.geometry.w) e
 
     pair_at : (x : ℕ × ℕ) → Contains (zip (places h l) (sizes_of h l)) x → (k : ℕ) × (k < length l) × (x ≡ (get_or (places h l) k 0, size k))
-    pair_at x i =
-        let c = i in
+    pair_at x c =
         let n = length-zip (places h l) (sizes_of h l) in
         let a = count_places in
         let b = count_sizes in

@@ -13,7 +13,7 @@ use Rattle.g1_words.specs.Live.{bytes_where}
 use Rattle.g1_words.specs.Survivors.{firsts}
 use Rattle.g1_words.specs.Valid.{IsValid}
 use Rattle.g1_words.proofs.Firsts.{Distinct, Distinct-firsts}
-use Rattle.g1_words.proofs.Members.{Contains-from_has}
+use Rattle.g1_words.proofs.Members.{Contains-from_has, none_contains}
 use Rattle.g1_words.proofs.Lists.{has_both, firsts_distinct}
 use Rattle.g1_mark.proofs.Counting.{AreBytesOf, bytes_few}
 use Rattle.g1_mark.proofs.Sums.{sizes, size_kept}
@@ -29,7 +29,7 @@ right_apart [] ys d = d
 right_apart (x ∷ xs) ys d = right_apart xs ys d.1
 
 both_apart : (xs ys : List ℕ) → Distinct (xs ++ ys) → (x : ℕ) → Contains xs x → Contains ys x → ⊥
-both_apart [] ys d x i j = i
+both_apart [] ys d x i j = none_contains x i
 both_apart (y ∷ xs) ys d x (zero, b, e) j = d.0 (Contains-append_right xs ys y (subst (Contains ys) (sym e) j))
 both_apart (y ∷ xs) ys d x (suc k, b, e) j = both_apart xs ys d.1 x (k, omega (arith, b), e) j
 

@@ -25,7 +25,7 @@ pub sizes_fit : (p : Object → Bool) (lo bound : ℕ) (os : List Object) → Or
     ((o : Object) → Contains os o → o.at + o.size ≤ bound) → lo ≤ bound → lo + sizes (filter p os) ≤ bound
 sizes_fit p lo bound [] ord low high le = omega (arith, le)
 sizes_fit p lo bound (o ∷ os) ord low high le =
-    let rest = sizes_fit p (o.at + o.size) bound os ord.1 (λ q i. ord.0 q i) (λ q i. high q (suc i.0, omega (arith, i.1), i.2)) (high o (zero, omega arith, refl)) in
+    let rest = sizes_fit p (o.at + o.size) bound os ord.1 ord.0 (λ q i. high q (suc i.0, omega (arith, i.1), i.2)) (high o (zero, omega arith, refl)) in
     let first = low o (zero, omega arith, refl) in
     let kept = size_kept o (filter p os) (p o) in
     let few : cond (p o) o.size 0 ≤ o.size = at_most (p o) o.size in

@@ -48,7 +48,8 @@ module _ (h : Heap) where
   }
 
   has_used : (r : ℕ) → r < h.geometry.n → kind h r ≢ Free → has (used h) r ≡ true
-  has_used r lt d = has_from_contains (used h) r (Contains-filter (λ r. not (is_free (kind h r))) (regions h) r (Contains-range 0 h.geometry.n r (omega arith) (omega (arith, lt))) (is_used (kind h r) d))
+  has_used r lt d =
+      has_from_contains (used h) r (Contains-filter (λ r. not (is_free (kind h r))) (regions h) r (Contains-range 0 h.geometry.n r (omega arith) (omega (arith, lt))) (is_used (kind h r) d))
 
   module _ (valid : IsValid h) where
     word_in_used : (o : Object) (m : ℕ) → Contains (objects h) o → m < o.size → in_set h (used h) (o.at + m) ≡ true
@@ -73,7 +74,6 @@ module _ (h : Heap) where
         let at : p.0 ≡ e.slot = ap (λ (x : Ref). x.slot) q.2 in
         let low = range_above (o.at + 1) o.refs p.0 p.1 in
         let high = range_below (o.at + 1) o.refs p.0 p.1 in
-        let c : Contains (objects h) o = m.1 in
-        let fit = (sound h valid).slots_fit o c in
+        let fit = (sound h valid).slots_fit o m.1 in
         let far : o.at + (p.0 - o.at) ≡ p.0 = omega (arith, low) in
-        subst (λ a. in_set h (used h) a ≡ true) (far ∙ at) (word_in_used o (p.0 - o.at) c (omega (arith, low, high, fit)))
+        subst (λ a. in_set h (used h) a ≡ true) (far ∙ at) (word_in_used o (p.0 - o.at) m.1 (omega (arith, low, high, fit)))

@@ -9,6 +9,7 @@ use Rattle.g1_words.specs.declared.region.Kind.{Kind}
 use Rattle.g1_words.specs.declared.region.Kind.TheVariants.{Free, Ordinary, HumongousFirst, Continuation}
 use Rattle.g1_words.specs.Heap.{Heap, kind, start, end, objects, objects_in}
 use Rattle.g1_words.specs.Valid.{IsValid, IsShapedBy, IsWholeRun}
+use Rattle.g1_words.proofs.Lists.{range_split}
 use Rattle.g1_words.proofs.Members.{flat_map_cases}
 use Rattle.g1_words.proofs.Computed.{range_above, range_below, in_region_has, has_contains, holds_computed}
 use Rattle.g1_words.proofs.Objects.{StandsIn, holds_stands}
@@ -17,24 +18,12 @@ use Rattle.g1_words.proofs.Tiling.{Tiles-le, same_object}
 use Rattle.g1_rem.specs.Marks.{Chain, objects_between, objects_from}
 use Rattle.g1_rem.proofs.Order.{Chain-weaken, objects_chain, object_fits}
 
--- a run of numbers, and the run behind it
-run_append : (a n m : ℕ) → range_with_len a n ++ range_with_len (a + n) m ≡ range_with_len a (n + m)
-run_append a zero m =
-    let at : a + 0 ≡ a = omega arith in
-    let count : m ≡ 0 + m = omega arith in
-    ap (λ k. range_with_len k m) at ∙ ap (range_with_len a) count
-run_append a (suc n) m =
-    let at : a + suc n ≡ (a + 1) + n = omega arith in
-    let count : suc (n + m) ≡ suc n + m = omega arith in
-    ap (λ k. a ∷ range_with_len (a + 1) n ++ range_with_len k m) at ∙ ap (λ l. a ∷ l) (run_append (a + 1) n m) ∙ ap (range_with_len a) count
-
 -- numbers that follow one another
 runs_append : (a b c : ℕ) → a ≤ b → b ≤ c → range_with_len a (c - a) ≡ range_with_len a (b - a) ++ range_with_len b (c - b)
 runs_append a b c le more =
     let at : a + (b - a) ≡ b = omega (arith, le) in
-    let whole : (b - a) + (c - b) ≡ c - a = omega (arith, le, more) in
-    sym (subst (λ x. range_with_len a (b - a) ++ range_with_len x (c - b) ≡ range_with_len a (c - a)) at
-    (subst (λ m. range_with_len a (b - a) ++ range_with_len (a + (b - a)) (c - b) ≡ range_with_len a m) whole (run_append a (b - a) (c - b))))
+    let whole : c - a ≡ (b - a) + (c - b) = omega (arith, le, more) in
+    ap (range_with_len a) whole ∙ range_split a (b - a) (c - b) ∙ ap (λ x. range_with_len a (b - a) ++ range_with_len x (c - b)) at
 
 module _ (h : Heap) where
   -- the objects of one range, and those of the next

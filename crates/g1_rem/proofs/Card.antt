@@ -1,6 +1,6 @@
 -- The slots on a card are those of the objects from the one over its first word on.
 use Rattle.std.proofs.Common.{◌≡◌, ◌≢◌, ◌≤◌, ◌<◌, ℕ, ◌+◌, ◌-◌, ◌*◌, ◌/◌, ◌%◌, inl, inr, List, [], ◌∷◌, ◌++◌, length, filter, flat_map, arith, refl, sym, ap, subst, ◌∙◌, append-nil, eqb, Contains}
-use Rattle.std.proofs.Common.{eqb-true, eq-eqb, div-add-mod'}
+use Rattle.std.proofs.Common.{zero, eqb-true, eq-eqb, div-add-mod', mod-lt}
 use Rattle.std.specs.Prelude.{Option, Some, None}
 use Rattle.std.proofs.lemmas.Bool.{cases_lt}
 use Rattle.std.proofs.Math.Nat.{mul-le-mul_right}
@@ -11,11 +11,11 @@ use Rattle.g1_words.specs.declared.region.Kind.TheVariants.{Free, Ordinary, Humo
 use Rattle.g1_words.specs.Heap.{Heap, kind, start, end, card_of, objects, objects_in, objects_by, object_at, slots}
 use Rattle.g1_words.specs.Valid.{IsObject, Tiles, IsShapedBy, IsWholeRun, HasObject, IsValid}
 use Rattle.g1_words.specs.Walk.{Reaches}
-use Rattle.g1_words.proofs.Members.{Contains-filter, filter_member, flat_map_cases, Contains-flat_map}
-use Rattle.g1_words.proofs.Tiling.{Tiles-le, Tiles-append, Tiles-stands, same_object}
+use Rattle.g1_words.proofs.Members.{Contains-filter, Contains-first, Contains-flat_map, Contains-later, cons_cases, filter_member, flat_map_cases, none_contains}
+use Rattle.g1_words.proofs.Tiling.{Tiles-le, Tiles-append, Tiles-one, Tiles-stands, same_object}
 use Rattle.g1_words.proofs.Objects.{StandsIn, object_stands, object_place, div_between, region_in_words}
 use Rattle.g1_words.proofs.Computed.{Contains-range, holds_are, contains_has, has_contains, in_region_has}
-use Rattle.g1_words.proofs.Sound.{has_is, stands_object}
+use Rattle.g1_words.proofs.Sound.{has_is, k_positive, stands_object, w_positive}
 use Rattle.g1_words.proofs.Bounds.{cards_in_region}
 use Rattle.g1_rem.specs.Starts.{Covers, IsOver}
 use Rattle.g1_rem.specs.Slots.{slots_on, all_slots, is_between}
@@ -23,24 +23,20 @@ use Rattle.g1_rem.specs.Marks.{Chain}
 use Rattle.g1_rem.specs.Laws.{SlotsRise, SlotsOnCard}
 use Rattle.g1_rem.proofs.Rising.{Rises-increasing, Rises, Rises-weaken, Rises-filter, Rises-one}
 use Rattle.g1_rem.proofs.Order.{slot_in, Chain-apart, Chain-above, Chain-tiles, Chain-slots, objects_chain, object_fits}
-use Rattle.g1_rem.proofs.Scan.{between_is, is_between_there, Tiles-one}
+use Rattle.g1_rem.proofs.Scan.{between_is, is_between_there}
 
 -- some object of a row covers each address between its ends
 pub Tiles-cover : (words : List ℕ) (from : ℕ) (os : List Object) (to x : ℕ) → Tiles words from os to → from ≤ x → x < to → (o : Object) × Contains os o × Covers o x
 Tiles-cover words from [] to x t le lt = absurd (omega (arith, t, le, lt))
 Tiles-cover words from (o ∷ os) to x t le lt = elim (cases_lt x (o.at + o.size)) [
-  | inl here ↦ (o, inl refl, record { from = omega (arith, t.0, le); to = here })
-  | inr past ↦ (let r = Tiles-cover words (from + o.size) os to x t.2 (omega (arith, t.0, past)) lt in (r.0, inr r.1, r.2))
+  | inl here ↦ (o, Contains-first o os, record { from = omega (arith, t.0, le); to = here })
+  | inr past ↦ (let r = Tiles-cover words (from + o.size) os to x t.2 (omega (arith, t.0, past)) lt in (r.0, Contains-later o os r.0 r.1, r.2))
 ]
 
 module _ (h : Heap) (valid : IsValid h) where
   -- all slots of a heap rise
   pub all_rise : Rises 0 (all_slots h)
   all_rise = Chain-slots 0 (objects h) (objects_chain h valid)
-
-  -- a card has words
-  k_some : 0 < h.geometry.k
-  k_some = omega (arith, valid.limits.k_least)
 
   module _ (c lo hi : ℕ) (at : lo ≡ c * h.geometry.k) (until : hi ≡ lo + h.geometry.k) where
     -- the addresses of the card lie on it
@@ -52,11 +48,8 @@ module _ (h : Heap) (valid : IsValid h) where
     card_there p e =
         let whole : p / h.geometry.k * h.geometry.k + p % h.geometry.k ≡ p = div-add-mod' p h.geometry.k in
         let same : p / h.geometry.k * h.geometry.k ≡ c * h.geometry.k = ap (λ x. x * h.geometry.k) e in
-        let small : p % h.geometry.k < h.geometry.k = below p h.geometry.k k_some in
+        let small : p % h.geometry.k < h.geometry.k = mod-lt p (k_positive h valid) in
         (omega (arith, whole, same, at), omega (arith, whole, same, at, until, small))
-      where
-        below : (p k : ℕ) → 0 < k → p % k < k
-        below p k lt = omega arith
 
     -- the card ends no later than its region
     card_within : (r : ℕ) → lo < start h r + h.geometry.w → hi ≤ start h r + h.geometry.w
@@ -86,17 +79,13 @@ module _ (h : Heap) (valid : IsValid h) where
         let q = flat_map_cases slots (objects h) p m.0 in
         Contains-filter (is_between lo hi) (flat_map slots os) p (Contains-flat_map slots os q.0 p (theirs q.0 p q.1 q.2 b.0 b.1) q.2) (between_is lo hi p b.0 b.1))
 
-    -- an object that is listed is one of the heap's
-    has_in : (o : Object) → Contains (objects h) o → HasObject h o
-    has_in o i = contains_has h o valid.shaped i
-
     -- its slots fit into it
     refs_fit : (o : Object) → Contains (objects h) o → o.refs < o.size
     refs_fit o i = (Chain-above 0 (objects h) o (objects_chain h valid) i).1
 
     -- where an object stands
     stands : (o : Object) → Contains (objects h) o → (r : ℕ) → start h r ≤ o.at → o.at < start h r + h.geometry.w → (r < h.geometry.n) × StandsIn (kind h r) h r o
-    stands o i r le lt = object_stands h o r valid (has_in o i) (sym (div_between o.at h.geometry.w r le lt))
+    stands o i r le lt = object_stands h o r valid (contains_has h o valid.shaped i) (sym (div_between o.at h.geometry.w r le lt))
 
     -- the objects of a region are the heap's
     in_region : (r : ℕ) (o : Object) → r < h.geometry.n → Contains (objects_in h r) o → Contains (objects h) o
@@ -111,11 +100,8 @@ module _ (h : Heap) (valid : IsValid h) where
     first_region =
         let w : ℕ = h.geometry.w in
         let whole : lo / h.geometry.w * h.geometry.w + lo % h.geometry.w ≡ lo = div-add-mod' lo h.geometry.w in
-        let small : lo % h.geometry.w < h.geometry.w = below lo h.geometry.w (omega (arith, valid.limits.w_least)) in
+        let small : lo % h.geometry.w < h.geometry.w = mod-lt lo (w_positive h valid) in
         (omega (arith, whole), omega (arith, whole, small))
-      where
-        below : (p k : ℕ) → 0 < k → p % k < k
-        below p k lt = omega arith
 
     -- no object is over the card's first word: no slot is on it
     none_by : (k : Kind) (q : ℕ) (o : Object) → kind h q ≡ k → q < h.geometry.n → IsOver h lo None → start h q ≤ lo → Contains (objects h) o → lo < o.at → StandsIn k h q o → ⊥
@@ -132,7 +118,7 @@ module _ (h : Heap) (valid : IsValid h) where
 
     -- so the card has no slots
     pub none_on : IsOver h lo None → [] ≡ slots_on h c
-    none_on none = pieces [] tt (λ o i. absurd i) (λ o p i s le lt.
+    none_on none = pieces [] tt (λ o i. absurd (none_contains o i)) (λ o p i s le lt.
         let b = slot_in o p s in
         let fit = refs_fit o i in
         let q : ℕ = lo / h.geometry.w in
@@ -163,7 +149,7 @@ module _ (h : Heap) (valid : IsValid h) where
       ]
 
       here : (a / h.geometry.w < h.geometry.n) × StandsIn (kind h (a / h.geometry.w)) h (a / h.geometry.w) (object_at h a)
-      here = object_stands h (object_at h a) (a / h.geometry.w) valid (has_in (object_at h a) mine) refl
+      here = object_stands h (object_at h a) (a / h.geometry.w) valid (contains_has h (object_at h a) valid.shaped mine) refl
 
       one_row : (os : List Object) (to : ℕ) → Tiles h.words a os to → Rises 0 (flat_map slots os)
       one_row os to t =
@@ -190,7 +176,7 @@ module _ (h : Heap) (valid : IsValid h) where
                 (λ o p i sl le lt.
                 let ge = not_before o p i sl le in
                 let b = slot_in o p sl in
-                let has : HasObject h o = has_in o i in
+                let has : HasObject h o = contains_has h o valid.shaped i in
                 let placed : has.place ≡ r = sym (object_place h o valid has) ∙ div_between o.at h.geometry.w r (omega (arith, from, ge)) (omega (arith, within, b.0, lt)) in
                 let listed : Contains (objects_in h has.place) o = subst (λ l. Contains l o) (holds_are (kind h has.place) h has.place has.others has.holds) has.one_of in
                 let there : Contains (pre ++ os) o = subst (λ l. Contains l o) (sym row) (subst (λ x. Contains (objects_in h x) o) placed listed) in
@@ -235,7 +221,7 @@ module _ (h : Heap) (valid : IsValid h) where
                 ])
             | inr less ↦ (
                 let at_same : a ≡ o.at = omega (arith, ge, less) in
-                inl (ap (object_at h) at_same ∙ sym (has_is h o valid (has_in o i))))
+                (zero, omega arith, ap (object_at h) at_same ∙ sym (has_is h o valid (contains_has h o valid.shaped i))))
           ]
       alone_by Continuation o p not e s t i sl le lt = absurd t
 
@@ -249,7 +235,7 @@ module _ (h : Heap) (valid : IsValid h) where
                 let same : object_at h a ∷ [] ≡ os = Tiles-one h.words a (object_at h a ∷ []) os (a + (object_at h a).size) row u in
                 subst (λ l. filter (is_between lo hi) (flat_map slots l) ≡ slots_on h c) same
                 (pieces (object_at h a ∷ []) (one_row (object_at h a ∷ []) (a + (object_at h a).size) row)
-                (λ o i. elim i [ inl e ↦ subst (λ z. Contains (objects h) z) e mine | inr n ↦ absurd n ])
+                (λ o i. elim (cons_cases (object_at h a) [] o i) [ inl e ↦ subst (λ z. Contains (objects h) z) e mine | inr n ↦ absurd (none_contains o n) ])
                 (λ o p i sl le lt. alone_by (kind h (a / h.geometry.w)) o p not refl (valid.shaped (a / h.geometry.w) here.0).by_kind here.1 i sl le lt)),
           )
 

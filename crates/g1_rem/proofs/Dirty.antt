@@ -8,7 +8,7 @@ use Rattle.std.proofs.lemmas.List.{length-replicate, get_or-replicate, get_or_pa
 use Rattle.g1_words.specs.Lists.{has}
 use Rattle.g1_words.specs.Marks.{AreMarked, AreUnset}
 use Rattle.g1_words.proofs.Computed.{Contains-range}
-use Rattle.g1_words.proofs.Members.{Contains-filter, filter_member, has_from_contains, Contains-from_has}
+use Rattle.g1_words.proofs.Members.{Contains-filter, filter_member, has_from_contains, Contains-from_has, none_contains}
 use Rattle.g1_words.proofs.Indices.{not_has}
 use Rattle.g1_words.proofs.Lists.{filter_range_yes, all_in, all_from_in}
 use Rattle.g1_words.proofs.Logic.{same_test}
@@ -35,7 +35,7 @@ dirty_inside i c valid k = card_inside i.heap c valid.heap (all_in (IsUsedCard i
 
 -- an empty log has none
 pub none_dirty : (log : List ℕ) (c n : ℕ) → log ≡ [] → Contains log c → c < n
-none_dirty log c n e k = absurd (subst (λ l. Contains l c) e k)
+none_dirty log c n e k = absurd (none_contains c (subst (λ l. Contains l c) e k))
 
 -- ---- the dirty cards, listed
 

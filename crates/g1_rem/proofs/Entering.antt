@@ -12,7 +12,7 @@ use Rattle.std.proofs.Math.ListN.{set, length-set}
 use Rattle.std.proofs.Math.ListN.{drop_of_length-le}
 use Rattle.std.proofs.lemmas.Bool.{cases_lt, ne_eqb, and_parts, or_cases}
 use Rattle.std.proofs.lemmas.List.{get_or_push, take_all, length-append, length-replicate, get_or-replicate}
-use Rattle.std.proofs.lemmas.List.Elements.{filter-append}
+use Rattle.std.proofs.lemmas.List.Elements.{filter-append, Contains-get_or}
 use Rattle.std.proofs.lemmas.List.Folds.{list_any-append}
 use Rattle.std.proofs.Math.Nat.{mul-le-mul_right}
 use Rattle.g1_words.specs.declared.object.Object.{Object}
@@ -189,10 +189,12 @@ slot_good h card p valid c =
     let from = range_above (o.at + 1) o.refs p q.2 in
     let to = range_below (o.at + 1) o.refs p q.2 in
     let has = contains_has h o valid.shaped mine in
-    (omega (arith, fit, to, refs_fit o q.1, valid.word_count), valid.slots o p has (omega (arith, from), omega (arith, to)))
-  where
-    refs_fit : (o : Object) → Contains (objects h) o → o.refs < o.size
-    refs_fit o i = (sound h valid).slots_fit o i
+    (omega (arith, fit, to, (sound h valid).slots_fit o q.1, valid.word_count), valid.slots o p has (omega (arith, from), omega (arith, to)))
+
+-- so can what one of some slots holds, where each can
+pub slot_read : (h : Heap) (ps : List ℕ) (k : ℕ) → ((p : ℕ) → Contains ps p → (p < length h.words) × IsReference h (slice_index h.words p)) → k < length ps
+    → (slice_index ps k < length h.words) × IsReference h (slice_index h.words (slice_index ps k))
+slot_read h ps k each lt = each (slice_index ps k) (Contains-get_or ps k 0 lt)
 
 -- ---- the refined set
 

@@ -1,8 +1,9 @@
 -- The objects of a heap come one after another.
-use Rattle.std.proofs.Common.{◌≤◌, ◌<◌, ℕ, ◌+◌, ◌*◌, List, [], ◌∷◌, ◌++◌, flat_map, Contains, arith, refl, sym, ap, subst, zero, suc}
+use Rattle.std.proofs.Common.{◌≤◌, ◌<◌, ℕ, ◌+◌, ◌*◌, List, [], ◌∷◌, ◌++◌, flat_map, Contains, arith, sym, ap, subst, zero, suc}
 use Rattle.g1_words.specs.declared.object.Object.{Object}
 use Rattle.g1_words.specs.Heap.{Heap, objects, slots}
 use Rattle.g1_words.specs.Valid.{Tiles, IsValid}
+use Rattle.g1_words.proofs.Members.{Contains-first, Contains-later}
 use Rattle.g1_words.proofs.Ordered.{Ordered, Ordered-from_pairs}
 use Rattle.g1_words.proofs.Rising.{IsBefore, objects_apart}
 use Rattle.g1_words.proofs.Bounds.{object_within}
@@ -56,7 +57,8 @@ Chain-slots lo (o ∷ os) c =
 Chain-from_ordered : (lo : ℕ) (os : List Object) → Ordered IsBefore os → ((o : Object) → Contains os o → (lo ≤ o.at) × (o.refs < o.size)) → Chain lo os
 Chain-from_ordered lo [] ordered each = tt
 Chain-from_ordered lo (o ∷ os) ordered each =
-    ((each o (zero, omega arith, refl)).0, (each o (zero, omega arith, refl)).1, Chain-from_ordered (o.at + o.size) os ordered.1 (λ q i. (ordered.0 q i, (each q (suc i.0, omega (arith, i.1), i.2)).1)))
+    let front = each o (Contains-first o os) in
+    (front.0, front.1, Chain-from_ordered (o.at + o.size) os ordered.1 (λ q i. (ordered.0 q i, (each q (Contains-later o os q i)).1)))
 
 module _ (h : Heap) (valid : IsValid h) where
   -- the objects of a heap come one after another

@@ -12,8 +12,8 @@ use Rattle.g1_words.specs.declared.object.Object.{Object}
 use Rattle.g1_words.specs.Heap.{slots}
 use Rattle.g1_words.specs.Valid.{Tiles}
 use Rattle.g1_words.specs.Walk.{Reaches}
-use Rattle.g1_words.proofs.Members.{Contains-filter, filter_member}
-use Rattle.g1_words.proofs.Tiling.{Tiles-le, Tiles-append, Reaches-front, Front, same_object}
+use Rattle.g1_words.proofs.Members.{Contains-filter, filter_member, none_contains}
+use Rattle.g1_words.proofs.Tiling.{Tiles-append, Tiles-one, Reaches-front, Front}
 use Rattle.g1_words.proofs.Computed.{Contains-range, range_above, range_below, Tiles-length}
 use Rattle.g1_rem.specs.Slots.{is_between}
 use Rattle.g1_rem.specs.Marks.{Chain}
@@ -48,16 +48,6 @@ slots_range at refs lo hi first last f l =
     let b = range_below (at + 1) refs p m.0 in
     let t = is_between_there lo hi p m.1 in
     Contains-range first (last - first) p (omega (arith, a, t.0, f)) (omega (arith, a, b, t.0, t.1, f, l)))
-
--- two rows between the same addresses are one
-pub Tiles-one : (words : List ℕ) (from : ℕ) (os qs : List Object) (to : ℕ) → Tiles words from os to → Tiles words from qs to → os ≡ qs
-Tiles-one words from [] [] to t u = refl
-Tiles-one words from [] (q ∷ qs) to t u = absurd (omega (arith, t, u.1.refs_fit, Tiles-le words (from + q.size) qs to u.2))
-Tiles-one words from (o ∷ os) [] to t u = absurd (omega (arith, u, t.1.refs_fit, Tiles-le words (from + o.size) os to t.2))
-Tiles-one words from (o ∷ os) (q ∷ qs) to t u =
-    let e : o ≡ q = same_object words o q t.1 u.1 (t.0 ∙ sym u.0) in
-    let rest : os ≡ qs = Tiles-one words (from + o.size) os qs to t.2 (subst (λ x. Tiles words (from + x.size) qs to) (sym e) u.2) in
-    ap (λ x. x ∷ os) e ∙ ap (λ l. q ∷ l) rest
 
 -- the slots of a row lie in it
 pub slots_above : (words : List ℕ) (from : ℕ) (os : List Object) (to p : ℕ) → Tiles words from os to → Contains (flat_map slots os) p → from ≤ p
@@ -145,5 +135,5 @@ scan_end words from to lo hi at items s over os t =
     ∙ ap (λ l. filter (is_between lo hi) (flat_map slots l)) (sym whole)
   where
     empty : (os : List Object) → length os ≤ 0 → (p : ℕ) → Contains (flat_map slots os) p → ⊥
-    empty [] le p i = i
+    empty [] le p i = none_contains p i
     empty (o ∷ os) le p i = omega (arith, le)

@@ -17,6 +17,7 @@ use Rattle.g1_same.specs.Behind.{ShowsAt, IsThere}
 use Rattle.g1_same.proofs.Routes.{route_of}
 use Rattle.g1_report.specs.Wording.{Compared}
 use Rattle.g1_report.specs.Listed.{kind_of, count_of, roots_count, all_counts, IsShown, ComesFirst, AreCounts}
+use Rattle.g1_words.proofs.Members.{none_contains}
 
 -- the differences that were found before a way, and their numbers
 pub record IsCounted (s : Compared) (from number : ℕ) (counts : List ℕ) : Type 0 where
@@ -91,14 +92,14 @@ numbers_more s found f old new is adds =
     ∙ sym (λ i. roots_count s.before.roots s.after.roots ∷ c 1 i ∷ c 2 i ∷ c 3 i ∷ c 4 i ∷ c 5 i ∷ c 6 i ∷ c 7 i ∷ [])
 
 pub counted_none : (s : Compared) (from number : ℕ) (counts : List ℕ) → counts ≡ all_counts s [] → IsCounted s from number counts
-counted_none s from number counts is = record { found = []; there = λ f i. elim i [ ]; apart = tt; earlier = λ f i. elim i [ ]; numbers = is }
+counted_none s from number counts is = record { found = []; there = λ f i. absurd (none_contains f i); apart = tt; earlier = λ f i. absurd (none_contains f i); numbers = is }
 
 pub counted_more : (s : Compared) (a b k n : ℕ) (old new : List ℕ) (f : Found) → IsCounted s a b old → IsShown s f → (IsEarlier f.place.way.from f.place.way.number a b → ⊥)
     → new ≡ set old (kind_of f.what) (min (slice_index old (kind_of f.what) + 1) (2 ^ 64 - 1)) → k ≡ f.place.way.from → n ≡ f.place.way.number + 1 → IsCounted s k n new
 counted_more s a b k n old new f c there not adds from number = record {
   found = c.found ++ f ∷ [];
   there = λ e i. elim (Contains-append_cases c.found (f ∷ []) e i) [ inl j ↦ c.there e j | inr j ↦ subst (IsShown s) (only e j) there ];
-  apart = Ordered-append ComesFirst c.found (f ∷ []) c.apart ((λ e i. elim i [ ]), tt) (λ e d i j. subst (ComesFirst e) (only d j) (before e i));
+  apart = Ordered-append ComesFirst c.found (f ∷ []) c.apart ((λ e i. absurd (none_contains e i)), tt) (λ e d i j. subst (ComesFirst e) (only d j) (before e i));
   earlier = λ e i. subst (λ m. IsEarlier e.place.way.from e.place.way.number m n) (sym from) (subst (λ m. IsEarlier e.place.way.from e.place.way.number f.place.way.from m) (sym number) (behind e i));
   numbers = numbers_more s c.found f old new c.numbers adds;
 }

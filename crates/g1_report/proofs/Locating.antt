@@ -13,6 +13,8 @@ use Rattle.g1_words.proofs.Shapes.{IsTiled, BeginsRun, IsBuiltBy, built}
 use Rattle.g1_words.proofs.Standing.{tiled_member, run_object}
 use Rattle.g1_report.specs.declared.location.Location.TheVariants.{Inside}
 use Rattle.g1_report.specs.Location.{IsLocation, GoesOn}
+use Rattle.g1_words.proofs.Members.{Contains-first}
+use Rattle.g1_words.proofs.Members.{Contains-later}
 
 abbrev pub starts : List Object → List ℕ
 starts os = map (λ o. o.at) os
@@ -53,10 +55,10 @@ tiled_last h a from d (o ∷ os) end t low high =
     elim (cases_lt a (from + o.size)) [
       | inl lt ↦
           let last : last_to a o.at (starts os) ≡ o.at = last_above a o.at os (λ p m. let up = (tiled_member h (from + o.size) os end t.2 p m).0 in omega (arith, up, lt)) in
-          (o, inl refl, sym (ap (λ s. last_to a s (starts os)) here ∙ last), omega (arith, at, low), omega (arith, at, lt))
+          (o, Contains-first o os, sym (ap (λ s. last_to a s (starts os)) here ∙ last), omega (arith, at, low), omega (arith, at, lt))
       | inr ge ↦
           let m = tiled_last h a (from + o.size) (if nat_le o.at a then o.at else d) os end t.2 ge high in
-          (m.0, inr m.1, m.2, m.3, m.4)
+          (m.0, Contains-later o os m.0 m.1, m.2, m.3, m.4)
     ]
 
 module _ (h : Heap) (valid : IsValid h) where

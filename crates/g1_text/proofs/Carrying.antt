@@ -14,7 +14,7 @@ use Rattle.g1_words.specs.Copy.{words_at}
 use Rattle.g1_words.specs.Valid.{IsObject, HasObject}
 use Rattle.g1_words.specs.declared.object.Object.{Object}
 use Rattle.g1_words.specs.declared.region.Region.{Region}
-use Rattle.g1_words.proofs.Members.{Contains-map, map_cases, Contains-flat_map}
+use Rattle.g1_words.proofs.Members.{Contains-map, map_cases, Contains-flat_map, Contains-first, Contains-later}
 use Rattle.g1_words.proofs.Ordered.{Ordered, pairs_from_ordered}
 use Rattle.g1_words.proofs.Rising.{Ordered-append, Ordered-range}
 use Rattle.g1_words.proofs.Computed.{Contains-range, range_above, range_below}
@@ -56,19 +56,19 @@ in_zip (x ∷ xs) (y ∷ ys) d e zero l lt = (zero, omega arith, refl)
 in_zip (x ∷ xs) (y ∷ ys) d e (suc k) l lt = let m = in_zip xs ys d e k (omega (arith, l)) (omega (arith, lt)) in (suc m.0, omega (arith, m.1), m.2)
 
 zip_cases : {A B : Type 0} (xs : List A) (ys : List B) (d : A) (e : B) (p : A × B) → length ys ≡ length xs → Contains (zip xs ys) p → (k : ℕ) × (k < length xs) × ((get_or xs k d, get_or ys k e) ≡ p)
-zip_cases [] ys d e p l i = elim i [ ]
+zip_cases [] ys d e p l i = absurd (omega (arith, i.1))
 zip_cases (x ∷ xs) [] d e p l i = absurd (omega (arith, l))
 zip_cases (x ∷ xs) (y ∷ ys) d e p l (zero, b, q) = (0, omega arith, q)
 zip_cases (x ∷ xs) (y ∷ ys) d e p l (suc k, b, eq) = let r = zip_cases xs ys d e p (omega (arith, l)) (k, omega (arith, b), eq) in (suc r.0, omega (arith, r.1), r.2)
 
 ordered_across : {A : Type 0} (R : A → A → Type 0) (xs ys : List A) (x y : A) → Ordered R (xs ++ ys) → Contains xs x → Contains ys y → R x y
-ordered_across R [] ys x y o i j = elim i [ ]
+ordered_across R [] ys x y o i j = absurd (omega (arith, i.1))
 ordered_across R (z ∷ xs) ys x y o (zero, b, e) j = subst (λ a. R a y) e (o.0 y (Contains-append_right xs ys y j))
 ordered_across R (z ∷ xs) ys x y o (suc k, b, e) j = ordered_across R xs ys x y o.1 (k, omega (arith, b), e) j
 
 -- one of two places in an order has the lower number
 ordered_apart : (f : ℕ → ℕ) (xs : List ℕ) (i j : ℕ) → Ordered (λ a b. f a < f b) xs → Contains xs i → Contains xs j → f i ≡ f j → i ≡ j
-ordered_apart f [] i j o a b e = elim a [ ]
+ordered_apart f [] i j o a b e = absurd (omega (arith, a.1))
 ordered_apart f (x ∷ xs) i j o (zero, b, p) (zero, lt, q) e = sym p ∙ q
 ordered_apart f (x ∷ xs) i j o (zero, lt, p) (suc k, below, eq) e = let less : f x < f j = o.0 j (k, omega (arith, below), eq) in let same = ap f p in absurd (omega (arith, less, same, e))
 ordered_apart f (x ∷ xs) i j o (suc k, b, eq) (zero, lt, q) e = let less : f x < f i = o.0 i (k, omega (arith, b), eq) in let same = ap f q in absurd (omega (arith, less, same, e))
@@ -76,7 +76,7 @@ ordered_apart f (x ∷ xs) i j o (suc k, lt, eq) (suc n, less, same) e = ordered
 
 -- the used words of regions have rising addresses
 used_from : (w from : ℕ) (qs : List Region) (a : ℕ) → Contains (used_addresses w from qs) a → from ≤ a
-used_from w from [] a i = elim i [ ]
+used_from w from [] a i = absurd (omega (arith, i.1))
 used_from w from (q ∷ qs) a i = elim (Contains-append_cases (range_with_len from q.top) (used_addresses w (from + w) qs) a i) [
   | inl k ↦ range_above from q.top a k
   | inr k ↦ (let le = used_from w (from + w) qs a k in omega (arith, le))
@@ -239,10 +239,10 @@ some_there name n k (x ∷ objects) e = at (bytes_eq name x.name) refl (λ rest.
   where
     at : (b : Bool) → bytes_eq name x.name ≡ b → (position_from (λ o. bytes_eq name o.name) (n + 1) objects ≡ Some k → (o : NamedObject) × Contains objects o × (o.name ≡ name))
         → (o : NamedObject) × Contains (x ∷ objects) o × (o.name ≡ name)
-    at true t more = (x, inl refl, sym ((bytes_eq-Decides name x.name).0 t))
+    at true t more = (x, Contains-first x objects, sym ((bytes_eq-Decides name x.name).0 t))
     at false f more =
         let r = more (sym (ap (λ b. cond b (Some n) (position_from (λ o. bytes_eq name o.name) (n + 1) objects)) f) ∙ e) in
-        (r.0, inr r.1, r.2)
+        (r.0, Contains-later x objects r.0 r.1, r.2)
 
 module _ (g : NamedGraph) where
   named_if : (n : ℕ) (name : List ℕ) (place : Option ℕ) → place_of name g.objects ≡ place → stale_if place n name ≡ [] → IsNamed g (Some name)
@@ -260,7 +260,7 @@ module _ (g : NamedGraph) where
       All-cons (IsNamed g) target targets (named_one n target both.0) (named_all (n + 1) targets both.1)
 
   none_each : {A B : Type 0} (f : A → List B) (xs : List A) (x : A) → flat_map f xs ≡ [] → Contains xs x → f x ≡ []
-  none_each f [] x none i = elim i [ ]
+  none_each f [] x none i = absurd (omega (arith, i.1))
   none_each f (y ∷ xs) x none (zero, b, e) = ap f (sym e) ∙ (none_both (f y) (flat_map f xs) none).0
   none_each f (y ∷ xs) x none (suc k, b, e) = none_each f xs x (none_both (f y) (flat_map f xs) none).1 (k, omega (arith, b), e)
 

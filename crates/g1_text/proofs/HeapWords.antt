@@ -11,9 +11,10 @@ use Rattle.g1_words.specs.declared.object.Object.{Object}
 use Rattle.g1_words.specs.declared.region.Region.{Region}
 use Rattle.g1_words.specs.declared.region.Kind.{Kind}
 use Rattle.g1_words.specs.declared.region.Kind.TheVariants.{Free, Ordinary, HumongousFirst, Continuation}
-use Rattle.g1_words.proofs.Tiling.{Tiles-le, same_object}
+use Rattle.g1_words.proofs.Tiling.{same_object, Tiles-one}
 use Rattle.g1_image.specs.Image.{entry_of, all_words}
 use Rattle.g1_text.specs.Laid.{used_addresses, EndToEnd, StartIn, StartInEach}
+use Rattle.g1_words.proofs.Members.{none_contains}
 
 -- WORDS at addresses
 
@@ -86,8 +87,8 @@ zip_weaker R Q f (x ∷ xs) (y ∷ ys) all = (f x y all.0, zip_weaker R Q f xs y
 
 -- what holds of an element in two zips
 pub zip_both : {A B : Type 0} (R Q : A → B → Type 0) (xs : List A) (ys : List B) (x : A) → AllZip R xs ys → AllZip Q xs ys → Contains xs x → (y : B) × R x y × Q x y
-zip_both R Q [] [] x r q i = elim i [ ]
-zip_both R Q [] (b ∷ ys) x r q i = elim i [ ]
+zip_both R Q [] [] x r q i = absurd (omega (arith, i.1))
+zip_both R Q [] (b ∷ ys) x r q i = absurd (omega (arith, i.1))
 zip_both R Q (a ∷ xs) [] x r q i = elim r [ ]
 zip_both R Q (a ∷ xs) (b ∷ ys) x r q (zero, lt, e) = (b, subst (λ z. R z b) e r.0, subst (λ z. Q z b) e q.0)
 zip_both R Q (a ∷ xs) (b ∷ ys) x r q (suc k, lt, e) = zip_both R Q xs ys x r.1 q.1 (k, omega (arith, lt), e)
@@ -98,15 +99,6 @@ tiles_of : (words : List ℕ) (from : ℕ) (os : List Object) (to : ℕ) → End
 tiles_of words from [] to e each = e
 tiles_of words from (o ∷ os) to e each = (e.0, each o (zero, omega arith, refl), tiles_of words (from + o.size) os to e.1 (λ q i. each q (suc i.0, omega (arith, i.1), i.2)))
 
-tiles_one : (words : List ℕ) (from : ℕ) (os qs : List Object) (to : ℕ) → Tiles words from os to → Tiles words from qs to → os ≡ qs
-tiles_one words from [] [] to t u = refl
-tiles_one words from [] (q ∷ qs) to t u = absurd (omega (arith, t, Tiles-le words (from + q.size) qs to u.2, u.1.refs_fit))
-tiles_one words from (o ∷ os) [] to t u = absurd (omega (arith, u, Tiles-le words (from + o.size) os to t.2, t.1.refs_fit))
-tiles_one words from (o ∷ os) (q ∷ qs) to t u =
-    let first : o ≡ q = same_object words o q t.1 u.1 (t.0 ∙ sym u.0) in
-    let rest = tiles_one words (from + q.size) os qs to (subst (λ (x : Object). Tiles words (from + x.size) os to) first t.2) u.2 in
-    λ i. first i ∷ rest i
-
 holds_of : (k : Kind) (h : Heap) (r : ℕ) (os : List Object) → (region h r).kind ≡ k → StartIn k (start h r) (region h r).top os → ((o : Object) → Contains os o → IsObject h.words o) → HoldsBy k h r os
 holds_of Free h r os e st each = st
 holds_of Ordinary h r os e st each = tiles_of h.words (start h r) os (end h r) st each
@@ -115,7 +107,7 @@ holds_of Continuation h r os e st each = st
 
 holds_one : (k : Kind) (h : Heap) (r : ℕ) (os qs : List Object) → HoldsBy k h r os → HoldsBy k h r qs → os ≡ qs
 holds_one Free h r os qs a b = a ∙ sym b
-holds_one Ordinary h r os qs a b = tiles_one h.words (start h r) os qs (end h r) a b
+holds_one Ordinary h r os qs a b = Tiles-one h.words (start h r) os qs (end h r) a b
 holds_one HumongousFirst h r os qs a b = a.2 ∙ ap (λ o. o ∷ []) (same_object h.words a.0 b.0 a.1.object b.1.object (a.1.at ∙ sym b.1.at)) ∙ sym b.2
 holds_one Continuation h r os qs a b = a ∙ sym b
 
@@ -143,7 +135,7 @@ start_there w from (q ∷ qs) os (suc r) each lt =
 find_start : (w from : ℕ) (qs : List Region) (os : List Object) (o : Object) → StartInEach w from qs os → Contains os o
     → (r : ℕ) × (r < length qs) × (front : List Object) × StartIn (slice_index_or qs r free_region).kind (from + r * w) (slice_index_or qs r free_region).top front × Contains front o
     × ((p : Object) → Contains front p → Contains os p)
-find_start w from [] os o each i = absurd (subst (λ l. Contains l o) each i)
+find_start w from [] os o each i = absurd (none_contains o (subst (λ l. Contains l o) each i))
 find_start w from (q ∷ qs) os o each i = elim (Contains-append_cases each.0 each.1 o (subst (λ l. Contains l o) each.2 i)) [
   | inl k ↦
       (let here : from ≡ from + 0 * w = omega arith in

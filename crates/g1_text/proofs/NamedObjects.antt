@@ -13,7 +13,7 @@ use Rattle.g1_words.specs.References.{named, targets}
 use Rattle.g1_words.specs.Live.{Live, seed, child}
 use Rattle.g1_words.specs.Valid.{IsObject, HasObject, IsValid}
 use Rattle.g1_words.specs.declared.object.Object.{Object}
-use Rattle.g1_words.proofs.Members.{Contains-map, map_cases, Contains-flat_map, flat_map_cases}
+use Rattle.g1_words.proofs.Members.{Contains-map, map_cases, Contains-flat_map, flat_map_cases, Contains-later, cons_cases, none_contains}
 use Rattle.g1_words.proofs.Objects.{object_stands}
 use Rattle.g1_words.proofs.OneToOne.{zip_second}
 use Rattle.g1_words.proofs.Ordered.{Ordered, Ordered-from_pairs, pairs_from_ordered}
@@ -28,8 +28,8 @@ use Rattle.g1_text.proofs.Lookups.{some_some, none_some}
 
 -- PAIRS of two lists
 zip_first : {A B : Type 0} (xs : List A) (ys : List B) (p : A × B) → Contains (zip xs ys) p → Contains xs p.0
-zip_first [] ys p i = elim i [ ]
-zip_first (x ∷ xs) [] p i = elim i [ ]
+zip_first [] ys p i = absurd (omega (arith, i.1))
+zip_first (x ∷ xs) [] p i = absurd (omega (arith, i.1))
 zip_first {A} {B} (x ∷ xs) (y ∷ ys) p (zero, b, e) = (zero, omega arith, ap (λ (q : A × B). q.0) e)
 zip_first (x ∷ xs) (y ∷ ys) p (suc k, b, e) = let m = zip_first xs ys p (k, omega (arith, b), e) in (suc m.0, omega (arith, m.1), m.2)
 
@@ -44,26 +44,26 @@ order_second R (x ∷ xs) [] o = tt
 order_second R (x ∷ xs) (y ∷ ys) o = ((λ q i. o.0 q.1 (zip_second xs ys q.0 q.1 i)), order_second R xs ys o.1)
 
 zip_holds : {A B : Type 0} (R : A → B → Type 0) (xs : List A) (ys : List B) (p : A × B) → AllZip R xs ys → Contains (zip xs ys) p → R p.0 p.1
-zip_holds R [] ys p all i = elim i [ ]
-zip_holds R (x ∷ xs) [] p all i = elim i [ ]
+zip_holds R [] ys p all i = absurd (omega (arith, i.1))
+zip_holds R (x ∷ xs) [] p all i = absurd (omega (arith, i.1))
 zip_holds {A} {B} R (x ∷ xs) (y ∷ ys) p all (zero, b, e) = subst (λ (q : A × B). R q.0 q.1) e all.0
 zip_holds R (x ∷ xs) (y ∷ ys) p all (suc k, b, e) = zip_holds R xs ys p all.1 (k, omega (arith, b), e)
 
 in_first : {A B : Type 0} (R : A → B → Type 0) (xs : List A) (ys : List B) (x : A) → AllZip R xs ys → Contains xs x → (y : B) × Contains (zip xs ys) (x, y)
-in_first R [] ys x all i = elim i [ ]
+in_first R [] ys x all i = absurd (omega (arith, i.1))
 in_first R (a ∷ xs) [] x all i = elim all [ ]
-in_first R (a ∷ xs) (b ∷ ys) x all (zero, lt, e) = (b, inl (ap (λ z. (z, b)) e))
-in_first R (a ∷ xs) (b ∷ ys) x all (suc k, lt, e) = let r = in_first R xs ys x all.1 (k, omega (arith, lt), e) in (r.0, inr r.1)
+in_first R (a ∷ xs) (b ∷ ys) x all (zero, lt, e) = (b, (zero, omega arith, ap (λ z. (z, b)) e))
+in_first R (a ∷ xs) (b ∷ ys) x all (suc k, lt, e) = let r = in_first R xs ys x all.1 (k, omega (arith, lt), e) in (r.0, Contains-later (a, b) (zip xs ys) (x, r.0) r.1)
 
 in_second : {A B : Type 0} (R : A → B → Type 0) (xs : List A) (ys : List B) (y : B) → AllZip R xs ys → Contains ys y → (x : A) × Contains (zip xs ys) (x, y)
-in_second R xs [] y all i = elim i [ ]
+in_second R xs [] y all i = absurd (omega (arith, i.1))
 in_second R [] (b ∷ ys) y all i = elim all [ ]
-in_second R (a ∷ xs) (b ∷ ys) y all (zero, lt, e) = (a, inl (ap (λ z. (a, z)) e))
-in_second R (a ∷ xs) (b ∷ ys) y all (suc k, lt, e) = let r = in_second R xs ys y all.1 (k, omega (arith, lt), e) in (r.0, inr r.1)
+in_second R (a ∷ xs) (b ∷ ys) y all (zero, lt, e) = (a, (zero, omega arith, ap (λ z. (a, z)) e))
+in_second R (a ∷ xs) (b ∷ ys) y all (suc k, lt, e) = let r = in_second R xs ys y all.1 (k, omega (arith, lt), e) in (r.0, Contains-later (a, b) (zip xs ys) (r.0, y) r.1)
 
 -- two members with one mark are one, where no two have the same
 one_marked : {A B : Type 0} (f : A → B) (xs : List A) (x y : A) → Ordered (λ p q. f p ≢ f q) xs → Contains xs x → Contains xs y → f x ≡ f y → x ≡ y
-one_marked f [] x y o i j e = elim i [ ]
+one_marked f [] x y o i j e = absurd (omega (arith, i.1))
 one_marked f (z ∷ xs) x y o (zero, b, p) (zero, lt, q) e = sym p ∙ q
 one_marked f (z ∷ xs) x y o (zero, b, p) (suc k, lt, eq) e = absurd (o.0 y (k, omega (arith, lt), eq) (ap f p ∙ e))
 one_marked f (z ∷ xs) x y o (suc k, b, eq) (zero, lt, q) e = absurd (o.0 x (k, omega (arith, b), eq) (ap f q ∙ sym e))
@@ -80,9 +80,9 @@ chosen p z x rest false e f k = k e
 
 first_is : {A : Type 0} (p : A → Bool) (xs : List A) (d x : A) → Contains xs x → p x ≡ true → ((y : A) → Contains xs y → p y ≡ true → y ≡ x) → first_of p xs d ≡ x
 unfolding first_of
-first_is p [] d x i t one = elim i [ ]
+first_is p [] d x i t one = absurd (omega (arith, i.1))
 first_is p (z ∷ xs) d x (zero, b, e) t one = chosen p z x (first_of p xs d) (p z) refl (λ u. e) (λ u. absurd (false≢true (sym u ∙ ap p e ∙ t)))
-first_is p (z ∷ xs) d x (suc k, b, e) t one = chosen p z x (first_of p xs d) (p z) refl (λ u. one z (zero, omega arith, refl) u) (λ u. first_is p xs d x (k, omega (arith, b), e) t (λ y j v. one y (inr j) v))
+first_is p (z ∷ xs) d x (suc k, b, e) t one = chosen p z x (first_of p xs d) (p z) refl (λ u. one z (zero, omega arith, refl) u) (λ u. first_is p xs d x (k, omega (arith, b), e) t (λ y j v. one y (suc j.0, omega (arith, j.1), j.2) v))
 
 -- WHERE A NAME LEADS: to no place, or to that of an object
 abbrev Finds : List ℕ → ℕ → List NamedObject → List ℕ → Option ℕ → Type 0
@@ -92,21 +92,21 @@ Finds name n objects ats place =
 
 finds_at : (name : List ℕ) (n : ℕ) (x : NamedObject) (objects : List NamedObject) (a : ℕ) (ats : List ℕ) (rest : Option ℕ) (b : Bool) → bytes_eq name x.name ≡ b
     → Finds name (n + 1) objects ats rest → Finds name n (x ∷ objects) (a ∷ ats) (cond b (Some n) rest)
-finds_at name n x objects a ats rest true e r = let z : n ≡ n + 0 = omega arith in inr (0, x, ap Some z, inl refl, (bytes_eq-Decides name x.name).0 e)
+finds_at name n x objects a ats rest true e r = let z : n ≡ n + 0 = omega arith in inr (0, x, ap Some z, (zero, omega arith, refl), (bytes_eq-Decides name x.name).0 e)
 finds_at name n x objects a ats rest false e (inl r) = inl (
   r.0,
-  λ o i same. elim i [
+  λ o i same. elim (cons_cases x objects o i) [
     | inl p ↦ absurd (false≢true (sym e ∙ (bytes_eq-Decides name x.name).1 (same ∙ ap (λ (q : NamedObject). q.name) (sym p))))
     | inr j ↦ r.1 o j same
   ],
 )
 finds_at name n x objects a ats rest false e (inr r) =
     let next : n + 1 + r.0 ≡ n + suc r.0 = omega arith in
-    inr (suc r.0, r.1, r.2 ∙ ap Some next, inr r.3, r.4)
+    inr (suc r.0, r.1, r.2 ∙ ap Some next, (suc r.3.0, omega (arith, r.3.1), r.3.2), r.4)
 
 finds : (R : NamedObject → ℕ → Type 0) (name : List ℕ) (n : ℕ) (objects : List NamedObject) (ats : List ℕ) → AllZip R objects ats
     → Finds name n objects ats (position_from (λ o. bytes_eq name o.name) n objects)
-finds R name n [] ats all = inl (refl, λ o i. elim i [ ])
+finds R name n [] ats all = inl (refl, λ o i. absurd (none_contains o i))
 finds R name n (x ∷ objects) [] all = elim all [ ]
 finds R name n (x ∷ objects) (a ∷ ats) all = finds_at name n x objects a ats (position_from (λ o. bytes_eq name o.name) (n + 1) objects) (bytes_eq name x.name) refl (finds R name (n + 1) objects ats all.1)
 
@@ -249,10 +249,10 @@ still_apart f [] g a s = subst (λ (k : NamedGraph). Apart k.objects) (some_some
 still_apart f (line ∷ lines) g a (k, inl root, s) = still_apart k lines g (subst (λ (k : NamedGraph). Apart k.objects) (sym root.3) a) s
 still_apart f (line ∷ lines) g a (k, inr object, s) =
     still_apart k lines g (subst (λ (k : NamedGraph). Apart k.objects) (sym object.3)
-    (Ordered-append (λ o p. o.name ≢ p.name) f.objects (object.0 ∷ []) a ((λ p i. elim i [ ]), tt)
-    (λ o p i j. elim j [
+    (Ordered-append (λ o p. o.name ≢ p.name) f.objects (object.0 ∷ []) a ((λ p i. absurd (none_contains p i)), tt)
+    (λ o p i j. elim (cons_cases object.0 [] p j) [
       | inl e ↦ subst (λ (q : NamedObject). o.name ≢ q.name) e (All-contains (λ q. q.name ≢ object.0.name) f.objects o object.2 i)
-      | inr k ↦ elim k [ ]
+      | inr k ↦ absurd (none_contains p k)
     ]))) s
 
 pub texts_give_own_names : TextsGiveOwnNames

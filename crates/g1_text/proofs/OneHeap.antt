@@ -14,9 +14,6 @@ use lib.Ieee.Fits.{round-fits, nan-fits, inf-fits}
 use lib.Ieee.Bits.{to_bits-lt}
 use Rattle.g1_words.specs.declared.limits.Limits.TheVariants.{Wide}
 use Rattle.g1_words.specs.declared.region.Region.{Region}
-use Rattle.g1_words.specs.declared.region.Kind.{Kind}
-use Rattle.g1_words.specs.declared.region.Kind.TheVariants.{Free, Ordinary, HumongousFirst, Continuation}
-use Rattle.g1_words.specs.Kind.{kind_number}
 use Rattle.g1_image.specs.Text.{File, heading_of, file_text, table_text, words_text, numbers_text, remembered_texts, entry_text, table_words}
 use Rattle.g1_image.specs.declared.cursor.Version.TheVariants.{Two}
 use Rattle.g1_image.specs.Reading.{Are, IsU64}
@@ -26,7 +23,7 @@ use Rattle.g1_image.proofs.PrefixFree.{Are-free}
 use Rattle.g1_image.proofs.Parts.{magic_free, heading_free, entry_free}
 use Rattle.g1_image.proofs.Files.{numbers_free, words_free}
 use Rattle.g1_image.proofs.Words.{length-words_text, table_words-cons}
-use Rattle.g1_image.proofs.FileOf.{file_fits, heap_of_file}
+use Rattle.g1_image.proofs.FileOf.{file_fits, heap_of_file, kind_fits}
 use Rattle.g1_text.specs.Forms.{StandsFor, hash_behind}
 use Rattle.g1_text.specs.Graphs.{NamedObject, NamedGraph, size_of}
 use Rattle.g1_text.specs.ByName.{place_of}
@@ -68,18 +65,12 @@ image_heap f bytes i fits text is =
 
 -- THE TABLE
 
-kind_small : (k : Kind) → kind_number k < 2 ^ 32
-kind_small Free = omega arith
-kind_small Ordinary = omega arith
-kind_small HumongousFirst = omega arith
-kind_small Continuation = omega arith
-
 flags_small : (b : Bool) → flags_of b < 2 ^ 32
 flags_small false = omega arith
 flags_small true = omega arith
 
 pub entries_small : (qs : List Region) → All (λ q. q.top < 2 ^ 32) qs → All (EntryFits Two) (map entry_of qs)
-entries_small qs tops = All-map (EntryFits Two) entry_of qs (λ k d lt. (kind_small (slice_index_or qs k d).kind, tops k d lt, flags_small (slice_index_or qs k d).pinned))
+entries_small qs tops = All-map (EntryFits Two) entry_of qs (λ k d lt. (kind_fits (slice_index_or qs k d).kind, tops k d lt, flags_small (slice_index_or qs k d).pinned))
 
 -- as many words as the table announces
 pub announced : (w from : ℕ) (qs : List Region) → length (used_addresses w from qs) ≡ table_words (map entry_of qs)

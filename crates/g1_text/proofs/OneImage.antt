@@ -17,6 +17,8 @@ use Rattle.g1_text.specs.Lines.{reference_word, slot_values, data_values, object
 use Rattle.g1_text.proofs.Splitting.{Small}
 use Rattle.g1_text.proofs.Bounded.{object_small, slots_small, data_small}
 use Rattle.g1_text.proofs.Fields.{word_at, numbers_one, references_one, fronts_one, sizes_one}
+use Rattle.g1_words.proofs.Members.{cons_cases}
+use Rattle.g1_words.proofs.Members.{none_contains}
 
 length_slice : (xs : List ℕ) (from count : ℕ) → from + count ≤ length xs → length (take count (drop from xs)) ≡ count
 length_slice xs zero zero le = refl
@@ -77,13 +79,13 @@ object_one ws vs o p a b e =
 
 pub objects_one : (ws vs : List ℕ) (os ps : List Object) → ((o : Object) → Contains os o → IsPlain ws o) → ((o : Object) → Contains ps o → IsPlain vs o) → map (object_line ws) os ≡ map (object_line vs) ps
     → (os ≡ ps) × ((o : Object) → Contains os o → SameWords ws vs o)
-objects_one ws vs [] [] a b e = (refl, λ o m. absurd m)
+objects_one ws vs [] [] a b e = (refl, λ o m. absurd (none_contains o m))
 objects_one ws vs [] (p ∷ ps) a b e = let l = ap length e in absurd (omega (arith, l))
 objects_one ws vs (o ∷ os) [] a b e = let l = ap length e in absurd (omega (arith, l))
 objects_one ws vs (o ∷ os) (p ∷ ps) a b e =
     let first = object_one ws vs o p (a o (zero, omega arith, refl)) (b p (zero, omega arith, refl)) (ap (λ (ls : List (List (List ℕ))). get_or ls 0 []) e) in
     let rest = objects_one ws vs os ps (λ q m. a q (suc m.0, omega (arith, m.1), m.2)) (λ q m. b q (suc m.0, omega (arith, m.1), m.2)) (ap (drop 1) e) in
-    ((λ t. first.0 t ∷ rest.0 t), (λ q m. elim m [ inl s ↦ subst (SameWords ws vs) s first.1 | inr k ↦ rest.1 q k ]))
+    ((λ t. first.0 t ∷ rest.0 t), (λ q m. elim (cons_cases o os q m) [ inl s ↦ subst (SameWords ws vs) s first.1 | inr k ↦ rest.1 q k ]))
 
 -- the words of an object that two lists of words both hold
 pub word_one : (ws vs : List ℕ) (o : Object) (a : ℕ) → IsObject ws o → IsObject vs o → SameWords ws vs o → o.at ≤ a → a < o.at + o.size → slice_index ws a ≡ slice_index vs a

@@ -19,13 +19,13 @@ use Rattle.g1_words.specs.References.{Ref, named, refs, refs_at}
 use Rattle.g1_words.specs.Valid.{IsValid, IsReference, Tiles}
 use Rattle.g1_words.proofs.Bounds.{object_within}
 use Rattle.g1_words.proofs.Computed.{contains_has, has_contains, in_region_has, range_above, range_below}
-use Rattle.g1_words.proofs.Members.{Contains-flat_map, flat_map_cases, Contains-map, filter_member, has_from_contains}
+use Rattle.g1_words.proofs.Members.{Contains-flat_map, flat_map_cases, Contains-map, has_from_contains}
 use Rattle.g1_words.proofs.Objects.{ordinary_top, tops_fit}
 use Rattle.g1_words.proofs.Shapes.{built}
 use Rattle.g1_words.proofs.Sound.{sound}
 use Rattle.g1_words.proofs.Standing.{stands, word_used}
 use Rattle.g1_image.specs.Image.{Image, IsImage, remembered_of, used_words}
-use Rattle.g1_image.specs.Cards.{is_exact, exact}
+use Rattle.g1_image.specs.Cards.{exact}
 use Rattle.g1_image.proofs.Covers.{exact_tells}
 use Rattle.g1_rem.specs.Ahead.{is_known, AreKnown, LeadAhead}
 use Rattle.g1_rem.specs.Leads.{IsLedInto}
@@ -35,7 +35,7 @@ use Rattle.g1_rem.specs.Starts.{card_count}
 use Rattle.g1_rem.proofs.Bare.{target_there}
 use Rattle.g1_rem.proofs.Entering.{leads_none, leads_some}
 use Rattle.g1_rem.proofs.Filled.{Tiles-none, ordinary_fills, humongous_fills, row_front, row_rest, row_step}
-use Rattle.g1_rem.proofs.Leading.{lead_start, lead_end, all_exact, pass_other, pass_same, push}
+use Rattle.g1_rem.proofs.Leading.{lead_start, lead_end, all_exact, pass_other, pass_same, push, exact_below}
 use Rattle.g1_rem.proofs.Marks.{left_start}
 use Rattle.g1_rem.proofs.Next.{NextOf}
 use Rattle.g1_text.proofs.Gathering.{map_at}
@@ -212,11 +212,6 @@ module _ (h : Heap) (valid : IsValid h) (r : ℕ) (lt : r < h.geometry.n) where
         subst (λ x. Tiles h.words x (objects_in h r) to) (sym e) (subst (λ x. Tiles h.words (r * h.geometry.w) (objects_in h r) x) behind (humongous_fills h r valid lt kind))
 
 -- ---- the cards, slot by slot
-
-exact_below : (h : Heap) (r c : ℕ) → Contains (exact h r) c → c < card_count h
-exact_below h r c k =
-    let b = range_below 0 (card_count h) c (filter_member (is_exact h r) (range_with_len 0 (card_count h)) c k).0 in
-    omega (arith, b)
 
 -- before the first slot
 pub each_start : (i : Image) (sets : List (List ℕ)) → IsImage i → AreExact i → sets ≡ replicate i.heap.geometry.n [] → LeadEach i (flat_map slots (objects_from i.heap 0)) sets

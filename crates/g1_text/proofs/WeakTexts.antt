@@ -176,7 +176,7 @@ module _ (test : ℕ → Bool) where
   in_onto x xs part [] front rest (zero, b, e) = ([], xs, ap (λ l. l ++ xs) e)
   in_onto x xs part [] front rest (suc k, b, e) = absurd (omega (arith, b))
   in_onto x xs part (p ∷ ps) front rest (zero, b, e) = let f = front p ps refl in ([], f.0, ap (λ l. x ∷ l) f.1 ∙ ap (λ l. l ++ f.0) e)
-  in_onto x xs part (p ∷ ps) front rest (suc k, b, e) = let r = rest (inr (k, omega (arith, b), e)) in (x ∷ r.0, r.1, ap (λ l. x ∷ l) r.2)
+  in_onto x xs part (p ∷ ps) front rest (suc k, b, e) = let r = rest (suc k, omega (arith, b), e) in (x ∷ r.0, r.1, ap (λ l. x ∷ l) r.2)
 
   part_of_split : (xs part : List ℕ) → Contains (slice_split test xs) part → IsPart xs part
   unfolding IsPart

@@ -2,6 +2,7 @@
 use Rattle.std.proofs.Common.{◌≡◌, ℕ, zero, suc, ◌+◌, ◌^◌, ◌<◌, ◌≤◌, ◌⊎◌, inl, inr, List, [], ◌∷◌, ◌++◌, length, get_or, drop, Contains, refl, sym, ◌∙◌, ap, subst, arith, length-append}
 use Rattle.std.proofs.lemmas.Bool.{cases_lt, cases_order}
 use Rattle.g1_words.specs.Geometry.{Geometry}
+use Rattle.g1_words.proofs.Members.{none_contains}
 use Rattle.g1_trace.specs.declared.command.Command.{Command}
 use Rattle.g1_trace.specs.declared.command.Command.TheVariants.{New, Get, Put, Set, Say, Same, Copy, Drop, Pause}
 use Rattle.g1_trace.specs.TraceText.{AllFit, numbers_of, command_line, heap_line, IsHeapLine, IsCommandLine, IsText, IsBadRest, IsFirstBadLine}
@@ -144,7 +145,7 @@ abbrev EndsAt : List ℕ → Type 0
 EndsAt bytes = (line : List ℕ) × (more : List ℕ) × (bytes ≡ line ++ 10 ∷ more) × (Contains line 10 → ⊥)
 
 end_told : (bytes : List ℕ) → EndsAt bytes ⊎ (Contains bytes 10 → ⊥)
-end_told [] = inr (λ i. i)
+end_told [] = inr (none_contains 10)
 end_told (b ∷ bs) = by (same_number b 10) (end_told bs)
   where
     apart : (line : List ℕ) → (b ≡ 10 → ⊥) → (Contains line 10 → ⊥) → Contains (b ∷ line) 10 → ⊥
@@ -152,12 +153,9 @@ end_told (b ∷ bs) = by (same_number b 10) (end_told bs)
     apart line n m (suc k, b, e) = m (k, omega (arith, b), e)
 
     by : Told (b ≡ 10) → EndsAt bs ⊎ (Contains bs 10 → ⊥) → EndsAt (b ∷ bs) ⊎ (Contains (b ∷ bs) 10 → ⊥)
-    by (inl e) r = inl ([], bs, (λ t. e t ∷ bs), λ i. i)
+    by (inl e) r = inl ([], bs, (λ t. e t ∷ bs), none_contains 10)
     by (inr n) (inl (line, more, e, m)) = inl (b ∷ line, more, ap (λ xs. b ∷ xs) e, apart line n m)
     by (inr n) (inr m) = inr (apart bs n m)
-
-unended : (xs : List ℕ) → (Contains xs 10 → ⊥) → Contains xs 10 → ⊥
-unended xs n c = n c
 
 -- a trace's text, or a first bad line
 abbrev Outcome : List ℕ → Type 0
@@ -175,12 +173,12 @@ module _ (bytes : List ℕ) (g : Geometry) (roots : ℕ) where
       → ((c : Command) → IsRead bytes g.w g.k g.n roots (cs ++ c ∷ []) more → Outcome bytes) → Outcome bytes
   line_told cs rest line more r e n (inl (c, f, is)) next = next c (read_more bytes g.w g.k g.n roots cs (cs ++ c ∷ []) rest line more c r e is f refl)
   line_told cs rest line more r e n (inr m) next = let z : length cs + 1 ≡ suc (length cs) = omega arith in
-      bad_told cs rest r (subst (λ k. IsBadRest k rest) (sym z) (inr (line, more, e, unended line n, m)))
+      bad_told cs rest r (subst (λ k. IsBadRest k rest) (sym z) (inr (line, more, e, n, m)))
 
   rest_told : (cs : List Command) (rest : List ℕ) (fuel : ℕ) → 0 < length rest → length rest ≤ suc fuel → IsRead bytes g.w g.k g.n roots cs rest → EndsAt rest ⊎ (Contains rest 10 → ⊥)
       → ((ds : List Command) (more : List ℕ) → length more ≤ fuel → IsRead bytes g.w g.k g.n roots ds more → Outcome bytes) → Outcome bytes
   rest_told cs rest fuel some le r (inl (line, more, e, n)) next = line_told cs rest line more r e n (command_told line) (λ c q. next (cs ++ c ∷ []) more (shorter rest line more fuel e le) q)
-  rest_told cs rest fuel some le r (inr n) next = bad_told cs rest r (inl (unended rest n, inl some))
+  rest_told cs rest fuel some le r (inr n) next = bad_told cs rest r (inl (n, inl some))
 
   later_told : (fuel : ℕ) (cs : List Command) (rest : List ℕ) → length rest ≤ fuel → IsRead bytes g.w g.k g.n roots cs rest → Outcome bytes
   later_told fuel cs [] le r = inl (g, roots, cs, read_end bytes g roots cs [] r refl)
@@ -193,8 +191,8 @@ text_or_bad_line bytes = by (end_told bytes)
   where
     on : (line more : List ℕ) → bytes ≡ line ++ 10 ∷ more → (Contains line 10 → ⊥) → Told (IsHeapLine line) → Outcome bytes
     on line more e n (inl (w, k, m, roots, f, is)) = later_told bytes (record { w = w; k = k; n = m }) roots (length more) [] more (omega arith) (read_start bytes line more w k m roots [] e is f refl)
-    on line more e n (inr no_line) = inr (1, record { good = []; rest = bytes; split = refl; are_lines = tt; number = omega arith; bad = inr (line, more, e, unended line n, no_line) })
+    on line more e n (inr no_line) = inr (1, record { good = []; rest = bytes; split = refl; are_lines = tt; number = omega arith; bad = inr (line, more, e, n, no_line) })
 
     by : EndsAt bytes ⊎ (Contains bytes 10 → ⊥) → Outcome bytes
     by (inl (line, more, e, n)) = on line more e n (heap_told line)
-    by (inr n) = inr (1, record { good = []; rest = bytes; split = refl; are_lines = tt; number = omega arith; bad = inl (unended bytes n, inr refl) })
+    by (inr n) = inr (1, record { good = []; rest = bytes; split = refl; are_lines = tt; number = omega arith; bad = inl (n, inr refl) })

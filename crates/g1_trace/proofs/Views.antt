@@ -5,6 +5,8 @@ use Rattle.std.proofs.lemmas.List.{length-map}
 use Rattle.g1_words.specs.References.{named}
 use Rattle.g1_words.specs.Live.{Reached, seed, child}
 use Rattle.g1_words.specs.Copy.{renamed}
+use Rattle.g1_words.proofs.Members.{Contains-first, Contains-flat_map, Contains-later, Contains-map, flat_map_cases}
+use Rattle.g1_words.proofs.Sound.{named_suc}
 use Rattle.g1_trace.specs.declared.command.Command.{Command}
 use Rattle.g1_trace.specs.declared.command.Command.TheVariants.{New, Get, Put, Set, Say, Same, Copy, Drop, Pause}
 use Rattle.g1_trace.specs.declared.command.Reply.{Reply}
@@ -31,22 +33,11 @@ pub Reached-within : (seeds : List ℕ) (kids : ℕ → List ℕ) (P : ℕ → T
 Reached-within seeds kids P s k a (seed c) = s a c
 Reached-within seeds kids P s k b (child {a = a} r c) = k a b (Reached-within seeds kids P s k a r) c
 
--- every word of the list is null or in P
-Words : (ℕ → Type 0) → List ℕ → Type 0
-Words P xs = (x : ℕ) → Contains xs (suc x) → P x
-
 pub named-in : (xs : List ℕ) (a : ℕ) → Contains (flat_map named xs) a → Contains xs (suc a)
-named-in [] a h = absurd (omega (arith, h.1))
-named-in (zero ∷ xs) a h = let m = named-in xs a h in (suc m.0, omega (arith, m.1), m.2)
-named-in (suc x ∷ xs) a (zero, b, e) = (zero, omega arith, ap suc e)
-named-in (suc x ∷ xs) a (suc k, b, e) = let m = named-in xs a (k, omega (arith, b), e) in (suc m.0, omega (arith, m.1), m.2)
+named-in xs a h = let m = flat_map_cases named xs a h in subst (Contains xs) (named_suc m.0 a m.2) m.1
 
 pub in-named : (xs : List ℕ) (a : ℕ) → Contains xs (suc a) → Contains (flat_map named xs) a
-in-named [] a h = absurd (omega (arith, h.1))
-in-named (zero ∷ xs) a (zero, b, e) = absurd (omega (arith, e))
-in-named (zero ∷ xs) a (suc k, b, e) = in-named xs a (k, omega (arith, b), e)
-in-named (suc x ∷ xs) a (zero, b, e) = (zero, omega arith, omega (arith, e))
-in-named (suc x ∷ xs) a (suc k, b, e) = let m = in-named xs a (k, omega (arith, b), e) in (suc m.0, omega (arith, m.1), m.2)
+in-named xs a h = Contains-flat_map named xs (suc a) a h (Contains-first a [])
 
 Contains-suc_at : (xs : List ℕ) (k a : ℕ) → get_or xs k 0 ≡ suc a → Contains xs (suc a)
 Contains-suc_at [] k a e = absurd (omega (arith, e))
@@ -56,9 +47,9 @@ Contains-suc_at (x ∷ xs) (suc k) a e = let m = Contains-suc_at xs k a e in (su
 pub Contains-set : (xs : List ℕ) (k x y : ℕ) → Contains (set xs k x) y → (x ≡ y) ⊎ Contains xs y
 Contains-set [] k x y h = absurd (omega (arith, h.1))
 Contains-set (z ∷ xs) zero x y (zero, b, e) = inl e
-Contains-set (z ∷ xs) zero x y (suc k, b, e) = inr (inr (k, omega (arith, b), e))
-Contains-set (z ∷ xs) (suc k) x y (zero, b, e) = inr (inl e)
-Contains-set (z ∷ xs) (suc k) x y (suc j, b, eq) = elim (Contains-set xs k x y (j, omega (arith, b), eq)) [ inl e ↦ inl e | inr g ↦ inr (inr g) ]
+Contains-set (z ∷ xs) zero x y (suc k, b, e) = inr (suc k, omega (arith, b), e)
+Contains-set (z ∷ xs) (suc k) x y (zero, b, e) = inr (zero, omega arith, e)
+Contains-set (z ∷ xs) (suc k) x y (suc j, b, eq) = elim (Contains-set xs k x y (j, omega (arith, b), eq)) [ inl e ↦ inl e | inr g ↦ inr (Contains-later z xs y g) ]
 
 pub no_zeros : (n a : ℕ) → Contains (replicate n 0) (suc a) → ⊥
 no_zeros zero a h = absurd (omega (arith, h.1))
@@ -168,11 +159,6 @@ answer_goes_on v c none = for_pauses v (λ r. ⊥) c none
 
 -- ---- two views of the same objects answer alike
 
-in-renamed : (f : ℕ → ℕ) (xs : List ℕ) (a : ℕ) → Contains xs (suc a) → Contains (map (renamed f) xs) (suc (f a))
-in-renamed f [] a h = absurd (omega (arith, h.1))
-in-renamed f (x ∷ xs) a (zero, b, e) = (zero, omega arith, ap (renamed f) e)
-in-renamed f (x ∷ xs) a (suc k, b, e) = let m = in-renamed f xs a (k, omega (arith, b), e) in (suc m.0, omega (arith, m.1), m.2)
-
 -- two words that are seen are equal where their new names are
 eqb-renamed : (f : ℕ → ℕ) (x y : ℕ) → (x ≡ y → ⊥) ⊎ (x ≡ y) → (renamed f x ≡ renamed f y → x ≡ y) → eqb (renamed f x) (renamed f y) ≡ eqb x y
 eqb-renamed f x y (inr e) back = eq-eqb (renamed f x) (renamed f y) (ap (renamed f) e) ∙ sym (eq-eqb x y e)
@@ -199,11 +185,11 @@ module _ (v u : View) (same : SameView v u) where
   -- what is seen in one is seen under its other name
   pub both_seen : (a : ℕ) → Seen v a → Seen v a × Seen u (same.rename a)
   both_seen = seen_within v (λ a. Seen v a × Seen u (same.rename a))
-      (λ a h. (root_seen v a h, root_seen u (same.rename a) (subst (λ xs. Contains xs (suc (same.rename a))) (sym same.roots) (in-renamed same.rename v.roots a h))))
+      (λ a h. (root_seen v a h, root_seen u (same.rename a) (subst (λ xs. Contains xs (suc (same.rename a))) (sym same.roots) (Contains-map (renamed same.rename) v.roots (suc a) h))))
       (λ b a p h. (
         slot_seen v b a p.0 h,
         slot_seen u (same.rename b) (same.rename a) p.1
-            (subst (λ xs. Contains xs (suc (same.rename a))) (sym (same.slots b p.0)) (in-renamed same.rename (v.slots b) a h)),
+            (subst (λ xs. Contains xs (suc (same.rename a))) (sym (same.slots b p.0)) (Contains-map (renamed same.rename) (v.slots b) (suc a) h)),
       ))
 
   root_same : (r : ℕ) → get_or u.roots r 0 ≡ renamed same.rename (get_or v.roots r 0)

@@ -8,19 +8,14 @@ use Rattle.g1_words.specs.declared.region.Kind.{Kind}
 use Rattle.g1_words.specs.declared.region.Kind.TheVariants.{Free, Ordinary, HumongousFirst, Continuation}
 use Rattle.g1_words.specs.Heap.{Heap, kind, top, region_of, regions, objects, objects_in, object_at, slots}
 use Rattle.g1_words.specs.References.{Ref, refs, refs_at, named}
-use Rattle.g1_words.proofs.Computed.{Contains-range}
 use Rattle.g1_words.proofs.Indices.{range_bounds}
 use Rattle.g1_words.proofs.Members.{Contains-flat_map, flat_map_cases, map_cases}
 use Rattle.g1_words.proofs.Shapes.{IsTiled, TakesRun, IsBuiltBy, IsBuilt}
 use Rattle.g1_words.proofs.Standing.{home, ordinary_word, run_word, word_used, words_apart, built_is_sound, w_pos}
+use Rattle.g1_words.proofs.Sound.{named_suc}
 use Rattle.g1_trace.proofs.Views.{equal_or_not}
 use Rattle.g1_trace.proofs.Ready.{below_end}
-use Rattle.g1_trace.proofs.SameObjects.{region_same, flat_map-same}
-
-named_word : (x a : ℕ) → Contains (named x) a → x ≡ suc a
-named_word zero a h = absurd (omega (arith, h.1))
-named_word (suc b) a (zero, lt, e) = ap suc e
-named_word (suc b) a (suc k, lt, e) = absurd (omega (arith, lt))
+use Rattle.g1_trace.proofs.SameObjects.{region_same, flat_map-same, in_heap}
 
 -- object a has the word a + k, which isn't its header; y is written there
 module _ (h : Heap) (valid : IsBuilt h) (a k y : ℕ) (here : Contains (objects h) (object_at h a)) (low : 0 < k) (high : k < (object_at h a).size) where
@@ -39,11 +34,8 @@ module _ (h : Heap) (valid : IsBuilt h) (a k y : ℕ) (here : Contains (objects 
   same_object : (q : ℕ) → (q ≡ a + k → ⊥) → object_at (record h { words = set h.words (a + k) y }) q ≡ object_at h q
   same_object q n = ap (λ x. record { at = q; size = x / 2 ^ 32; refs = x % 2 ^ 32 }) (same_word q n)
 
-  in_region : (r : ℕ) → r < h.geometry.n → (o : Object) → Contains (objects_in h r) o → Contains (objects h) o
-  in_region r lt o m = Contains-flat_map (objects_in h) (regions h) r o (Contains-range 0 h.geometry.n r (omega arith) (omega (arith, lt))) m
-
   pub same_in : (r : ℕ) → r < h.geometry.n → objects_in (record h { words = set h.words (a + k) y }) r ≡ objects_in h r
-  same_in r lt = region_same h (record h { words = set h.words (a + k) y }) r refl refl (λ o m. same_word o.at (no_header o (in_region r lt o m)))
+  same_in r lt = region_same h (record h { words = set h.words (a + k) y }) r refl refl (λ o m. same_word o.at (no_header o (in_heap h r lt o m)))
 
   pub same_objects : objects (record h { words = set h.words (a + k) y }) ≡ objects h
   same_objects = flat_map-same (objects_in (record h { words = set h.words (a + k) y })) (objects_in h) (regions h) (λ r m. same_in r (let b = range_bounds 0 h.geometry.n r m in omega (arith, b)))
@@ -84,7 +76,7 @@ module _ (h : Heap) (valid : IsBuilt h) (a k y : ℕ) (here : Contains (objects 
     s.0,
     s.1,
     subst (λ os. IsTiled (record h { words = set h.words (a + k) y }) (r * h.geometry.w) os (r * h.geometry.w + top h r)) (sym (same_in r lt))
-        (tiled_kept (r * h.geometry.w) (objects_in h r) (r * h.geometry.w + top h r) (in_region r lt) s.2),
+        (tiled_kept (r * h.geometry.w) (objects_in h r) (r * h.geometry.w + top h r) (in_heap h r lt) s.2),
   )
   shaped_kept r HumongousFirst lt e s =
       let q : object_at h (r * h.geometry.w) ≡ object_at (record h { words = set h.words (a + k) y }) (r * h.geometry.w) = sym (first_kept r e) in
@@ -111,7 +103,7 @@ module _ (h : Heap) (valid : IsBuilt h) (a k y : ℕ) (here : Contains (objects 
             let wrote : get_or (set h.words (a + k) y) s.0 0 ≡ y = ap (λ z. get_or (set h.words (a + k) y) z 0) q ∙ get_or-set_same h.words (a + k) y 0 len in
             inr (
               ap (λ (z : Ref). z.slot) (sym t.2) ∙ q,
-              sym wrote ∙ named_word (get_or (set h.words (a + k) y) s.0 0) t.0 t.1
+              sym wrote ∙ named_suc (get_or (set h.words (a + k) y) s.0 0) t.0 t.1
                   ∙ ap (λ (z : Ref). suc z.target) t.2,
               (x.0, x.1, subst (Contains (slots x.0)) q s.1),
             )

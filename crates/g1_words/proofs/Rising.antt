@@ -11,7 +11,7 @@ use Rattle.g1_words.specs.declared.region.Kind.TheVariants.{Free, Ordinary, Humo
 use Rattle.g1_words.specs.Heap.{Heap, kind, start, end, word, regions, objects_in, objects, slots}
 use Rattle.g1_words.specs.Valid.{Tiles, HoldsBy, HasObject, IsSlotOf, IsShapedBy, IsWholeRun, IsValid}
 use Rattle.g1_words.specs.References.{Ref, refs, refs_at, named}
-use Rattle.g1_words.proofs.Members.{Contains-flat_map, flat_map_cases, Contains-map, map_cases, filter_member}
+use Rattle.g1_words.proofs.Members.{Contains-flat_map, flat_map_cases, Contains-map, map_cases, filter_member, none_contains}
 use Rattle.g1_words.proofs.Ordered.{Ordered, pairs_from_ordered}
 use Rattle.g1_words.proofs.Tiling.{Tiles-le, same_object}
 use Rattle.g1_words.proofs.Objects.{StandsIn, holds_stands, stands_within}
@@ -75,7 +75,7 @@ Tiles-ordered words from (o ∷ os) to t = (
 held_ordered : (k : Kind) (h : Heap) (r : ℕ) (os : List Object) → HoldsBy k h r os → Ordered IsBefore os
 held_ordered Free h r os t = subst (Ordered IsBefore) (sym t) tt
 held_ordered Ordinary h r os t = Tiles-ordered h.words (start h r) os (end h r) t
-held_ordered HumongousFirst h r os (o, first, e) = subst (Ordered IsBefore) (sym e) ((λ q i. absurd i), tt)
+held_ordered HumongousFirst h r os (o, first, e) = subst (Ordered IsBefore) (sym e) ((λ q i. absurd (none_contains q i)), tt)
 held_ordered Continuation h r os t = subst (Ordered IsBefore) (sym t) tt
 
 module _ (h : Heap) (valid : IsValid h) where
@@ -159,7 +159,7 @@ module _ (h : Heap) (valid : IsValid h) where
 
   refs_at_ordered : (p x : ℕ) → Ordered RefBefore (map (λ a. record { slot = p; target = a }) (named x))
   refs_at_ordered p zero = tt
-  refs_at_ordered p (suc a) = ((λ q i. absurd i), tt)
+  refs_at_ordered p (suc a) = ((λ q i. absurd (none_contains q i)), tt)
 
   at_slot : (p : ℕ) (e : Ref) → Contains (refs_at h p) e → e.slot ≡ p
   at_slot p e i = let q = map_cases (λ a. record { slot = p; target = a }) (named (word h p)) e i in sym (ap (λ (x : Ref). x.slot) q.2)

@@ -13,6 +13,7 @@ use Rattle.g1_words.proofs.Indices.{range_bounds}
 use Rattle.g1_words.proofs.Members.{flat_map_cases}
 use Rattle.g1_image.specs.Image.{IsUsedCard, region_of_card}
 use Rattle.g1heap_cli.specs.Young.{region_cards, young_cards}
+use Rattle.g1_words.proofs.Sound.{k_positive}
 
 -- the cards of a row of m cards
 row_of : (m r c : ℕ) → r * m ≤ c → c < (r + 1) * m → c / m ≡ r
@@ -25,14 +26,11 @@ row_of m r c from to =
     ]
 
 module _ (h : Heap) (valid : IsValid h) where
-  some_words : 0 < h.geometry.k
-  some_words = omega (arith, valid.limits.k_least)
-
   -- a region's first card, as a number of cards
   first_card : (m r : ℕ) → h.geometry.w ≡ m * h.geometry.k → card_of h (start h r) ≡ r * m
   first_card m r e =
       let whole : r * h.geometry.w ≡ r * m * h.geometry.k = ap (λ x. r * x) e ∙ omega arith in
-      ap (λ x. x / h.geometry.k) whole ∙ mul-div_cancel (r * m) some_words
+      ap (λ x. x / h.geometry.k) whole ∙ mul-div_cancel (r * m) (k_positive h valid)
 
   card_used : (r c : ℕ) → r < h.geometry.n → is_free (kind h r) ≡ false → card_of h (start h r) ≤ c → c < card_of h (start h (r + 1)) → IsUsedCard h c
   card_used r c lt used from to =
@@ -41,10 +39,10 @@ module _ (h : Heap) (valid : IsValid h) where
       let k : ℕ = h.geometry.k in
       let at : r * m ≤ c = omega (arith, from, first_card m r cards.1) in
       let up_to : c < (r + 1) * m = omega (arith, to, first_card m (r + 1) cards.1) in
-      let home : region_of_card h c ≡ r = ap (λ x. c * k / x) cards.1 ∙ mul-div-mul_right c m some_words ∙ row_of m r c at up_to in
+      let home : region_of_card h c ≡ r = ap (λ x. c * k / x) cards.1 ∙ mul-div-mul_right c m (k_positive h valid) ∙ row_of m r c at up_to in
       let rows : (r + 1) * h.geometry.w ≤ h.geometry.n * h.geometry.w = mul-le-mul_right h.geometry.w (omega (arith, lt)) in
       let words : (r + 1) * h.geometry.w ≡ (r + 1) * m * k = ap (λ x. (r + 1) * x) cards.1 ∙ omega arith in
-      let here : c * k < (r + 1) * m * k = mul-lt-mul_of_pos_right up_to some_words in
+      let here : c * k < (r + 1) * m * k = mul-lt-mul_of_pos_right up_to (k_positive h valid) in
       record {
         in_heap = omega (arith, here, words, rows);
         used = λ free. let free_here : kind h r ≡ Free = ap (kind h) (sym home) ∙ free in true≢false (sym (ap is_free free_here) ∙ used);

@@ -18,7 +18,7 @@ returns-clause-ok g c =
       survivors =
           ends (seeds c.args.scope.now.heap.now c.args.scope.now.window.now) (children c.args.scope.now.heap.now c.args.scope.now.window.now) s.found.items
           s.from (omega (arith, c.loop-search-test.false, c.len.ensures, s.found.ok)) i.in_order
-          (λ a k. i.reached a k);
+          i.reached;
       seen = tt;
     }
 

@@ -8,7 +8,7 @@ use Rattle.g1_words.proofs.Lists.{range_until}
 use Rattle.g1_frontier.specs.Items.{AreRanks}
 use Rattle.g1_frontier.specs.Scope.{place_in, aims_in}
 use Rattle.g1_frontier.specs.Offering.{HasTried}
-use Rattle.g1_frontier.proofs.Names.{object_in_words, object_reference}
+use Rattle.g1_frontier.proofs.Names.{object_in_words, slot_reference}
 use Rattle.g1_frontier.proofs.Offerings.{tried_none, tried_append}
 use Rattle.g1_frontier.proofs.Scopes.{all_part}
 use Rattle.g1_frontier.proofs.offering.Offers.offer_object.Goals as goal
@@ -36,8 +36,10 @@ offer_named-requires-clause-reference c =
     let s = c.args.self.now.scope.now in
     let p : ℕ = c.loop-slot.slot in
     let refs : c.args.refs ≡ word s.heap.now c.args.at % 2 ^ 32 = c.requires.slots in
-    let there : Contains (slots (object_at s.heap.now c.args.at)) p = Contains-range (c.args.at + 1) (word s.heap.now c.args.at % 2 ^ 32) p c.loop-slot.auto.slot (omega (arith, refs, c.loop-slot-test.true)) in
-    subst (λ x. IsReference s.heap.now x) (sym (c.at.ensures ∙ ap (λ l. get_or l p 0) c.words-words.ensures.same)) (object_reference s.heap.now c.requires.places.scope.valid c.args.at p c.requires.object there)
+    let there : Contains (slots (object_at s.heap.now c.args.at)) p =
+    Contains-range (c.args.at + 1) (word s.heap.now c.args.at % 2 ^ 32) p c.loop-slot.auto.slot (omega (arith, refs, c.loop-slot-test.true)) in
+    subst (λ x. IsReference s.heap.now x) (sym (c.at.ensures ∙ ap (λ l. get_or l p 0) c.words-words.ensures.same))
+    (slot_reference s.heap.now c.requires.places.scope.valid (object_at s.heap.now c.args.at) p c.requires.object there)
 
 pub offer_named-requires-clause-ranks : goal.offer_named-requires-clause-ranks
 offer_named-requires-clause-ranks c =

@@ -11,8 +11,8 @@ use Rattle.std.specs.Int.{bit_at}
 use Rattle.std.specs.Int.Count.{ones, ones-ones}
 use Rattle.std.specs.List.{count_by}
 use Rattle.g1_words.proofs.Bits.{length-marks_of, mark_of}
-use Rattle.g1_layout.specs.declared.numbers.Block.{Block}
-use Rattle.g1_layout.specs.Numbers.{number_at, marks_in, AreCounted, counted_on}
+use Rattle.g1_words.specs.declared.numbers.Block.{Block}
+use Rattle.g1_words.specs.Numbers.{number_at, marks_in, AreCounted, counted_on}
 
 -- ---- marks one by one
 

@@ -1,6 +1,6 @@
 use Rattle.std.proofs.Common.{◌≡◌, map, take}
-use Rattle.g1_layout.specs.Numbers.{AreCounted, counted_on}
-use Rattle.g1_layout.proofs.numbers.Numbers.new.Given as goal
+use Rattle.g1_words.specs.Numbers.{AreCounted, counted_on}
+use Rattle.g1_words.proofs.numbers.Numbers.new.Given as goal
 
 abbrev pub invariant-loop-word : goal.invariant-loop-word
 invariant-loop-word l = record {

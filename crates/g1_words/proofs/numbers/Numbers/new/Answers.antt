@@ -1,12 +1,12 @@
 use Rattle.std.proofs.Common.{arith, ap, sym, subst, ◌≡◌, ◌+◌, ◌*◌, ◌++◌, ◌∷◌, [], ◌∙◌, ℕ, map, length, get_or}
 use Rattle.std.proofs.lemmas.List.{map-append, length-map, length-take-le, take_all, take_more}
 use Rattle.std.proofs.lemmas.Nat.{ones-le}
-use Rattle.g1_layout.specs.declared.numbers.Block.{Block}
+use Rattle.g1_words.specs.declared.numbers.Block.{Block}
 use Rattle.g1_words.specs.Marks.{marks_of}
-use Rattle.g1_layout.specs.Numbers.{AreCounted, counted_on}
-use Rattle.g1_layout.proofs.Numbering.{counted_few, counted_on_more, AreCounted-more}
-use Rattle.g1_layout.proofs.numbers.Numbers.new.Goals as goal
-use Rattle.g1_layout.proofs.numbers.Numbers.new.Goals.{In-loop-word}
+use Rattle.g1_words.specs.Numbers.{AreCounted, counted_on}
+use Rattle.g1_words.proofs.Numbering.{counted_few, counted_on_more, AreCounted-more}
+use Rattle.g1_words.proofs.numbers.Numbers.new.Goals as goal
+use Rattle.g1_words.proofs.numbers.Numbers.new.Goals.{In-loop-word}
 
 -- there are as many blocks as words were looked at
 few : (c : In-loop-word) → length c.loop-word.blocks.items ≡ c.loop-word.word-index

@@ -3,9 +3,9 @@ use Rattle.g1_words.specs.Geometry.{most_words}
 use Rattle.g1_words.proofs.Bits.{length-marks_of}
 use Rattle.g1_frontier.specs.Numbers.{AreBits}
 use Rattle.g1_frontier.proofs.Parts.{bits_few}
-use Rattle.g1_frontier.proofs.numbers.Numbers.new_by.Given.{Over}
-use Rattle.g1_frontier.proofs.numbers.Numbers.new_by.Goals.{After-as_slice, in-1+in_ok-starts-in-1, in_default+in_ok-starts-in_default}
-use Rattle.g1_frontier.proofs.numbers.Numbers.new_by.Goals as goal
+use Rattle.g1_frontier.proofs.numbers.number_window.Given.{Over}
+use Rattle.g1_frontier.proofs.numbers.number_window.Goals.{After-as_slice, in-1+in_ok-starts-in-1, in_default+in_ok-starts-in_default}
+use Rattle.g1_frontier.proofs.numbers.number_window.Goals as goal
 
 -- there are no more bits than a heap may have words
 few : (g : Over) (c : After-as_slice g) → 64 * length c.as_slice.result.now ≤ most_words
@@ -18,14 +18,14 @@ few g c =
     ] in
     omega (arith, ap length c.as_slice.ensures.value, bits_few h c.valid.ensures window c.match-threads_for.starts.items c.requires are)
 
-pub count_starts-requires : goal.count_starts-requires
-count_starts-requires g c = few g (goal.at.count_starts-requires g c).After-as_slice
+pub new-requires : goal.new-requires
+new-requires g c = few g (goal.at.new-requires g c).After-as_slice
 
 pub returns-clause-few : goal.returns-clause-few
 returns-clause-few g c =
     omega (
       arith,
       few g (goal.at.returns-clause-few g c).After-as_slice,
-      ap length c.in_ok-count_starts.ensures,
+      ap length c.in_ok-new.ensures,
       length-marks_of (64 * length c.as_slice.result.now) c.as_slice.result.now,
     )

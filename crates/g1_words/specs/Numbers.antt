@@ -2,7 +2,7 @@
 use Rattle.std.specs.Prelude.{◌≡◌, ◌<◌, ℕ, Bool, true, false, List, [], ◌∷◌, ◌+◌, ◌*◌, ◌^◌, Option, None, Some, map, take, length, slice_index_or, count_ones}
 use Rattle.std.specs.List.{count_by}
 use Rattle.g1_words.specs.Marks.{marks_of}
-use Rattle.g1_layout.specs.declared.numbers.Block.{Block}
+use Rattle.g1_words.specs.declared.numbers.Block.{Block}
 
 -- how many of the words before one are marked
 abbrev pub number_at : List Bool → ℕ → ℕ

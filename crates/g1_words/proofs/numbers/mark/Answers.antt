@@ -3,7 +3,7 @@ use Rattle.std.specs.Int.Bits.{bit_or}
 use Rattle.std.proofs.lemmas.Grind.{get_or_default_zero}
 use Rattle.g1_words.specs.Marks.{marks_of}
 use Rattle.g1_words.proofs.Bits.{marks_of-set}
-use Rattle.g1_layout.proofs.numbers.mark.Goals as goal
+use Rattle.g1_words.proofs.numbers.mark.Goals as goal
 
 pub returns-clause-marked : goal.returns-clause-marked
 returns-clause-marked c =
