@@ -23,7 +23,7 @@ use Rattle.g1_words.specs.Layout.{forward, free_regions, kept, need, to_space, H
 use Rattle.g1_words.specs.Lists.{has}
 use Rattle.g1_words.specs.Live.{seed}
 use Rattle.g1_words.specs.Moves.{moved_object}
-use Rattle.g1_words.specs.References.{named, refs, root_targets}
+use Rattle.g1_words.specs.References.{named, root_targets}
 use Rattle.g1_words.specs.Survivors.{in_set}
 use Rattle.g1_words.specs.declared.object.Object.{Object}
 use Rattle.g1_words.specs.declared.region.Kind.{Kind}
