@@ -13,7 +13,7 @@ use Rattle.g1_words.specs.Copy.{IsCopy, renamed, renamed_words, words_at}
 use Rattle.g1_words.specs.Graph.{SameGraph}
 use Rattle.g1_words.specs.Heap.{Heap, object_at, word}
 use Rattle.g1_words.specs.Live.{Live, child, seed}
-use Rattle.g1_words.specs.References.{named, refs, root_targets, targets}
+use Rattle.g1_words.specs.References.{named, root_targets, targets}
 use Rattle.g1_words.specs.declared.object.Object.{Object}
 
 -- ---- a copy, word by word

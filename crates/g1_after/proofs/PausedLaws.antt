@@ -76,7 +76,7 @@ module _ (i : Image) (set l : List ℕ) (b : Image) (valid : IsValid i.heap) (a 
   same_in_set rs x = λ t. has rs (x / (m.geometry t).w)
 
   -- a region of the set is none of those freed after it
-  set_not_freed : (r : ℕ) → has set r ≡ true → has freed r ≡ false
+  pub set_not_freed : (r : ℕ) → has set r ≡ true → has freed r ≡ false
   set_not_freed r inset = false_from_ne_true (has freed r) (λ t.
       let lt = (region_unnamed b.heap built_between r t).0 in
       let n = ap (λ (g : Geometry). g.n) m.geometry in

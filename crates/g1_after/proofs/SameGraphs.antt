@@ -35,7 +35,7 @@ live_object h sound b (child {a = a} r c) =
 
 module _ (h : Heap) (set l : List ℕ) (sound : IsSound h) (room : HasRoom h set l) where
   -- what an object outside the set names in the set is a seed
-  named_from_outside : (o : Object) (b : ℕ) → Contains (objects h) o → in_set h set o.at ≡ false → Contains (flat_map (λ p. named (word h p)) (slots o)) b → in_set h set b ≡ true → Contains (seeds h set) b
+  pub named_from_outside : (o : Object) (b : ℕ) → Contains (objects h) o → in_set h set o.at ≡ false → Contains (flat_map (λ p. named (word h p)) (slots o)) b → in_set h set b ≡ true → Contains (seeds h set) b
   named_from_outside o b co out hb inb =
       let p = flat_map_cases (λ p. named (word h p)) (slots o) b hb in
       let e : Ref = record { slot = p.0; target = b } in

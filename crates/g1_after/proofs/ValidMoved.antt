@@ -23,7 +23,7 @@ use Rattle.g1_words.specs.Layout.{forward, free_regions, kept, need, to_space, H
 use Rattle.g1_words.specs.Lists.{has}
 use Rattle.g1_words.specs.Live.{seed}
 use Rattle.g1_words.specs.Moves.{moved_object}
-use Rattle.g1_words.specs.References.{named, refs, root_targets}
+use Rattle.g1_words.specs.References.{named, root_targets}
 use Rattle.g1_words.specs.Survivors.{in_set}
 use Rattle.g1_words.specs.declared.object.Object.{Object}
 use Rattle.g1_words.specs.declared.region.Kind.{Kind}
@@ -236,7 +236,8 @@ module _ (i : Image) (set l : List ℕ) (j : Image) (valid : IsBuilt i.heap) (ro
         subst (λ y. forward i.heap l y + m < i.heap.geometry.n * i.heap.geometry.w) at (below_total (forward i.heap l x.0 + m) (subst (λ y. y < i.heap.geometry.n) (sym u.2) g.1))
   ]
 
-  kept_if : (b : ℕ) → Contains (objects i.heap) (object_at i.heap b) → (in_set i.heap set b ≡ true → Contains l b) → Contains (kept i.heap set l) (object_at i.heap b)
+  -- an object that is a survivor if it stands in the set is kept
+  pub kept_if : (b : ℕ) → Contains (objects i.heap) (object_at i.heap b) → (in_set i.heap set b ≡ true → Contains l b) → Contains (kept i.heap set l) (object_at i.heap b)
   kept_if b c f = elim (cases_Bool (in_set i.heap set b)) [
     | inl t ↦ survivor_kept i set l j sound_before room moved b (f t)
     | inr o ↦ kept_outside i set l j sound_before room moved (object_at i.heap b) c o

@@ -1,14 +1,15 @@
 -- The search over the objects outside the set, by address.
-use Rattle.std.proofs.Common.{◌≡◌, ◌≢◌, ℕ, zero, suc, ◌+◌, ◌*◌, ◌<◌, ◌≤◌, inl, inr, List, [], ◌∷◌, ◌++◌, length, flat_map, Contains, IsFalse, refl, sym, ap, subst, ◌∙◌, arith, slice_index, Bool}
+use Rattle.std.proofs.Common.{◌≡◌, ◌≢◌, ℕ, zero, suc, ◌+◌, ◌*◌, ◌<◌, ◌≤◌, inl, inr, List, [], ◌∷◌, length, flat_map, Contains, IsFalse, refl, sym, ap, subst, ◌∙◌, arith, slice_index, Bool}
 use Rattle.std.proofs.Math.Nat.{div-mul-le_self, lt-div-mul-add, mul-le-mul_right}
 use Rattle.std.proofs.lemmas.Bool.{cases_lt}
-use Rattle.std.proofs.lemmas.List.Elements.{Contains-append_left, Contains-get_or}
+use Rattle.std.proofs.lemmas.List.Elements.{Contains-get_or}
 use Rattle.g1_words.specs.declared.object.Object.{Object}
 use Rattle.g1_words.specs.declared.region.Kind.TheVariants.{Free}
 use Rattle.g1_words.specs.Lists.{has}
 use Rattle.g1_words.specs.Heap.{Heap, kind, start, region_of, object_at, objects, objects_in, regions}
 use Rattle.g1_words.specs.Valid.{IsValid}
 use Rattle.g1_words.proofs.Computed.{Contains-range, in_region_has, has_contains}
+use Rattle.g1_words.proofs.Lists.{Ordered-append_left, Ordered-append_right}
 use Rattle.g1_words.proofs.Members.{Contains-map, flat_map_cases, map_cases}
 use Rattle.g1_words.proofs.Objects.{div_between}
 use Rattle.g1_words.proofs.Ordered.{Ordered, Ordered-from_pairs}
@@ -23,18 +24,10 @@ use Rattle.g1_kept.proofs.Search.{skip_to, turn_outside}
 
 -- ---- the objects of a region rise
 
-ordered_left : {A : Type 0} (R : A → A → Type 0) (xs ys : List A) → Ordered R (xs ++ ys) → Ordered R xs
-ordered_left R [] ys o = tt
-ordered_left R (x ∷ xs) ys o = ((λ y i. o.0 y (Contains-append_left xs ys y i)), ordered_left R xs ys o.1)
-
-ordered_right : {A : Type 0} (R : A → A → Type 0) (xs ys : List A) → Ordered R (xs ++ ys) → Ordered R ys
-ordered_right R [] ys o = o
-ordered_right R (x ∷ xs) ys o = ordered_right R xs ys o.1
-
 ordered_part : {A B : Type 0} (R : B → B → Type 0) (f : A → List B) (xs : List A) (x : A) → Contains xs x → Ordered R (flat_map f xs) → Ordered R (f x)
 ordered_part R f [] x i o = absurd (omega (arith, i.1))
-ordered_part R f (y ∷ xs) x (zero, b, e) o = subst (λ z. Ordered R (f z)) e (ordered_left R (f y) (flat_map f xs) o)
-ordered_part R f (y ∷ xs) x (suc k, b, e) o = ordered_part R f xs x (k, omega (arith, b), e) (ordered_right R (f y) (flat_map f xs) o)
+ordered_part R f (y ∷ xs) x (zero, b, e) o = subst (λ z. Ordered R (f z)) e (Ordered-append_left R (f y) (flat_map f xs) o)
+ordered_part R f (y ∷ xs) x (suc k, b, e) o = ordered_part R f xs x (k, omega (arith, b), e) (Ordered-append_right R (f y) (flat_map f xs) o)
 
 rise_of : (os : List Object) → Ordered IsBefore os → ((o : Object) → Contains os o → 0 < o.size) → (i j : ℕ) → i < j → j < length (starts_of os)
     → slice_index (starts_of os) i < slice_index (starts_of os) j

@@ -10,7 +10,7 @@ use Rattle.g1_words.specs.declared.region.Kind.TheVariants.{Free, Ordinary, Humo
 use Rattle.g1_words.specs.Lists.{has}
 use Rattle.g1_words.specs.Heap.{Heap, free_region, kind, top, start, end, word, region_of, tiles, objects_by, objects_in, objects, object_at, regions}
 use Rattle.g1_words.specs.Valid.{IsValid}
-use Rattle.g1_words.proofs.Members.{Contains-flat_map, map_cases, Contains-map}
+use Rattle.g1_words.proofs.Members.{Contains-flat_map, Contains-later, map_cases, Contains-map}
 use Rattle.g1_words.proofs.Objects.{div_between, tops_fit}
 use Rattle.g1_words.proofs.Computed.{Contains-range, in_region_has, has_contains}
 use Rattle.g1_words.proofs.Shapes.{built}
@@ -47,7 +47,8 @@ along_if g h m n from to end true true also (suc i) rest lt same =
     let first : word g from ≡ word h from = same 0 (omega arith) in
     let size : (object_at g from).size ≡ (object_at h from).size = ap (λ x. x / 2 ^ 32) first in
     let there = rest i (omega (arith, lt)) (λ j p. same (suc j) (omega (arith, p))) in
-    inr (subst (λ z. Contains (tiles h n (from + z) end) (object_at h (slice_index (starts_of (tiles g m (from + (object_at g from).size) to)) i))) size there)
+    let o : Object = object_at h (slice_index (starts_of (tiles g m (from + (object_at g from).size) to)) i) in
+    Contains-later (object_at h from) (tiles h n (from + (object_at h from).size) end) o (subst (λ z. Contains (tiles h n (from + z) end) o) size there)
 
 below_too : (from to end : ℕ) → to ≤ end → ltb from to ≡ true → ltb from end ≡ true
 below_too from to end le e = elim (cases_lt from end) [

@@ -14,6 +14,7 @@ use Rattle.g1_words.specs.Survivors.{firsts, IsBreadthFirst}
 use Rattle.g1_words.proofs.Members.{has_from_contains}
 use Rattle.g1_words.proofs.Firsts.{Contains-firsts, firsts_member, firsts-append}
 use Rattle.g1_words.proofs.Indices.{Contains-take, take_cases, not_has}
+use Rattle.g1_words.proofs.Lists.{range_more}
 use Rattle.g1_same.specs.declared.walk.Walk.{Walk}
 use Rattle.g1_same.specs.Same.{IsRenaming}
 use Rattle.g1_same.specs.Walk.{IsWay, IsWalk, IsEarlier, IsLinked}
@@ -30,20 +31,13 @@ firsts_known xs x h = firsts-append xs (x ∷ []) ∙ ap (λ b. firsts xs ++ con
 firsts_new : (xs : List ℕ) (x : ℕ) → (Contains xs x → ⊥) → firsts (xs ++ x ∷ []) ≡ firsts xs ++ x ∷ []
 firsts_new xs x h = firsts-append xs (x ∷ []) ∙ ap (λ b. firsts xs ++ cond (not b) (x ∷ []) []) (not_has xs x h)
 
-range_more : (a n : ℕ) → range_with_len a (n + 1) ≡ range_with_len a n ++ (a + n) ∷ []
-range_more a n = let one : suc n ≡ n + 1 = omega arith in subst (λ m. range_with_len a m ≡ range_with_len a n ++ (a + n) ∷ []) one (last a n)
-  where
-    last : (a n : ℕ) → range_with_len a (suc n) ≡ range_with_len a n ++ (a + n) ∷ []
-    last a zero = let e : a ≡ a + 0 = omega arith in ap (λ z. z ∷ []) e
-    last a (suc n) = let e : a + 1 + n ≡ a + suc n = omega arith in ap (λ l. a ∷ l) (last (a + 1) n) ∙ ap (λ z. a ∷ (range_with_len (a + 1) n ++ z ∷ [])) e
-
 -- ---- ways
 
-earlier_cases : (f m k n : ℕ) → IsEarlier f m k (n + 1) → IsEarlier f m k n ⊎ ((f ≡ k) × (m ≡ n))
+pub earlier_cases : (f m k n : ℕ) → IsEarlier f m k (n + 1) → IsEarlier f m k n ⊎ ((f ≡ k) × (m ≡ n))
 earlier_cases f m k n (inl e) = inl (inl e)
 earlier_cases f m k n (inr e) = elim (cases_lt m n) [ inl l ↦ inl (inr (e.0, l)) | inr l ↦ inr (e.0, omega (arith, e.1, l)) ]
 
-earlier_up : (f m k n : ℕ) → IsEarlier f m k n → IsEarlier f m (suc k) 0
+pub earlier_up : (f m k n : ℕ) → IsEarlier f m k n → IsEarlier f m (suc k) 0
 earlier_up f m k n (inl e) = inl (omega (arith, e))
 earlier_up f m k n (inr e) = inl (omega (arith, e.0))
 
