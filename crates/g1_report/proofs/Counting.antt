@@ -106,7 +106,7 @@ counted_more s a b k n old new f c there not adds from number = record {
   where
     only : (e : Found) → Contains (f ∷ []) e → f ≡ e
     only e (zero, b, is) = is
-    only e (suc k, b, eq) = elim (k, omega (arith, b), eq) [ ]
+    only e (suc k, b, eq) = absurd (omega (arith, b))
 
     before : (e : Found) → Contains c.found e → ComesFirst e f
     before e i = earlier_than e.place.way.from e.place.way.number a b f.place.way.from f.place.way.number (c.earlier e i) not

@@ -145,8 +145,8 @@ fn lists(finding: &Finding, all: Option<u64>) -> Option<u64>
 }
 
 fn sides_of<'a>(asked: &Asked<'a>) -> Sides<'a>
-    ensures before { result.before.now ≡ asked.now.before.now.image.heap }
-    ensures after { result.after.now ≡ asked.now.after.now.image.heap }
+    ensures before { result.heaps.before.now ≡ asked.now.before.now.image.heap }
+    ensures after { result.heaps.after.now ≡ asked.now.after.now.image.heap }
     ensures compared { compared result ≡ compared_of asked.now }
 {
     Sides {
