@@ -1,5 +1,5 @@
 -- What budgets buy of the three regions.
-use Rattle.std.proofs.Common.{◌≡◌, ℕ, ◌+◌, ◌<◌, ◌≤◌, List, [], ◌∷◌, filter, take, Contains, inl, refl, zero, suc, arith}
+use Rattle.std.proofs.Common.{◌≡◌, ℕ, ◌+◌, ◌<◌, ◌≤◌, List, [], ◌∷◌, filter, take, Contains, refl, zero, suc, arith}
 use Rattle.g1_words.specs.Heap.{regions}
 use Rattle.g1_words.specs.Lists.{has}
 use Rattle.g1_choose.specs.Choice.{comes_before, pause_cost}
@@ -23,11 +23,8 @@ buys budget m set le pays stop e = record {
   rising = e;
 }
 
-two_swapped_in : (a b r : ℕ) → Contains (a ∷ b ∷ []) r → Contains (b ∷ a ∷ []) r
-two_swapped_in a b r (zero, lt, e) = let m = inl e in (suc m.0, omega (arith, m.1), m.2)
-two_swapped_in a b r (suc zero, lt, e) = (zero, omega arith, e)
-two_swapped_in a b r (suc (suc k), lt, e) = absurd (omega (arith, lt))
-
 -- a list of two has its members in either order
 pub two_swapped : (a b r : ℕ) → Contains (a ∷ b ∷ []) r → Contains (b ∷ a ∷ []) r
-two_swapped a b r k = two_swapped_in a b r k
+two_swapped a b r (zero, lt, e) = (suc zero, omega arith, e)
+two_swapped a b r (suc zero, lt, e) = (zero, omega arith, e)
+two_swapped a b r (suc (suc k), lt, e) = absurd (omega (arith, lt))

@@ -9,7 +9,7 @@ use Rattle.g1_words.specs.declared.region.Kind.{Kind}
 use Rattle.g1_words.specs.declared.region.Kind.TheVariants.{Free, Ordinary, HumongousFirst, Continuation}
 use Rattle.g1_words.specs.Lists.{has}
 use Rattle.g1_words.specs.Heap.{Heap, free_region, region, regions, kind, top, word, region_of, object_at, objects, objects_in}
-use Rattle.g1_words.specs.References.{refs, root_targets, targets}
+use Rattle.g1_words.specs.References.{root_targets, targets}
 use Rattle.g1_words.specs.Live.{Reached, seed, child}
 use Rattle.g1_words.specs.Survivors.{in_set, seeds, children}
 use Rattle.g1_words.specs.Layout.{HasRoom, forward, kept, free_regions, to_space, need}
