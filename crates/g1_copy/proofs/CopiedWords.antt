@@ -26,7 +26,7 @@ use Rattle.g1_layout.proofs.Lists.{range-more}
 use Rattle.g1_layout.proofs.Running.{count_places, fits, laid_before-more, place_is, size_is, stretch_lies}
 use Rattle.g1_layout.proofs.Stretches.{forward_at}
 use Rattle.g1_layout.specs.Placed.{CanPlace}
-use Rattle.g1_layout.specs.Plan.{Plan, laid_before, run_at, runs}
+use Rattle.g1_layout.specs.Plan.{Plan, laid_before, run_at}
 use Rattle.g1_layout.specs.declared.plan.Run.{Run}
 use Rattle.g1_copy.specs.Plans.{IsPlanOf}
 use Rattle.g1_copy.specs.Gathered.{placed_words, to_space_words}

@@ -6,7 +6,7 @@ use Rattle.std.proofs.lemmas.List.Elements.{Contains-append_right, Contains-get_
 use Rattle.std.proofs.lemmas.Simd.{map-map}
 use Rattle.g1_words.specs.Copy.{renamed}
 use Rattle.g1_words.specs.Heap.{Heap}
-use Rattle.g1_words.specs.Layout.{forward, moved_to, places}
+use Rattle.g1_words.specs.Layout.{forward, moved_to}
 use Rattle.g1_words.specs.Lists.{has}
 use Rattle.g1_words.specs.Live.{seed}
 use Rattle.g1_words.specs.References.{Ref, refs, root_targets}

@@ -1,5 +1,5 @@
 -- What is made ready for a pause is what its commit needs.
-use Rattle.std.proofs.Common.{◌≡◌, ℕ, ◌*◌, ◌<◌, inl, inr, not, ◌&&◌, List, [], ◌++◌, All, length, map, flat_map, get_or, refl, sym, ◌∙◌, ap, subst, arith, Contains, zero}
+use Rattle.std.proofs.Common.{◌≡◌, ℕ, ◌*◌, ◌<◌, inl, inr, not, ◌&&◌, List, [], ◌++◌, All, length, map, flat_map, get_or, refl, sym, ◌∙◌, ap, subst, arith, Contains}
 use Rattle.std.proofs.lemmas.Bool.{cases_lt}
 use Rattle.std.specs.List.{list_any, range_with_len}
 use Rattle.std.specs.List.Sorted.{IsStrictlyIncreasing}

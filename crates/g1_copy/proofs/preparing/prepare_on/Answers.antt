@@ -8,8 +8,8 @@ use Rattle.g1_copy.specs.Prepared.{IsMadeFor}
 use Rattle.g1_copy.proofs.PreparedPause.{all_found, into_there}
 use Rattle.g1_copy.proofs.preparing.prepare_on.Goals as goal
 
-pub patches_by-requires : goal.patches_by-requires
-patches_by-requires g c κs within =
+pub patches_by-requires-after_bounds : goal.patches_by-requires-after_bounds
+patches_by-requires-after_bounds g c κs within =
     let here = c.requires.cards ∙ ap (λ h. cards_into h (map (λ s. s.items) c.args.basis.now.remembered.now) c.args.basis.now.set.now) (sym c.heap_of-heap.ensures.same) in
     into_there c.heap_of-heap.result.now (map (λ s. s.items) c.args.basis.now.remembered.now) c.args.basis.now.set.now c.args.basis.now.cards.now here
 
