@@ -1,5 +1,5 @@
 -- What was written, part after part.
-use Rattle.std.proofs.Common.{ℕ, ◌-◌, ◌≤◌, List, Option, Result, Ok, Err, length, sym, subst, arith}
+use Rattle.std.proofs.Common.{ℕ, ◌≤◌, List, Option, Result, Ok, Err, length, sym, subst, arith}
 use Rattle.std.proofs.lemmas.List.{take_all}
 use Rattle.std.specs.Io.KnownBytes.{Appends, Keeps}
 use Rattle.std.proofs.KnownBytes.{Appends-kept}

@@ -15,8 +15,6 @@ use Rattle.std.proofs.lemmas.Str.Parse.{not_in_digits}
 use Rattle.std.proofs.lemmas.Str.Pattern.{IsSplitOnceResult, split_parts}
 use Rattle.g1_words.specs.Lists.{has}
 use Rattle.clap.specs.Words.{Text}
-use Rattle.g1_command.specs.declared.values.Misuse.{Misuse}
-use Rattle.g1_command.specs.declared.values.Misuse.TheVariants as misuse
 use Rattle.g1_command.specs.Values.{IsBelow}
 use Rattle.g1_command.specs.Lists.{HasTwice, IsRegionOfImage, AreBetween, AreRegionsOfPart, AreRegionsIn, AddsParts, AddNone, ends_of, parts_of, rising}
 use Rattle.g1_words.proofs.Numerals.{by_value}

@@ -18,7 +18,7 @@ use Rattle.g1_words.proofs.Computed.{Contains-range}
 use Rattle.g1_words.proofs.Indices.{range_bounds, is_free_region}
 use Rattle.g1_words.proofs.Members.{Contains-flat_map, Contains-filter, Contains-map, filter_member, map_cases, has_from_contains, Contains-from_has, any_member}
 use Rattle.g1_words.proofs.OneToOne.{kept_cases, outside_stays, survivor_to_free}
-use Rattle.g1_words.proofs.Shapes.{IsBuilt, built}
+use Rattle.g1_words.proofs.Shapes.{built}
 use Rattle.g1_words.proofs.Sound.{IsSound}
 use Rattle.g1_words.proofs.Standing.{InHumongous, Stands, built_is_sound, home, home_region, ordinary_word, run_word, w_pos, word_in_ordinary, word_used}
 use Rattle.g1_words.proofs.Lists.{none_passes, by_number, any_from_in}
@@ -26,10 +26,8 @@ use Rattle.g1_words.proofs.Logic.{same_test}
 use Rattle.g1_image.specs.Image.{Image}
 use Rattle.g1_image.specs.Cards.{IsTracked}
 use Rattle.g1_after.specs.Made.{heap_moved, image_moved}
-use Rattle.g1_after.specs.Moved.{IsMoved}
 use Rattle.g1_after.specs.Survived.{IsMovedRef}
 use Rattle.g1_after.specs.Unnamed.{has_word, humongous, is_named, lies_in, unnamed}
-use Rattle.g1_after.proofs.Existence.{made_is_moved}
 use Rattle.g1_after.proofs.ObjectsOf.{kept_outside, survivor_region}
 use Rattle.g1_after.proofs.RefsMoved.{refs_moved}
 use Rattle.g1_after.proofs.RefsOf.{slot_of, ref_of}
@@ -39,6 +37,7 @@ use Rattle.g1_after.proofs.ToSpace.{survivor_kept}
 use Rattle.g1_after.proofs.UnnamedRegions.{humongous_home, word_in_run}
 use Rattle.g1_after.proofs.ValidMoved.{kept_refs, humongous_shape, object_stays, root_kept, slot_names}
 use Rattle.g1_copy.proofs.UnnamedFirsts.{first_by_test, kind_tells, moved_tracked}
+use Rattle.g1_copy.proofs.Ground.{Ground, ground}
 use Rattle.g1_pause.specs.declared.steps.Outcome.{Outcome}
 use Rattle.g1_pause.specs.declared.steps.Outcome.TheVariants.{Ready, NoRoom}
 use Rattle.g1_pause.specs.Steps.{IsOutcome}
@@ -73,14 +72,8 @@ module _ (i : Image) (set l : List ℕ) (tracked : IsTracked i) (a : HasRoom i.h
   abbrev j : Image
   j = image_moved i set l
 
-  abbrev valid : IsBuilt i.heap
-  valid = built i.heap tracked.image.heap
-
-  abbrev s : IsSound i.heap
-  s = built_is_sound i.heap valid
-
-  abbrev moved : IsMoved i set l (image_moved i set l)
-  moved = made_is_moved i set l valid a
+  abbrev g : Ground i set l
+  g = ground i set l tracked.image.heap a
 
   abbrev f : ℕ → ℕ
   f = forward i.heap l
@@ -88,21 +81,21 @@ module _ (i : Image) (set l : List ℕ) (tracked : IsTracked i) (a : HasRoom i.h
   -- a slot in the set is one of an object in the set
   slot_home : (o : Object) (m : ℕ) → Contains (objects h) o → m < o.size → in_set h set o.at ≡ true → in_set h set (o.at + m) ≡ true
   slot_home o m c lt e =
-      let t = home h valid o c in
+      let t = home h g.built o c in
       let one : kind h (region_of h o.at) ≡ Ordinary = a.ordinary (region_of h o.at) (Contains-from_has set (region_of h o.at) e) in
-      let at : region_of h o.at ≡ t.0 = home_region h valid t.0 o t.2 in
+      let at : region_of h o.at ≡ t.0 = home_region h g.built t.0 o t.2 in
       elim t.2.2 [
-        | inl y ↦ ap (has set) ((ordinary_word h valid t.0 o m y lt).0 ∙ sym at) ∙ e
+        | inl y ↦ ap (has set) ((ordinary_word h g.built t.0 o m y lt).0 ∙ sym at) ∙ e
         | inr y ↦ let clash : HumongousFirst ≡ Ordinary = sym y.kind ∙ ap (kind h) (sym at) ∙ one in cc
       ]
 
   -- and one outside is one of an object outside
   slot_outside : (o : Object) (m : ℕ) → Contains (objects h) o → m < o.size → in_set h set o.at ≡ false → in_set h set (o.at + m) ≡ false
   slot_outside o m c lt out = false_from_ne_true (in_set h set (o.at + m)) (λ e.
-      let t = home h valid o c in
+      let t = home h g.built o c in
       let one : kind h (region_of h (o.at + m)) ≡ Ordinary = a.ordinary (region_of h (o.at + m)) (Contains-from_has set (region_of h (o.at + m)) e) in
-      let w = word_in_ordinary h valid t.0 o m t.2 lt one in
-      false≢true (sym out ∙ ap (has set) (home_region h valid t.0 o t.2 ∙ sym w.1) ∙ e))
+      let w = word_in_ordinary h g.built t.0 o m t.2 lt one in
+      false≢true (sym out ∙ ap (has set) (home_region h g.built t.0 o t.2 ∙ sym w.1) ∙ e))
 
   module _ (r : ℕ) (lt : r < i.heap.geometry.n) (first : is_first (kind i.heap r) ≡ true) where
     two : kind h r ≡ HumongousFirst
@@ -125,26 +118,26 @@ module _ (i : Image) (set l : List ℕ) (tracked : IsTracked i) (a : HasRoom i.h
 
     o_home : Stands h r o × InHumongous h r o
     o_home =
-        let t = humongous_home h valid o o_humongous in
-        let same : t.0 ≡ r = sym (home_region h valid t.0 o t.2) ∙ there in
+        let t = humongous_home h g.built o o_humongous in
+        let same : t.0 ≡ r = sym (home_region h g.built t.0 o t.2) ∙ there in
         subst (λ q. Stands h q o × InHumongous h q o) same (t.2, t.3)
 
     outside : in_set h set at ≡ false
     outside = ap (has set) there ∙ false_from_ne_true (has set r) (λ t. let clash : Ordinary ≡ HumongousFirst = sym (a.ordinary r (Contains-from_has set r t)) ∙ two in cc)
 
     stays : f at ≡ at
-    stays = outside_stays h set l s a at outside
+    stays = outside_stays h set l g.sound a at outside
 
     object_same : object_at j.heap at ≡ o
-    object_same = object_stays i set l j valid a moved o o_is_one outside
+    object_same = object_stays i set l j g.built a g.moved o o_is_one outside
 
     -- what is moved there was there
     back : (x : ℕ) → Contains (kept h set l) (object_at h x) → f x ≡ at → x ≡ at
-    back x k e = elim (kept_cases h set l s a (object_at h x) k) [
-      | inl y ↦ sym (outside_stays h set l s a x y.0) ∙ e
+    back x k e = elim (kept_cases h set l g.sound a (object_at h x) k) [
+      | inl y ↦ sym (outside_stays h set l g.sound a x y.0) ∙ e
       | inr y ↦
           let same : y.0 ≡ x = ap (λ (q : Object). q.at) y.2 in
-          let free = survivor_to_free h set l s a y.0 y.1 in
+          let free = survivor_to_free h set l g.sound a y.0 y.1 in
           let clash : HumongousFirst ≡ Free = sym two ∙ ap (kind h) (sym there) ∙ ap (λ z. kind h (region_of h z)) (sym e ∙ ap f (sym same)) ∙ free in
           cc
     ]
@@ -153,7 +146,7 @@ module _ (i : Image) (set l : List ℕ) (tracked : IsTracked i) (a : HasRoom i.h
     own_word : (q : Object) (m : ℕ) → Contains (objects h) q → m < q.size → has (run h r) (region_of h (q.at + m)) ≡ has_word o (q.at + m)
     own_word q m c less = same_test (has (run h r) (region_of h (q.at + m))) (has_word o (q.at + m)) to from where
       fills : (o.size ≤ div_ceil o.size h.geometry.w * h.geometry.w) × (div_ceil o.size h.geometry.w * h.geometry.w < o.size + h.geometry.w)
-      fills = div_ceil_times o.size h.geometry.w (w_pos h valid)
+      fills = div_ceil_times o.size h.geometry.w (w_pos h g.built)
 
       to : has (run h r) (region_of h (q.at + m)) ≡ true → has_word o (q.at + m) ≡ true
       to t =
@@ -166,12 +159,12 @@ module _ (i : Image) (set l : List ℕ) (tracked : IsTracked i) (a : HasRoom i.h
           let sum : (r + (region_of h (q.at + m) - r)) * h.geometry.w ≡ r * h.geometry.w + (region_of h (q.at + m) - r) * h.geometry.w = add-mul r (region_of h (q.at + m) - r) h.geometry.w in
           let whole : r + (region_of h (q.at + m) - r) ≡ region_of h (q.at + m) = omega (arith, low) in
           let product : (r + (region_of h (q.at + m) - r)) * h.geometry.w ≡ region_of h (q.at + m) * h.geometry.w = ap (λ z. z * h.geometry.w) whole in
-          let wide = w_pos h valid in
+          let wide = w_pos h g.built in
           let lies : lies_in h (region_of h (q.at + m)) o ≡ true =
           and_from (ltb (r * h.geometry.w) (region_of h (q.at + m) * h.geometry.w + h.geometry.w)) (ltb (region_of h (q.at + m) * h.geometry.w) (r * h.geometry.w + o.size))
           (lt-ltb (r * h.geometry.w) (region_of h (q.at + m) * h.geometry.w + h.geometry.w) (omega (arith, from, wide)))
           (lt-ltb (region_of h (q.at + m) * h.geometry.w) (r * h.geometry.w + o.size) (omega (arith, sum, product, next, one, fills.1))) in
-          sym (word_in_run h valid o q m o_humongous c less) ∙ lies
+          sym (word_in_run h g.built o q m o_humongous c less) ∙ lies
 
       from : has_word o (q.at + m) ≡ true → has (run h r) (region_of h (q.at + m)) ≡ true
       from t =
@@ -179,16 +172,16 @@ module _ (i : Image) (set l : List ℕ) (tracked : IsTracked i) (a : HasRoom i.h
           let low = leb-true at (q.at + m) b.0 in
           let high = ltb-true (q.at + m) (at + o.size) b.1 in
           let same : at + (q.at + m - at) ≡ q.at + m = omega (arith, low) in
-          let w = run_word h valid r o (q.at + m - at) o_home.1 (omega (arith, low, high)) in
+          let w = run_word h g.built r o (q.at + m - at) o_home.1 (omega (arith, low, high)) in
           let home : region_of h (q.at + m) ≡ r + w.0 = ap (region_of h) (sym same) ∙ w.1 in
           let few : w.0 < div_ceil o.size h.geometry.w = elim (cases_lt w.0 (div_ceil o.size h.geometry.w)) [
             | inl less ↦ less
             | inr ge ↦ let more : div_ceil o.size h.geometry.w * h.geometry.w ≤ w.0 * h.geometry.w = mul-le-mul_right h.geometry.w ge in absurd (omega (arith, more, fills.0, w.3))
           ] in
-          let there = (word_used h valid r o (q.at + m - at) o_home.0 (omega (arith, low, high))).0 in
+          let there = (word_used h g.built r o (q.at + m - at) o_home.0 (omega (arith, low, high))).0 in
           let within : region_of h (q.at + m) < h.geometry.n = subst (λ z. region_of h z < h.geometry.n) same there in
           has_from_contains (run h r) (region_of h (q.at + m))
-          (Contains-range r (run_end h r - r) (region_of h (q.at + m)) (omega (arith, home)) (omega (arith, home, few, within, valid.limits.n_most)))
+          (Contains-range r (run_end h r - r) (region_of h (q.at + m)) (omega (arith, home)) (omega (arith, home, few, within, g.built.limits.n_most)))
 
     -- a reference that counts, by where it leads
     of_roots : Contains (root_targets h) at → (x : Lead) × Contains (leads_to h set l r) x
@@ -228,23 +221,23 @@ module _ (i : Image) (set l : List ℕ) (tracked : IsTracked i) (a : HasRoom i.h
       | inl k ↦
           let n : Contains (map (forward h l) (root_targets h)) at = subst (λ xs. Contains xs at) (roots_renamed (forward h l) h.roots) (Contains-from_has (root_targets j.heap) at k) in
           let m = map_cases (forward h l) (root_targets h) at n in
-          let same : m.0 ≡ at = back m.0 (root_kept i set l j valid a moved m.0 m.1) m.2 in
+          let same : m.0 ≡ at = back m.0 (root_kept i set l j g.built a g.moved m.0 m.1) m.2 in
           of_roots (subst (Contains (root_targets h)) same m.1)
       | inr k ↦
           let m = any_member (λ e. eqb e.target at && not (has_word o e.slot)) (refs j.heap) k in
           let b = and_parts (eqb m.0.target at) (not (has_word o m.0.slot)) m.2 in
-          by_ref m.0 (ref_moved i set l j valid a moved m.0 m.1) (eqb-true m.0.target at b.0) b.1
+          by_ref m.0 (ref_moved i set l j g.built a g.moved m.0 m.1) (eqb-true m.0.target at b.0) b.1
     ]
       where
         by_ref : (e : Ref) → RefMoved i set l e → e.target ≡ at → not (has_word o e.slot) ≡ true → (x : Lead) × Contains (leads_to h set l r) x
         by_ref e m target off =
-            let before : m.before ≡ at = back m.before (before_kept i set l j valid a moved e m) (m.moved_to ∙ target) in
+            let before : m.before ≡ at = back m.before (before_kept i set l j g.built a g.moved e m) (m.moved_to ∙ target) in
             let reads : word h (m.owner.at + m.m) ≡ suc at = m.word_before ∙ ap suc before in
-            elim (kept_cases h set l s a m.owner m.is_kept) [
+            elim (kept_cases h set l g.sound a m.owner m.is_kept) [
               | inl y ↦
-                  let fits = kept_refs i set l j valid a moved m.owner m.is_kept in
+                  let fits = kept_refs i set l j g.built a g.moved m.owner m.is_kept in
                   let less : m.m < m.owner.size = omega (arith, fits, m.within) in
-                  let place : e.slot ≡ m.owner.at + m.m = m.slot ∙ ap (λ z. z + m.m) (outside_stays h set l s a m.owner.at y.0) in
+                  let place : e.slot ≡ m.owner.at + m.m = m.slot ∙ ap (λ z. z + m.m) (outside_stays h set l g.sound a m.owner.at y.0) in
                   let ref : Contains (refs h) (record { slot = m.owner.at + m.m; target = at }) =
                   ref_of h (record { slot = m.owner.at + m.m; target = at }) (record { owner = m.owner; is_one = y.1; m = m.m; above = m.above; within = m.within; at = refl; names = reads }) in
                   let no_word : has_word o (m.owner.at + m.m) ≡ false = false_from_ne_true (has_word o (m.owner.at + m.m)) (λ z. false≢true (sym (ap not (ap (has_word o) place ∙ z)) ∙ off)) in
@@ -253,7 +246,7 @@ module _ (i : Image) (set l : List ℕ) (tracked : IsTracked i) (a : HasRoom i.h
               | inr y ↦
                   let word_of : word h (y.0 + m.m) ≡ suc at = ap (λ (q : Object). word h (q.at + m.m)) y.2 ∙ reads in
                   let few : m.m ≤ (object_at h y.0).refs = subst (λ (q : Object). m.m ≤ q.refs) (sym y.2) m.within in
-                  of_found (Contains-flat_map (targets h) l y.0 at y.1 (slot_names i set l j valid a moved (object_at h y.0) m.m at m.above few word_of))
+                  of_found (Contains-flat_map (targets h) l y.0 at y.1 (slot_names i set l j g.built a g.moved (object_at h y.0) m.m at m.above few word_of))
             ]
 
     -- the moved reference names it
@@ -261,7 +254,7 @@ module _ (i : Image) (set l : List ℕ) (tracked : IsTracked i) (a : HasRoom i.h
     named_by k m c above within reads off =
         let e : Ref = record { slot = f k.at + m; target = at } in
         let moved_ref : IsMovedRef h set l e = record { owner = k; is_kept = c; m = m; above = above; within = within; target = at; names = reads; slot_at = refl; target_at = sym stays } in
-        let ref : Contains (refs j.heap) e = (refs_moved i set l j valid a moved e).1 moved_ref in
+        let ref : Contains (refs j.heap) e = (refs_moved i set l j g.built a g.moved e).1 moved_ref in
         let any : list_any (λ e. eqb e.target at && not (has_word o e.slot)) (refs j.heap) ≡ true =
         any_from_in (λ (e : Ref). eqb e.target at && not (has_word o e.slot)) (refs j.heap) e ref (and_from (eqb at at) (not (has_word o (f k.at + m))) (eq-eqb at at refl) (ap not off)) in
         ap (λ b. has (root_targets j.heap) at || b) any ∙ last (has (root_targets j.heap) at)
@@ -295,13 +288,13 @@ module _ (i : Image) (set l : List ℕ) (tracked : IsTracked i) (a : HasRoom i.h
         by_slot target y =
             let t = slot_tells h (set ++ run h r) x y in
             let w = slot_of h t.ref t.there in
-            let less : w.m < w.owner.size = omega (arith, s.slots_fit w.owner w.is_one, w.within) in
+            let less : w.m < w.owner.size = omega (arith, g.sound.slots_fit w.owner w.is_one, w.within) in
             let both = or_parts (has set (region_of h (w.owner.at + w.m))) (has (run h r) (region_of h (w.owner.at + w.m)))
             (sym (window_is (region_of h (w.owner.at + w.m))) ∙ ap (λ z. has (set ++ run h r) (region_of h z)) (sym w.at) ∙ t.outside) in
             let out : in_set h set w.owner.at ≡ false = false_from_ne_true (in_set h set w.owner.at) (λ z. false≢true (sym both.0 ∙ slot_home w.owner w.m w.is_one less z)) in
-            let place : f w.owner.at ≡ w.owner.at = outside_stays h set l s a w.owner.at out in
+            let place : f w.owner.at ≡ w.owner.at = outside_stays h set l g.sound a w.owner.at out in
             let reads : word h (w.owner.at + w.m) ≡ suc at = ap (word h) (sym w.at) ∙ w.names ∙ ap suc (sym t.target ∙ target) in
-            named_by w.owner w.m (kept_outside i set l j s a moved w.owner w.is_one out) w.above w.within reads
+            named_by w.owner w.m (kept_outside i set l j g.sound a g.moved w.owner w.is_one out) w.above w.within reads
             (ap (λ z. has_word o (z + w.m)) place ∙ sym (own_word w.owner w.m w.is_one less) ∙ both.1)
 
         by_found : x.target ≡ at → Contains (found_leads h l (length l)) x → is_named j.heap o ≡ true
@@ -312,9 +305,9 @@ module _ (i : Image) (set l : List ℕ) (tracked : IsTracked i) (a : HasRoom i.h
             let m : ℕ = 1 + t.number in
             let z : slice_index l t.place + (1 + t.number) ≡ slice_index l t.place + 1 + t.number = omega arith in
             let reads : word h (slice_index l t.place + (1 + t.number)) ≡ suc at = ap (word h) z ∙ t.reads ∙ ap suc target in
-            let c = survivor_kept i set l j s a moved (slice_index l t.place) k in
-            let fits = kept_refs i set l j valid a moved (object_at h (slice_index l t.place)) c in
-            let goal = survivor_region h set l s a (slice_index l t.place) (1 + t.number) k (omega (arith, fits, t.fits)) in
+            let c = survivor_kept i set l j g.sound a g.moved (slice_index l t.place) k in
+            let fits = kept_refs i set l j g.built a g.moved (object_at h (slice_index l t.place)) c in
+            let goal = survivor_region h set l g.sound a (slice_index l t.place) (1 + t.number) k (omega (arith, fits, t.fits)) in
             let free : kind h (region_of h (f (slice_index l t.place) + (1 + t.number))) ≡ Free =
             ap (kind h) goal.2 ∙ (is_free_region h (get_or (free_regions h) goal.0 0) (Contains-get_or (free_regions h) goal.0 0 (let fewer = a.room in omega (arith, goal.1, fewer)))).0 in
             named_by (object_at h (slice_index l t.place)) (1 + t.number) c (omega arith) (omega (arith, t.fits)) reads
@@ -323,7 +316,7 @@ module _ (i : Image) (set l : List ℕ) (tracked : IsTracked i) (a : HasRoom i.h
             let low = leb-true at (f (slice_index l t.place) + (1 + t.number)) both.0 in
             let high = ltb-true (f (slice_index l t.place) + (1 + t.number)) (at + o.size) both.1 in
             let same : at + (f (slice_index l t.place) + (1 + t.number) - at) ≡ f (slice_index l t.place) + (1 + t.number) = omega (arith, low) in
-            (word_used h valid r o (f (slice_index l t.place) + (1 + t.number) - at) o_home.0 (omega (arith, low, high))).1 (ap (λ q. kind h (region_of h q)) same ∙ free)))
+            (word_used h g.built r o (f (slice_index l t.place) + (1 + t.number) - at) o_home.0 (omega (arith, low, high))).1 (ap (λ q. kind h (region_of h q)) same ∙ free)))
 
     -- the object is named exactly if a reference counts
     named_is : is_named j.heap o ≡ not (is_nothing (first_keeper (leads_to h set l r)))
@@ -349,7 +342,7 @@ module _ (i : Image) (set l : List ℕ) (tracked : IsTracked i) (a : HasRoom i.h
   one_region r true lt e =
       let kind_is : kind h r ≡ HumongousFirst = first_by_test (kind h r) e in
       let same_kind : kind j.heap r ≡ HumongousFirst =
-      (humongous_shape i set l j valid a moved r lt
+      (humongous_shape i set l j g.built a g.moved r lt
       (λ z. let clash : HumongousFirst ≡ Free = sym kind_is ∙ z in cc) (λ z. let clash : HumongousFirst ≡ Ordinary = sym kind_is ∙ z in cc)).0 ∙ kind_is in
       let stands : objects_in j.heap r ≡ object_at j.heap (start h r) ∷ [] = ap (λ k. objects_by k j.heap r) same_kind in
       let home : region_of h (start h r) ≡ r = there r lt e in

@@ -19,7 +19,7 @@ few g c =
     omega (arith, ap length c.as_slice.ensures.value, bits_few h c.valid.ensures window c.match-threads_for.starts.items c.requires are)
 
 pub new-requires : goal.new-requires
-new-requires g c = few g (goal.at.new-requires g c).After-as_slice
+new-requires g c = let k = few g (goal.at.new-requires g c).After-as_slice in omega (arith, k)
 
 pub returns-clause-few : goal.returns-clause-few
 returns-clause-few g c =
