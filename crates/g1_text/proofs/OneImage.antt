@@ -17,7 +17,7 @@ use Rattle.g1_text.specs.Lines.{reference_word, slot_values, data_values, object
 use Rattle.g1_text.proofs.Splitting.{Small}
 use Rattle.g1_text.proofs.Bounded.{object_small, slots_small, data_small}
 use Rattle.g1_text.proofs.Fields.{word_at, numbers_one, references_one, fronts_one, sizes_one}
-use Rattle.g1_words.proofs.Members.{cons_cases}
+use Rattle.g1_words.proofs.Members.{cons_cases, Contains-first, Contains-later}
 use Rattle.g1_words.proofs.Members.{none_contains}
 
 length_slice : (xs : List ℕ) (from count : ℕ) → from + count ≤ length xs → length (take count (drop from xs)) ≡ count
@@ -114,8 +114,8 @@ word_one ws vs o a p q s low high = elim (cases_order a o.at) [
 tile_at : (words : List ℕ) (from : ℕ) (os : List Object) (to a : ℕ) → Tiles words from os to → from ≤ a → a < to → (o : Object) × Contains os o × (o.at ≤ a) × (a < o.at + o.size)
 tile_at words from [] to a t low high = absurd (omega (arith, t, low, high))
 tile_at words from (o ∷ os) to a t low high = elim (cases_lt a (from + o.size)) [
-  | inl lt ↦ (o, inl refl, omega (arith, t.0, low), omega (arith, t.0, lt))
-  | inr ge ↦ (let r = tile_at words (from + o.size) os to a t.2 ge high in (r.0, inr r.1, r.2, r.3))
+  | inl lt ↦ (o, Contains-first o os, omega (arith, t.0, low), omega (arith, t.0, lt))
+  | inr ge ↦ (let r = tile_at words (from + o.size) os to a t.2 ge high in (r.0, Contains-later o os r.0 r.1, r.2, r.3))
 ]
 
 -- an address is that of a word of an object

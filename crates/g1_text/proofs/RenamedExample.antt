@@ -27,13 +27,10 @@ apart : (m n : ℕ) → m < n → m ∷ [] ≡ n ∷ [] → ⊥
 apart m n lt e = let d : m ≡ n = ap (λ w. get_or w 0 0) e in absurd (omega (arith, d, lt))
 
 of_three : (P : NamedObject → Type 0) (x y z : NamedObject) → P x → P y → P z → (o : NamedObject) → Contains (x ∷ y ∷ z ∷ []) o → P o
-of_three P x y z p q r o c = by c
-  where
-    by : Contains (x ∷ y ∷ z ∷ []) o → P o
-    by (zero, b, e) = subst P e p
-    by (suc zero, b, e) = subst P e q
-    by (suc (suc zero), b, e) = subst P e r
-    by (suc (suc (suc j)), b, e) = elim (j, omega (arith, b), e) [ ]
+of_three P x y z p q r o (zero, b, e) = subst P e p
+of_three P x y z p q r o (suc zero, b, e) = subst P e q
+of_three P x y z p q r o (suc (suc zero), b, e) = subst P e r
+of_three P x y z p q r o (suc (suc (suc j)), b, e) = absurd (omega (arith, b))
 
 abbrev a : NamedObject
 a = pair (codes "a") (codes "b") (codes "c") (codes "7")
