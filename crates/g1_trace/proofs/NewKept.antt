@@ -9,7 +9,6 @@ use Rattle.g1_words.specs.declared.object.Object.{Object}
 use Rattle.g1_words.specs.declared.region.Kind.TheVariants.{Free, Ordinary}
 use Rattle.g1_words.specs.declared.region.Region.{Region}
 use Rattle.g1_words.specs.Heap.{Heap, free_region, kind, top, regions, objects_in}
-use Rattle.g1_words.specs.References.{refs}
 use Rattle.g1_words.proofs.Indices.{range_bounds}
 use Rattle.g1_words.proofs.Shapes.{IsBuilt, built}
 use Rattle.g1_image.specs.Image.{Image}

@@ -8,7 +8,6 @@ use Rattle.std.proofs.lemmas.Bool.{and_parts}
 use Rattle.g1_words.specs.declared.object.Object.{Object}
 use Rattle.g1_words.specs.declared.region.Kind.TheVariants.{Free}
 use Rattle.g1_words.specs.Heap.{Heap, kind, top, word, region_of, regions, objects, object_at, is_free}
-use Rattle.g1_words.specs.References.{refs}
 use Rattle.g1_words.proofs.Indices.{range_bounds}
 use Rattle.g1_words.proofs.Computed.{Contains-range}
 use Rattle.g1_words.proofs.NextFit.{free_by_test}

@@ -1,5 +1,5 @@
 -- A region that keeps its kind, its top and the headers of its objects keeps its objects.
-use Rattle.std.proofs.Common.{◌≡◌, ℕ, ◌+◌, List, [], ◌∷◌, ◌++◌, flat_map, refl, ◌∙◌, Contains, zero, suc, arith, ◌<◌}
+use Rattle.std.proofs.Common.{◌≡◌, ℕ, List, [], ◌∷◌, ◌++◌, flat_map, refl, ◌∙◌, Contains, zero, suc, arith, ◌<◌}
 use Rattle.g1_words.specs.declared.object.Object.{Object}
 use Rattle.g1_words.specs.Heap.{Heap, region, objects_by, kind, objects_in, word, objects, regions}
 use Rattle.g1_words.proofs.Computed.{Contains-range}
