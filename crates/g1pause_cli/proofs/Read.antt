@@ -12,7 +12,6 @@ use Rattle.clap.proofs.OnLiterals.{clap_on_literals}
 use Rattle.g1_command.specs.declared.refusal.Refusal.{Refusal}
 use Rattle.g1_command.specs.declared.refusal.Refusal.TheVariants as refusal
 use Rattle.g1_command.specs.declared.values.Misuse.{Misuse}
-use Rattle.g1_command.specs.declared.values.Misuse.TheVariants as misuse
 use Rattle.g1_command.specs.declared.table.Program.{Program}
 use Rattle.g1_command.specs.declared.table.Usage.{Usage}
 use Rattle.g1_command.specs.Values.{Because, IsValue}
