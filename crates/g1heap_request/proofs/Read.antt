@@ -10,7 +10,6 @@ use Rattle.clap.specs.declared.parser.matches.ArgMatches.{ArgMatches}
 use Rattle.g1_command.specs.declared.refusal.Refusal.{Refusal}
 use Rattle.g1_command.specs.declared.refusal.Refusal.TheVariants as refusal
 use Rattle.g1_command.specs.declared.values.Misuse.{Misuse}
-use Rattle.g1_command.specs.declared.values.Misuse.TheVariants as misuse
 use Rattle.g1_command.specs.declared.table.Program.{Program}
 use Rattle.g1_command.specs.Values.{Because, IsValue}
 use Rattle.g1_command.specs.Table.{program_by}

@@ -2,8 +2,6 @@
 use Rattle.std.proofs.Common.{◌≡◌, ◌∙◌, ◌⊎◌, inl, inr, ◌<◌, ◌^◌, ℕ, List, [], ◌∷◌, Option, Some, None, refl, subst, arith, codes}
 use Rattle.std.specs.List.{Any}
 use Rattle.clap.specs.Words.{Row, Text, first_of}
-use Rattle.g1_command.specs.declared.values.Misuse.{Misuse}
-use Rattle.g1_command.specs.declared.values.Misuse.TheVariants as misuse
 use Rattle.g1_command.specs.Values.{IfGiven, IsBelow, IsNoNumberOf, IsNumber, cost_options, texts_of}
 use Rattle.g1_answers.specs.Asked.{HasNoNumberOf, number_options, sharing_options}
 use Rattle.g1_answers.proofs.Gathered.{any_before, wrong_cost, wrong_sharing}
