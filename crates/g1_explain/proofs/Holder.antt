@@ -5,12 +5,11 @@ use Rattle.g1_words.specs.declared.object.Object.{Object}
 use Rattle.g1_words.specs.declared.region.Kind.{Kind}
 use Rattle.g1_words.specs.declared.region.Kind.TheVariants.{Free, Ordinary, HumongousFirst, Continuation}
 use Rattle.g1_words.specs.Heap.{Heap, kind, start, end, card_of, objects, object_at, slots}
-use Rattle.g1_words.specs.References.{refs}
 use Rattle.g1_words.specs.Valid.{IsObject, Tiles, IsValid, IsSlotOf}
 use Rattle.g1_words.specs.Walk.{Reaches, StandsBetween}
 use Rattle.g1_words.proofs.Bounds.{cards_in_region, card_below}
 use Rattle.g1_words.proofs.Computed.{object_is, has_contains, contains_has}
-use Rattle.g1_words.proofs.Members.{Contains-filter, filter_member, flat_map_cases}
+use Rattle.g1_words.proofs.Members.{Contains-filter, filter_member, flat_map_cases, none_contains}
 use Rattle.g1_words.proofs.Objects.{StandsIn, object_stands, ordinary_has}
 use Rattle.g1_words.proofs.Sound.{has_is, object_in, stands_object}
 use Rattle.g1_words.proofs.Tiling.{Tiles-le, Tiles-append, Tiles-stands}
@@ -91,7 +90,7 @@ module _ (h : Heap) (valid : IsValid h) (c slot : ℕ) (refers : IsReferring h s
   on = Contains-filter (λ p. eqb (card_of h p) c) (all_slots h) slot (slot_there h (record { slot = slot; target = refers.0 }) refers.1).0 (eq-eqb (card_of h slot) c (sym home))
 
   no_slot : [] ≡ slots_on h c → ⊥
-  no_slot e = subst (λ l. Contains l slot) (sym e) on
+  no_slot e = none_contains slot (subst (λ l. Contains l slot) (sym e) on)
 
   -- the card is one of the heap
   pub card_there : (starts : List (Option ℕ)) → IsStartsOf h starts → c < length starts
