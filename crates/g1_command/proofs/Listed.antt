@@ -230,4 +230,3 @@ lists_around (x ∷ lists) (suc n) d lt =
 pub lists_stop : (lists : List (Bor Text)) (n : ℕ) (d : Bor Text) (mid : List ℕ) → n < length lists → AddsParts (parts_in (take n lists)) [] mid → AddNone (parts_of (get_or lists n d).now) mid → AddNone (parts_in lists) []
 lists_stop lists n d mid lt before none =
     subst (λ l. AddNone l []) (sym (lists_around lists n d lt)) (adds_none (parts_in (take n lists)) (parts_of (get_or lists n d).now) (parts_in (drop (n + 1) lists)) [] mid before none)
-

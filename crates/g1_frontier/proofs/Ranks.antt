@@ -201,9 +201,9 @@ module _ (h : Heap) (window : List ℕ) where
     pub first_range : (q : ℕ × ℕ) → Contains (all_pairs h window (first_items (length h.roots) cards)) q → q.0 < length h.roots + length h.words
     first_range q i = elim (Contains-append_cases (all_pairs h window (root_items (length h.roots))) (all_pairs h window (map (λ c. Card c (length h.roots)) cards)) q
         (subst (λ l. Contains l q) split i)) [
-      | inl k ↦ let a = roots_rank (length h.roots) q k in omega (arith, a)
-      | inr k ↦ (cards_range valid cards rising outside lead_in (length h.roots) q k).1
-    ]
+          | inl k ↦ let a = roots_rank (length h.roots) q k in omega (arith, a)
+          | inr k ↦ (cards_range valid cards rising outside lead_in (length h.roots) q k).1
+        ]
 
     pub first_name : map (λ (q : ℕ × ℕ). q.1) (all_pairs h window (first_items (length h.roots) cards)) ≡ seeds h window
     first_name =

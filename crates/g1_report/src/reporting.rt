@@ -104,7 +104,12 @@ pub fn report<L: Lines>(alloc: Global, asked: &Asked<'_>, out: &mut L) -> Result
     ensures grown { TakesFirst (L.taken out.old) (L.taken out.new) [] }
 {
     let sides = sides_of(asked);
-    let finding = find(alloc, sides.heaps.before, sides.heaps.after, &asked.after.stale)?;
+    let finding = find(
+        alloc,
+        sides.heaps.before,
+        sides.heaps.after,
+        &asked.after.stale,
+    )?;
     let verdict = verdict_on(alloc, asked, sides, &finding)?;
     hand_on(alloc, asked, sides, &finding, &verdict, out)?;
     Ok(verdict.status)

@@ -138,7 +138,13 @@ fn verdict_on_same(
     ensures refused { IfErr result (λ e. IsRefusal sides.entry.heaps.before.now sides.entry.heaps.after.now asked.now.after.now.stale asked.now.set.now e) }
 {
     let mut text = String::new(alloc);
-    if let Some(lost) = lost(alloc, sides.heaps.before, sides.heaps.after, asked.set, asked.fill)? {
+    if let Some(lost) = lost(
+        alloc,
+        sides.heaps.before,
+        sides.heaps.after,
+        asked.set,
+        asked.fill,
+    )? {
         write!(text, "differ {lost}\n")?;
         return Ok(Verdict { text, status: 1 });
     }

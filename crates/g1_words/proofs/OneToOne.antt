@@ -132,7 +132,7 @@ module _ (h : Heap) (set l : List ℕ) (sound : IsSound h) (room : HasRoom h set
       let region : (q + k) / h.geometry.w < need h l = region_below h.geometry.w sound.w_positive (q + k) (laid_end h.geometry.w 0 (sizes_of h l)) (omega arith) in
       (row_address-add h sound.w_positive q k inside ∙ ap (λ x. x + k) (sym s.2), omega arith)
 
-  -- the words of two room.survivors never meet
+  -- the words of two survivors never meet
   pub survivors_apart : (a b k m : ℕ) → Contains l a → Contains l b → k < size_at h a → m < size_at h b → forward h l a + k ≡ forward h l b + m → a ≡ b
   survivors_apart a b k m i j lk lm e =
       let s = spot_of h 0 l a i in

@@ -19,7 +19,7 @@ mark : (c : After-index) → c.args.word < 64 * length c.self.inside.blocks.item
 mark c lt =
     mark_by_block c.self.inside.blocks.items c.self.invariant.0 c.args.word lt
     ∙ ap (λ (b : Block). bit_at b.marks (c.args.word % 64) == 1)
-      (sym (c.index.ensures ∙ get_or_default c.self.inside.blocks.items (c.args.word / 64) c.index.result.now no_block (omega (arith, lt))))
+    (sym (c.index.ensures ∙ get_or_default c.self.inside.blocks.items (c.args.word / 64) c.index.result.now no_block (omega (arith, lt))))
     ∙ ap (λ x. x == 1) (sym (shr_and_one c.index.result.now.marks (c.args.word % 64)))
 
 -- a bit that isn't 0 is 1
