@@ -1,7 +1,7 @@
 -- The order in which a search meets references, and that the first one to each object comes before the others.
-use Rattle.std.proofs.Common.{◌≡◌, ℕ, zero, suc, ◌+◌, ◌<◌, ◌⊎◌, inl, inr, Bool, true, false, not, List, [], ◌∷◌, ◌++◌, length, filter, slice_index, refl, sym, ◌∙◌, ap, subst, arith, eqb, eq-eqb, Contains}
+use Rattle.std.proofs.Common.{◌≡◌, ℕ, zero, suc, ◌+◌, ◌<◌, ◌⊎◌, inl, inr, true, false, not, List, [], ◌∷◌, ◌++◌, length, filter, slice_index, refl, sym, ◌∙◌, ap, subst, arith, eqb, eq-eqb, Contains}
 use Rattle.std.specs.List.{range_with_len}
-use Rattle.std.proofs.lemmas.Bool.{false≢true}
+use Rattle.std.proofs.lemmas.Bool.{false≢true, not-true}
 use Rattle.std.proofs.lemmas.List.Elements.{Contains-append_cases}
 use Rattle.g1_words.specs.Heap.{Heap, word, card_of, object_at}
 use Rattle.g1_words.specs.References.{Ref, refs}
@@ -67,10 +67,6 @@ module _ (h : Heap) (set : List ℕ) where
     pub finder : l.finder ≡ Card (card_of h ref.slot) ref.slot
     pub target : l.target ≡ ref.target
 
-  not_true : (b : Bool) → not b ≡ true → b ≡ false
-  not_true false e = refl
-  not_true true e = absurd (false≢true e)
-
   pub slot_tells : (l : Lead) → Contains (slot_leads h set) l → IsSlotLead l
   slot_tells l k =
       let m = map_cases (λ (e : Ref). record { finder = Card (card_of h e.slot) e.slot; target = e.target }) (filter (λ (e : Ref). not (in_set h set e.slot)) (refs h)) l k in
@@ -78,7 +74,7 @@ module _ (h : Heap) (set : List ℕ) where
       record {
         ref = m.0;
         there = t.0;
-        outside = not_true (in_set h set m.0.slot) t.1;
+        outside = not-true (in_set h set m.0.slot) t.1;
         finder = sym (ap (λ (y : Lead). y.finder) m.2);
         target = sym (ap (λ (y : Lead). y.target) m.2);
       }

@@ -1,7 +1,7 @@
 -- Items cut into chunks.
 use Rattle.std.proofs.Common.{◌≡◌, ℕ, zero, suc, ◌+◌, ◌-◌, ◌*◌, ◌/◌, ◌<◌, ◌≤◌, inl, inr, List, [], ◌∷◌, ◌++◌, length, map, take, drop, get_or, min, sym, refl, ap, ◌∙◌, subst, arith, lt_of_not-le, Contains}
 use Rattle.std.specs.List.{flat_map, enumerate_from, range_with_len, AllZip}
-use Rattle.std.proofs.lemmas.List.{drop-drop, take_rest, take_min, map-append}
+use Rattle.std.proofs.lemmas.List.{drop-drop, take_rest, take_min, map-append, drop_all, take-append-drop}
 use Rattle.std.proofs.lemmas.List.Concat.{flat_map-append}
 use Rattle.std.proofs.lemmas.Nat.{div-add-mod'}
 use Rattle.std.proofs.Math.Nat.{mod-lt, mul-le-mul_right, mul-le-mul_left}
@@ -13,17 +13,6 @@ use Rattle.g1_words.proofs.Ordered.{Ordered}
 use Rattle.g1_words.proofs.Rising.{Ordered-flat_map}
 use Rattle.g1_words.proofs.Indices.{taken_in}
 use Rattle.g1_work.specs.Regions.{slice_of}
-
-drop_all : {A : Type 0} (ys : List A) (n : ℕ) → length ys ≤ n → drop n ys ≡ []
-drop_all [] zero l = refl
-drop_all [] (suc n) l = refl
-drop_all (y ∷ ys) zero l = absurd (omega arith)
-drop_all (y ∷ ys) (suc n) l = drop_all ys n (omega arith)
-
-take_drop : {A : Type 0} (n : ℕ) (ys : List A) → take n ys ++ drop n ys ≡ ys
-take_drop zero ys = refl
-take_drop (suc n) [] = refl
-take_drop (suc n) (y ∷ ys) = ap (λ l. y ∷ l) (take_drop n ys)
 
 -- what stands behind a list
 pub at_end : {A : Type 0} (xs : List A) (y : A) (ys : List A) (d : A) → get_or (xs ++ y ∷ ys) (length xs) d ≡ y
@@ -66,13 +55,13 @@ part_cut from most n xs e =
 module _ {A B : Type 0} (f : A → List B) (size : ℕ) (xs : List A) where
   -- the pieces of all chunks are the items
   pub pieces_from : {O : Type 0} (os : List O) (k : ℕ) → length xs ≤ (k + length os) * size → flat_map (λ x. flat_map f (slice_of size x.0 xs)) (enumerate_from k os) ≡ flat_map f (drop (k * size) xs)
-  pieces_from [] k le = ap (flat_map f) (sym (drop_all xs (k * size) (omega (arith, le))))
+  pieces_from [] k le = ap (flat_map f) (sym (drop_all (k * size) xs (omega (arith, le))))
   pieces_from (o ∷ os) k le =
       let rest = pieces_from os (k + 1) (omega (arith, le)) in
       let next : drop size (drop (k * size) xs) ≡ drop ((k + 1) * size) xs = drop-drop size (k * size) xs ∙ ap (λ n. drop n xs) (let e : k * size + size ≡ (k + 1) * size = omega arith in e) in
       ap (λ l. flat_map f (slice_of size k xs) ++ l) (rest ∙ ap (flat_map f) (sym next))
       ∙ sym (flat_map-append f (slice_of size k xs) (drop size (drop (k * size) xs)))
-      ∙ ap (flat_map f) (take_drop size (drop (k * size) xs))
+      ∙ ap (flat_map f) (take-append-drop size (drop (k * size) xs))
 
   pub all_pieces : {O : Type 0} (os : List O) → length xs ≤ length os * size → flat_map (λ x. flat_map f (slice_of size x.0 xs)) (enumerate_from 0 os) ≡ flat_map f xs
   all_pieces os le = pieces_from os 0 (subst (λ n. length xs ≤ n * size) (let e : length os ≡ 0 + length os = omega arith in e) le)
@@ -81,7 +70,7 @@ module _ {A B : Type 0} (f : A → List B) (size : ℕ) (xs : List A) where
 -- what is made of each part of a list is what is made of the whole
 module _ {A B O : Type 0} (f : A → B) (items : O → List B) (size : ℕ) (xs : List A) where
   parts_from : (j m : ℕ) (os : List O) → length xs ≤ (j + m) * size → AllZip (λ k o. items o ≡ map f (slice_of size k xs)) (range_with_len j m) os → flat_map items os ≡ map f (drop (j * size) xs)
-  parts_from j zero [] le z = ap (map f) (sym (drop_all xs (j * size) (omega (arith, le))))
+  parts_from j zero [] le z = ap (map f) (sym (drop_all (j * size) xs (omega (arith, le))))
   parts_from j zero (o ∷ os) le z = absurd z
   parts_from j (suc m) [] le z = absurd z
   parts_from j (suc m) (o ∷ os) le z =
@@ -90,7 +79,7 @@ module _ {A B O : Type 0} (f : A → B) (items : O → List B) (size : ℕ) (xs 
       let next : drop size (drop (j * size) xs) ≡ drop ((j + 1) * size) xs = drop-drop size (j * size) xs ∙ ap (λ n. drop n xs) (let e : j * size + size ≡ (j + 1) * size = omega arith in e) in
       (λ i. z.0 i ++ (rest ∙ ap (map f) (sym next)) i)
       ∙ sym (map-append f (slice_of size j xs) (drop size (drop (j * size) xs)))
-      ∙ ap (map f) (take_drop size (drop (j * size) xs))
+      ∙ ap (map f) (take-append-drop size (drop (j * size) xs))
 
   pub parts_all : (m : ℕ) (os : List O) → length xs ≤ m * size → AllZip (λ k o. items o ≡ map f (slice_of size k xs)) (range_with_len 0 m) os → flat_map items os ≡ map f xs
   parts_all m os le z =
@@ -127,13 +116,13 @@ chunks_ordered {O} n (x ∷ y ∷ ys) r =
 
 module _ {A B : Type 0} (R : B → B → Type 0) (f : A → List B) (size : ℕ) (xs : List A) (o : Ordered R (flat_map f xs)) where
   cut : (n : ℕ) → Ordered R (flat_map f (take n xs)) × Ordered R (flat_map f (drop n xs)) × ((x y : B) → Contains (flat_map f (take n xs)) x → Contains (flat_map f (drop n xs)) y → R x y)
-  cut n = Ordered-apart R (flat_map f (take n xs)) (flat_map f (drop n xs)) (subst (Ordered R) (sym (sym (flat_map-append f (take n xs) (drop n xs)) ∙ ap (flat_map f) (take_drop n xs))) o)
+  cut n = Ordered-apart R (flat_map f (take n xs)) (flat_map f (drop n xs)) (subst (Ordered R) (sym (sym (flat_map-append f (take n xs) (drop n xs)) ∙ ap (flat_map f) (take-append-drop n xs))) o)
 
   pub piece_ordered : (k : ℕ) → Ordered R (flat_map f (slice_of size k xs))
   piece_ordered k =
       let rest : List A = drop (k * size) xs in
       (Ordered-apart R (flat_map f (take size rest)) (flat_map f (drop size rest))
-      (subst (Ordered R) (sym (sym (flat_map-append f (take size rest) (drop size rest)) ∙ ap (flat_map f) (take_drop size rest))) (cut (k * size)).1)).0
+      (subst (Ordered R) (sym (sym (flat_map-append f (take size rest) (drop size rest)) ∙ ap (flat_map f) (take-append-drop size rest))) (cut (k * size)).1)).0
 
   pub pieces_apart : (j k : ℕ) (x y : B) → j < k → Contains (flat_map f (slice_of size j xs)) x → Contains (flat_map f (slice_of size k xs)) y → R x y
   pieces_apart j k x y lt a b =

@@ -3,7 +3,7 @@ use Rattle.std.proofs.Common.{◌≡◌, ◌≤◌, ◌<◌, ℕ, ◌+◌, ◌*�
 use Rattle.std.proofs.Common.{flat_map, map, length, take, drop, get_or, Contains, refl, sym, ap, subst, ◌∙◌, arith, All, append_assoc, append-nil, length-append, length-set, get_or-set_same, get_or-set_other, true≢false}
 use Rattle.std.proofs.lemmas.Bool.{cases_lt}
 use Rattle.std.proofs.lemmas.Nat.{le-div}
-use Rattle.std.proofs.lemmas.List.{map-append, take_more, flat_map_more, length-replicate}
+use Rattle.std.proofs.lemmas.List.{map-append, take_more, flat_map_more, length-replicate, take-append-le}
 use Rattle.std.proofs.lemmas.List.Folds.{flat_map-map}
 use Rattle.std.proofs.lemmas.Grind.{flat_map-append}
 use Rattle.std.proofs.lemmas.List.Elements.{All-append, All-cons, All-nil, Contains-append_cases}
@@ -36,7 +36,7 @@ use Rattle.g1_frontier.proofs.Names.{size_small}
 use Rattle.g1_frontier.proofs.Scopes.{apart, below, some_words, all_of_map, Contains-drop}
 use Rattle.g1_frontier.proofs.Searching.{distinct_few}
 use Rattle.g1_frontier.proofs.Seeds.{filter_flat, flat_same, leads_named, seeds_named}
-use Rattle.g1_frontier.proofs.Turns.{take_longer, take_parts, ends}
+use Rattle.g1_frontier.proofs.Turns.{take_parts, ends}
 use mathlib.Core.List.{map-map}
 
 -- ---- first occurrences
@@ -220,7 +220,7 @@ module _ (s : Scope) (ok : IsScope s) where
         → HasNoted s (flat_map (object_names s) (map (object_at s.heap.now) (take n (drop from a.found.items)))) a b
         → take to b.found.items ≡ take from a.found.items ++ take n (drop from a.found.items)
     batch_behind to sum b le x =
-        ap (take to) (found_stays b x) ∙ take_longer to a.found.items behind le ∙ ap (λ k. take k a.found.items) (sym sum) ∙ take_parts from n a.found.items
+        ap (take to) (found_stays b x) ∙ take-append-le to a.found.items behind le ∙ ap (λ k. take k a.found.items) (sym sum) ∙ take_parts from n a.found.items
 
     -- its sizes are listed behind those before
     pub batch_sized : (to : ℕ) → from + n ≡ to → (b : Queue) → to ≤ length a.found.items

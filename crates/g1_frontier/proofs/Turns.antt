@@ -3,7 +3,7 @@ use Rattle.std.proofs.Common.{◌≡◌, ℕ, zero, suc, ◌+◌, ◌-◌, ◌�
 use Rattle.std.proofs.Common.{length-append, ⊎_elim, take-append-drop}
 use Rattle.std.specs.List.{flat_map}
 use Rattle.std.proofs.lemmas.Grind.{flat_map-append}
-use Rattle.std.proofs.lemmas.List.{take-take, drop-take, take_rest}
+use Rattle.std.proofs.lemmas.List.{take-take, drop-take, take_rest, take_all}
 use Rattle.std.proofs.lemmas.List.Elements.{Contains-append_cases}
 use Rattle.g1_words.specs.Lists.{has}
 use Rattle.g1_words.specs.Live.{Reached, seed, child}
@@ -14,20 +14,9 @@ use Rattle.g1_words.proofs.Unique.{all_reached}
 use Rattle.g1_frontier.proofs.Marks.{firsts_again, firsts_more}
 use Rattle.g1_frontier.proofs.Scopes.{Contains-drop}
 
-pub take_all : (ys : List ℕ) (n : ℕ) → length ys ≤ n → take n ys ≡ ys
-take_all [] zero l = refl
-take_all [] (suc n) l = refl
-take_all (y ∷ ys) zero l = absurd (omega arith)
-take_all (y ∷ ys) (suc n) l = ap (λ l. y ∷ l) (take_all ys n (omega arith))
-
 pub take_front : (xs ys : List ℕ) → take (length xs) (xs ++ ys) ≡ xs
 take_front [] ys = refl
 take_front (x ∷ xs) ys = ap (λ l. x ∷ l) (take_front xs ys)
-
-pub take_longer : (n : ℕ) (xs ys : List ℕ) → n ≤ length xs → take n (xs ++ ys) ≡ take n xs
-take_longer zero xs ys le = refl
-take_longer (suc n) [] ys le = absurd (omega (arith, le))
-take_longer (suc n) (x ∷ xs) ys le = ap (λ l. x ∷ l) (take_longer n xs ys (omega (arith, le)))
 
 pub length_rest : (n : ℕ) (ys : List ℕ) → length (drop n ys) ≤ length ys - n
 length_rest zero ys = omega arith
@@ -79,7 +68,7 @@ module _ (seeds : List ℕ) (children : ℕ → List ℕ) where
   pub ends : (found : List ℕ) (from : ℕ) → length found ≤ from → found ≡ firsts (seeds ++ flat_map children (take from found)) →
       ((a : ℕ) → Contains found a → Reached seeds children a) → IsBreadthFirst seeds children found
   ends found from le e r =
-      let whole : found ≡ firsts (seeds ++ flat_map children found) = e ∙ ap (λ l. firsts (seeds ++ flat_map children l)) (take_all found from le) in record {
+      let whole : found ≡ firsts (seeds ++ flat_map children found) = e ∙ ap (λ l. firsts (seeds ++ flat_map children l)) (take_all from found le) in record {
         reached = λ a. (
           r a,
           (λ h. subst (λ l. Contains l a) (sym whole) (all_reached seeds children found [] (whole ∙ sym (append-nil (firsts (seeds ++ flat_map children found)))) a h)),

@@ -1,5 +1,6 @@
 use Rattle.std.proofs.Common.{arith, ◌+◌, ◌<◌, ◌∙◌, ◌^◌, ap, sym, subst, ℕ, get_or, flat_map, Contains}
 use Rattle.std.proofs.lemmas.List.Elements.{Contains-get_or}
+use Rattle.std.proofs.lemmas.List.{take_all}
 use Rattle.g1_words.specs.Heap.{word}
 use Rattle.g1_words.specs.Valid.{IsReference}
 use Rattle.g1_rem.specs.Slots.{slots_on}
@@ -9,7 +10,6 @@ use Rattle.g1_frontier.specs.Offering.{HasTried}
 use Rattle.g1_frontier.proofs.Names.{card_reference}
 use Rattle.g1_frontier.proofs.Offerings.{tried_none, tried_more}
 use Rattle.g1_frontier.proofs.Scopes.{all_part}
-use Rattle.g1_frontier.proofs.Turns.{take_all}
 use Rattle.g1_frontier.proofs.offering.Offers.offer_card.Goals as goal
 
 pub loop-slot-init : goal.loop-slot-init
@@ -48,7 +48,7 @@ returns c =
     let s = c.args.self.now.scope.now in
     let xs = c.as_slice-slot-items.result.now in
     subst (λ l. HasTried (place_in s) (flat_map (λ p. aims_in s (c.args.base + p) (word s.heap.now p)) l) c.args.holder.now c.loop-slot.holder)
-    (take_all xs c.loop-slot.slot-index c.loop-slot-test.false ∙ c.as_slice-slot-items.ensures ∙ c.in_ok-slots.ensures) c.loop-slot.invariant
+    (take_all c.loop-slot.slot-index xs c.loop-slot-test.false ∙ c.as_slice-slot-items.ensures ∙ c.in_ok-slots.ensures) c.loop-slot.invariant
 
 pub loop-slot-smaller : goal.loop-slot-smaller
 loop-slot-smaller c = omega (arith, c.loop-slot-test.true)
