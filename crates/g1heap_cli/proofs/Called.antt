@@ -1,8 +1,7 @@
 -- From the words of a call to its request.
-use Rattle.std.proofs.Common.{◌≡◌, ◌⊎◌, inl, inr, ℕ, List, Bool, true, Result, Ok, Err, subst, sym}
+use Rattle.std.proofs.Common.{◌≡◌, inl, inr, ℕ, List, Bool, true, Result, Ok, Err, subst, sym}
 use Rattle.std.specs.Prelude.{IfOk, IfErr, OnOk}
 use Rattle.g1_command.specs.declared.refusal.Refusal.{Refusal}
-use Rattle.g1_command.specs.declared.refusal.Refusal.TheVariants as refusal
 use Rattle.g1_command.specs.Requests.{IsUsageIf}
 use Rattle.g1heap_request.specs.declared.options.Request.{Request}
 use Rattle.g1heap_request.specs.Words.{Asked, IsWrong}

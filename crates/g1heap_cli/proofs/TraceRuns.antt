@@ -1,5 +1,5 @@
 -- Commands that lead from image to image are a run, on the plain store, too.
-use Rattle.std.proofs.Common.{ℕ, ◌^◌, ◌<◌, List}
+use Rattle.std.proofs.Common.{ℕ, List}
 use Rattle.std.specs.Prelude.{All}
 use Rattle.g1_words.specs.Geometry.{Geometry}
 use Rattle.g1_image.specs.Image.{Image}

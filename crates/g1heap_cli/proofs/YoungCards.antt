@@ -1,5 +1,5 @@
 -- The cards of regions, one after the other.
-use Rattle.std.proofs.Common.{◌≡◌, ℕ, suc, ◌+◌, ◌-◌, ◌≤◌, List, [], ◌∷◌, ◌++◌, ◌∙◌, refl, sym, ap, arith, append_assoc, append-nil, take, flat_map}
+use Rattle.std.proofs.Common.{◌≡◌, ℕ, suc, ◌+◌, ◌-◌, ◌≤◌, List, [], ◌∷◌, ◌++◌, ◌∙◌, ap, arith, append_assoc}
 use Rattle.std.specs.List.{range_with_len}
 use Rattle.g1_words.proofs.Lists.{range_push}
 

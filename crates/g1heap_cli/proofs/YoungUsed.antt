@@ -10,7 +10,7 @@ use Rattle.g1_words.specs.Valid.{IsValid}
 use Rattle.g1_words.specs.declared.region.Kind.TheVariants.{Free}
 use Rattle.g1_words.proofs.Bounds.{cards_in_region}
 use Rattle.g1_words.proofs.Indices.{range_bounds}
-use Rattle.g1_words.proofs.Members.{flat_map_cases}
+use Rattle.g1_words.proofs.Members.{flat_map_cases, none_contains}
 use Rattle.g1_image.specs.Image.{IsUsedCard, region_of_card}
 use Rattle.g1heap_cli.specs.Young.{region_cards, young_cards}
 use Rattle.g1_words.proofs.Sound.{k_positive}
@@ -51,7 +51,7 @@ module _ (h : Heap) (valid : IsValid h) where
   region_used : (r c : ℕ) → r < h.geometry.n → Contains (region_cards h r) c → IsUsedCard h c
   region_used r c lt member = at (is_free (kind h r)) refl member where
     at : (b : Bool) → is_free (kind h r) ≡ b → Contains (if b then [] else range_with_len (card_of h (start h r)) (card_of h (start h (r + 1)) - card_of h (start h r))) c → IsUsedCard h c
-    at true used none = absurd none
+    at true used none = absurd (none_contains c none)
     at false used inside =
         let t = range_bounds (card_of h (start h r)) (card_of h (start h (r + 1)) - card_of h (start h r)) c inside in
         card_used r c lt used t.0 (omega (arith, t.0, t.1))
