@@ -3,7 +3,8 @@
 
 Lists the statements that the proofs have more than once, up to the names of bound variables: those of crates/*/proofs.
 The parameters of a module belong to the statements in it. Answers to the checker's goals are left out, and so are the
-statements behind a `where`. A statement that is said twice in other words is not found.
+statements behind a `where`, and what is a number or a list and states nothing. Types of one name that two crates declare
+are two types. A statement that is said twice in other words is not found.
 
 For each there is a line 'N times: STATEMENT' with variables numbered, and behind it a line for each place: file, line,
 name. The last line is 'N statements stand M times'. Statuses: 0 none; 1 some; 2 usage.
@@ -19,6 +20,10 @@ TOP = pathlib.Path(__file__).resolve().parent.parent
 TOKEN = re.compile(r"[(){},;.]|[^\s(){},;.]+(?:\.[^\s(){},;.]+)*")
 NAMED = re.compile(r"(?:pub )?([^\s:(){}=.]+) : (.+)")
 MODULE = re.compile(r"module _ (.+) where")
+IMPORT = re.compile(r"(?:pub )?use (Rattle\.(g1\w*)\.\S+)\.\{(.+)\}")
+DEFINED = re.compile(r"\s*(?:pub )?(?:abbrev|record|data) (?:pub )?(\S+)")
+# What has values, which are no proofs.
+VALUES = re.compile(r"(?:.* → )?(?:ℕ|Bool|List .*)")
 # What begins a declaration that states nothing.
 OTHERS = ("abbrev ", "data ", "record ", "use ", "module ", "pub use ", "pub data ", "pub record ", "abbrev pub ", "--")
 
@@ -44,9 +49,24 @@ def whole(lines, at):
     return " ".join(text)
 
 
+def owners(lines, crate):
+    """The crate that each name is of which a file imports from one, or defines. What the checker makes of a call is that
+    call's own."""
+    found = {}
+    for line in lines:
+        if at := IMPORT.fullmatch(line.strip()):
+            for name in at[3].split(","):
+                found[name.split(" as ")[-1].strip()] = at[1] if at[1].endswith(".Goals") else at[2]
+        elif at := DEFINED.match(line):
+            found[at[1]] = crate
+    return found
+
+
 def statements(file):
     """The statements of a file, each with the parameters of the modules that it is in."""
     lines, modules = file.read_text().splitlines(), []
+    crate = file.parts[len(file.parts) - 1 - file.parts[::-1].index("proofs") - 1]
+    of = owners(lines, crate)
     for at, line in enumerate(lines):
         if not line.strip():
             continue
@@ -60,8 +80,8 @@ def statements(file):
             modules.append((indent + 2, module[1]))
             continue
         named = NAMED.fullmatch(whole(lines, at))
-        if named and not line.strip().startswith(OTHERS) and not named[2].startswith("goal."):
-            yield Statement(file, at + 1, named[1], " → ".join([*(said for _, said in modules), named[2]]))
+        if named and not line.strip().startswith(OTHERS) and not named[2].startswith("goal.") and not VALUES.fullmatch(named[2]):
+            yield Statement(file, at + 1, named[1], numbered(" → ".join([*(said for _, said in modules), named[2]]), of))
 
 
 def binders(tokens, at):
@@ -96,8 +116,8 @@ def spread(tokens):
     return tokens
 
 
-def numbered(text):
-    """The statement with a number in place of each bound variable."""
+def numbered(text, of):
+    """The statement with a number in place of each bound variable, and the crate before each name that is of one."""
     # `λ x. y` has its dot behind the name
     tokens = spread(TOKEN.findall(re.sub(r"(λ [^.]*)\.", r"\1 . ", text)))
     known, out, count = {}, [], 0
@@ -107,7 +127,7 @@ def numbered(text):
                 known[name] = f"v{count}"
                 count += 1
         first, dot, rest = token.partition(".")
-        out.append(known.get(first, first) + dot + rest)
+        out.append((known[first] if first in known else f"{of[first]}.{first}" if first in of else first) + dot + rest)
     # (A : T) (B : U) and (A : T) → (B : U) bind the same
     return re.sub(r"([)}]) → (?=[({]\s*v)", r"\1 ", " ".join(out))
 
@@ -119,7 +139,7 @@ def repeated(top, crates):
         if crates and file.relative_to(top).parts[1] not in crates:
             continue
         for said in statements(file):
-            found[numbered(said.text)].append(said)
+            found[said.text].append(said)
     return sorted(((text, places) for text, places in found.items() if len(places) > 1), key=lambda it: -len(it[1]))
 
 

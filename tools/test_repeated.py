@@ -36,6 +36,18 @@ tiny b c lt = (c, refl)
 answer : goal.two
 answer c = refl
 """
+HAND = """use Rattle.{crate}.specs.declared.rule.Hand.{{Hand}}
+use Rattle.g1_words.specs.Heap.{{Heap}}
+
+kept : (h : Hand) → h ≡ h
+kept h = refl
+
+valid : (h : Heap) → h ≡ h
+valid h = refl
+
+count : (h : Heap) → List ℕ
+count h = []
+"""
 
 
 class Repeated(unittest.TestCase):
@@ -59,6 +71,14 @@ class Repeated(unittest.TestCase):
             "    crates/one/proofs/First.antt:9 small",
             "    crates/two/proofs/call/Answers.antt:10 tiny",
             "2 statements stand 4 times"]))
+
+    def test_types_of_two_crates_are_two_types(self):
+        files = {f"{crate}/proofs/Kept.antt": HAND.format(crate=crate) for crate in ("g1_claim", "g1_deal")}
+        self.assertEqual(self.said(files), (1, [
+            "2 times: ( v0 : g1_words.Heap ) → v0 ≡ v0",
+            "    crates/g1_claim/proofs/Kept.antt:7 valid",
+            "    crates/g1_deal/proofs/Kept.antt:7 valid",
+            "1 statements stand 2 times"]))
 
     def test_a_crate_alone(self):
         files = {"one/proofs/First.antt": FIRST, "two/proofs/Second.antt": SECOND, "two/src/third.rt": FIRST}

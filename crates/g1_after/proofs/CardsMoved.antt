@@ -4,7 +4,8 @@ use Rattle.std.proofs.Common.{Contains, refl, sym, ◌∙◌, ap, subst, arith, 
 use Rattle.std.specs.List.{range_with_len}
 use Rattle.std.specs.List.Sorted.{IsStrictlyIncreasing}
 use Rattle.std.proofs.lemmas.Bool.{cases_Bool, cases_lt, false≢true, not-true, and_parts, or_cases}
-use Rattle.std.proofs.lemmas.List.{get_or_past, get_or_default}
+use Rattle.std.proofs.lemmas.List.{get_or_past}
+use Rattle.std.proofs.lemmas.List.Elements.{Contains-get_or}
 use Rattle.std.proofs.lemmas.List.FromFn.{get_or-map-range_with_len, length-map-range_with_len, length-range_with_len}
 use Rattle.std.proofs.Math.Nat.{div-le_self, div-mul-le_self, mul-le-mul_right}
 use Rattle.g1_image.proofs.Covers.{cards_rise}
@@ -17,17 +18,16 @@ use Rattle.g1_image.specs.Image.{Image, IsImage, IsLog, IsRememberedSet, IsUsedC
 use Rattle.g1_after.specs.Moved.{IsMoved, remembered_moved}
 use Rattle.g1_words.proofs.Bounds.{card_in_region, cards_in_region}
 use Rattle.g1_words.proofs.Indices.{range_bounds}
-use Rattle.g1_words.proofs.Members.{Contains-from_in, In, In-from_contains, any_member, filter_member, flat_map_cases, in_from_has, map_cases}
+use Rattle.g1_words.proofs.Members.{any_member, filter_member, flat_map_cases, Contains-from_has, map_cases, none_contains}
 use Rattle.g1_words.proofs.Ordered.{pairs_from_ordered}
 use Rattle.g1_words.proofs.Shapes.{IsBuilt, built, valid_of}
 use Rattle.g1_words.proofs.Sound.{IsSound}
 use Rattle.g1_words.proofs.Standing.{card_positive, home, home_region, stands_refs, word_used}
 use Rattle.g1_words.specs.Geometry.{Geometry}
 use Rattle.g1_words.specs.Heap.{Heap, card_of, free_region, kind, object_at, objects, region_of, slots, word}
-use Rattle.g1_words.specs.Layout.{free_regions, need, to_space}
+use Rattle.g1_words.specs.Layout.{to_space, HasRoom}
 use Rattle.g1_words.specs.Lists.{has}
 use Rattle.g1_words.specs.References.{Ref, named, refs, refs_at}
-use Rattle.g1_words.specs.Survivors.{AllOrdinary, Survivors}
 use Rattle.g1_words.specs.declared.region.Kind.{Kind}
 use Rattle.g1_words.specs.declared.region.Kind.TheVariants.{Continuation, Free, HumongousFirst, Ordinary}
 use Rattle.g1_words.specs.declared.region.Region.{Region}
@@ -87,25 +87,24 @@ exact_card h valid r c t =
     let q = map_cases (λ a. record { slot = p.0; target = a }) (named (word h p.0)) e p.2 in
     let slot : p.0 ≡ e.slot = ap (λ (x : Ref). x.slot) q.2 in
     let f = range_bounds (o.0.at + 1) o.0.refs p.0 p.1 in
-    let s = home h valid o.0 (Contains-from_in (objects h) o.0 o.1) in
+    let s = home h valid o.0 o.1 in
     let fits = stands_refs h valid s.0 o.0 s.2 in
     let x : ℕ = p.0 - o.0.at in
     let sum : o.0.at + x ≡ e.slot = omega arith in
     let used = word_used h valid s.0 o.0 x s.2 (omega arith) in
-    let t = home h valid (object_at h e.target) (valid.slot_named e (Contains-from_in (refs h) e m.1)) in
+    let t = home h valid (object_at h e.target) (valid.slot_named e m.1) in
     let there : t.0 ≡ r = sym (home_region h valid t.0 (object_at h e.target) t.2) ∙ to in (
       (λ z. used.1 (ap (λ y. kind h (region_of h y)) sum ∙ ap (kind h) (sym at) ∙ z)),
       (λ z. false≢true (sym away ∙ eq-eqb (region_of h e.slot) r (sym at ∙ z))),
       elim t.2.2 [ inl a ↦ inl (ap (kind h) (sym there) ∙ a.kind) | inr a ↦ inr (ap (kind h) (sym there) ∙ a.kind) ],
     )
 
-module _ (i : Image) (set l : List ℕ) (j : Image) (valid : IsBuilt i.heap) (ordinary : AllOrdinary i.heap set) (survivors : Survivors i.heap set l)
-    (room : need i.heap l ≤ length (free_regions i.heap)) (moved : IsMoved i set l j) (image : IsImage i) where
+module _ (i : Image) (set l : List ℕ) (j : Image) (valid : IsBuilt i.heap) (room : HasRoom i.heap set l) (moved : IsMoved i set l j) (image : IsImage i) where
   v : IsBuilt j.heap
-  v = valid_moved i set l j valid ordinary survivors room moved
+  v = valid_moved i set l j valid room moved
 
   s : IsSound i.heap
-  s = sound_before i set l j valid ordinary survivors room moved
+  s = sound_before i set l j valid room moved
 
   abbrev test : ℕ → ℕ → Bool
   test r c = (is_refined i r c && not (card_in i.heap set c)) || (card_in i.heap (to_space i.heap l) c && is_exact j.heap r c)
@@ -140,7 +139,7 @@ module _ (i : Image) (set l : List ℕ) (j : Image) (valid : IsBuilt i.heap) (or
       kind i.heap (c * i.heap.geometry.k / i.heap.geometry.w) ≢ Free → card_in i.heap set c ≡ false → kind j.heap (c * j.heap.geometry.k / j.heap.geometry.w) ≢ Free
   stays_used c lt used out z =
       let q : ℕ = c * i.heap.geometry.k / i.heap.geometry.w in
-      let shape = other_shape i set l j valid ordinary survivors room moved q lt out (used_not_to_space i.heap set l s ordinary survivors room q used) in
+      let shape = other_shape i set l j valid room moved q lt out (used_not_to_space i.heap set l s room q used) in
       used (sym shape.0 ∙ ap (kind j.heap) (sym (same_kc c)) ∙ z)
 
   -- a used region is one of the heap's
@@ -155,9 +154,9 @@ module _ (i : Image) (set l : List ℕ) (j : Image) (valid : IsBuilt i.heap) (or
       c < j.heap.geometry.n * j.heap.geometry.w / j.heap.geometry.k → is_refined i r c ≡ true → card_in i.heap set c ≡ false → Right r c
   by_refined r c lt a b below t out = elim (or_cases (has (remembered_of i r) c) (has i.log c && is_exact i.heap r c) t) [
     | inl x ↦
-        let m : In (remembered_of i r) c = in_from_has (remembered_of i r) c x in
-        let u = card_of_set i image r c lt (Contains-from_in (remembered_of i r) c m) in
-        let shape = other_shape i set l j valid ordinary survivors room moved r lt a b in (
+        let m : Contains (remembered_of i r) c = Contains-from_has (remembered_of i r) c x in
+        let u = card_of_set i image r c lt m in
+        let shape = other_shape i set l j valid room moved r lt a b in (
           (below, stays_used c (in_heap (c * i.heap.geometry.k / i.heap.geometry.w) u.0) u.0 out),
           (λ z. u.1 (sym (same_kc c) ∙ z)),
           (elim u.2
@@ -165,7 +164,7 @@ module _ (i : Image) (set l : List ℕ) (j : Image) (valid : IsBuilt i.heap) (or
         )
     | inr x ↦
         let e = exact_card i.heap valid r c (and_parts (has i.log c) (is_exact i.heap r c) x).1 in
-        let shape = other_shape i set l j valid ordinary survivors room moved r lt a b in (
+        let shape = other_shape i set l j valid room moved r lt a b in (
           (below, stays_used c (in_heap (c * i.heap.geometry.k / i.heap.geometry.w) e.0) e.0 out),
           (λ z. e.1 (sym (same_kc c) ∙ z)),
           (elim e.2
@@ -173,16 +172,16 @@ module _ (i : Image) (set l : List ℕ) (j : Image) (valid : IsBuilt i.heap) (or
         )
   ]
 
-  right_in : (r c : ℕ) → r < i.heap.geometry.n → In (remembered_of j r) c → Right r c
+  right_in : (r c : ℕ) → r < i.heap.geometry.n → Contains (remembered_of j r) c → Right r c
   right_in r c lt m = elim (cases_Bool (has set r)) [
-    | inl t ↦ absurd (subst (λ xs. In xs c) (remembered_set r lt t) m)
+    | inl t ↦ absurd (none_contains c (subst (λ xs. Contains xs c) (remembered_set r lt t) m))
     | inr a ↦ elim (cases_Bool (has (to_space i.heap l) r)) [
       | inl t ↦
-          let f = filter_member (is_exact j.heap r) (range_with_len 0 (j.heap.geometry.n * j.heap.geometry.w / j.heap.geometry.k)) c (subst (λ xs. In xs c) (rem_goal r lt a t) m) in
+          let f = filter_member (is_exact j.heap r) (range_with_len 0 (j.heap.geometry.n * j.heap.geometry.w / j.heap.geometry.k)) c (subst (λ xs. Contains xs c) (rem_goal r lt a t) m) in
           let b = range_bounds 0 (j.heap.geometry.n * j.heap.geometry.w / j.heap.geometry.k) c f.0 in
           by_exact r c (omega arith) f.1
       | inr b ↦
-          let f = filter_member (test r) (range_with_len 0 (i.heap.geometry.n * i.heap.geometry.w / i.heap.geometry.k)) c (subst (λ xs. In xs c) (rem_other r lt a b) m) in
+          let f = filter_member (test r) (range_with_len 0 (i.heap.geometry.n * i.heap.geometry.w / i.heap.geometry.k)) c (subst (λ xs. Contains xs c) (rem_other r lt a b) m) in
           let g = range_bounds 0 (i.heap.geometry.n * i.heap.geometry.w / i.heap.geometry.k) c f.0 in
           let n = cards_same in
           let below : c < j.heap.geometry.n * j.heap.geometry.w / j.heap.geometry.k = omega arith in
@@ -220,15 +219,12 @@ module _ (i : Image) (set l : List ℕ) (j : Image) (valid : IsBuilt i.heap) (or
   ]
 
   below_n : (r : ℕ) → r < j.heap.geometry.n → r < i.heap.geometry.n
-  below_n r lt = let n = (ap (λ (g : Geometry). g.n) moved.geometry) in omega (arith, n)
-
-  there : (r k d : ℕ) → k < length (remembered_of j r) → In (remembered_of j r) (get_or (remembered_of j r) k d)
-  there r k d lt = In-from_contains (remembered_of j r) (get_or (remembered_of j r) k d) (k, lt, get_or_default (remembered_of j r) k (get_or (remembered_of j r) k d) d lt)
+  below_n r lt = let n = ap (λ (g : Geometry). g.n) moved.geometry in omega (arith, n)
 
   set_moved : (r : ℕ) → r < j.heap.geometry.n → IsRememberedSet j.heap r (remembered_of j r)
   set_moved r lt = record {
     rising = rising_moved r (below_n r lt);
-    elsewhere = λ k d less. let right = right_in r (get_or (remembered_of j r) k d) (below_n r lt) (there r k d less) in (
+    elsewhere = λ k d less. let right = right_in r (get_or (remembered_of j r) k d) (below_n r lt) (Contains-get_or (remembered_of j r) k d less) in (
       record {
         in_heap = card_starts j.heap.geometry.w j.heap.geometry.k j.heap.geometry.n (get_or (remembered_of j r) k d)
             (card_positive j.heap.geometry.w j.heap.geometry.k j.heap.geometry.n v.limits) right.0.0;
@@ -237,7 +233,7 @@ module _ (i : Image) (set l : List ℕ) (j : Image) (valid : IsBuilt i.heap) (or
       right.1,
     );
     count = few_moved r (below_n r lt);
-    owner = λ some. let right = right_in r (get_or (remembered_of j r) 0 0) (below_n r lt) (there r 0 0 some) in may_hold (kind j.heap r) right.2;
+    owner = λ some. let right = right_in r (get_or (remembered_of j r) 0 0) (below_n r lt) (Contains-get_or (remembered_of j r) 0 0 some) in may_hold (kind j.heap r) right.2;
   }
 
   pub image_moved_is : IsImage j
@@ -249,9 +245,8 @@ module _ (i : Image) (set l : List ℕ) (j : Image) (valid : IsBuilt i.heap) (or
   }
 
 -- the image after is an image and covered
-pub tracked_moved : (i : Image) (set l : List ℕ) (j : Image) → IsTracked i → AllOrdinary i.heap set → Survivors i.heap set l →
-    need i.heap l ≤ length (free_regions i.heap) → IsMoved i set l j → IsTracked j
-tracked_moved i set l j t o v r m = record {
-  image = image_moved_is i set l j (built i.heap t.image.heap) o v r m t.image;
-  covered = covered_moved i set l j (built i.heap t.image.heap) o v r m t.covered;
+pub tracked_moved : (i : Image) (set l : List ℕ) (j : Image) → IsTracked i → HasRoom i.heap set l → IsMoved i set l j → IsTracked j
+tracked_moved i set l j t room m = record {
+  image = image_moved_is i set l j (built i.heap t.image.heap) room m t.image;
+  covered = covered_moved i set l j (built i.heap t.image.heap) room m t.covered;
 }

@@ -1,5 +1,5 @@
 -- The words of the image after: each is a word of one moved object, or 0.
-use Rattle.std.proofs.Common.{◌≡◌, ℕ, zero, suc, ◌+◌, ◌-◌, ◌<◌, ◌≤◌, ◌⊎◌, inl, inr, Bool, true, false, ◌&&◌, List, ◌++◌, length, get_or, map, refl, sym, ◌∙◌, ap, subst, arith, leb, ltb}
+use Rattle.std.proofs.Common.{◌≡◌, ℕ, zero, suc, ◌+◌, ◌-◌, ◌<◌, ◌≤◌, ◌⊎◌, inl, inr, Bool, true, false, ◌&&◌, List, ◌++◌, length, get_or, map, refl, sym, ◌∙◌, ap, subst, arith, leb, ltb, Contains}
 use Rattle.std.proofs.Common.{leb-true, ltb-true}
 use Rattle.std.proofs.Common.{length-append}
 use Rattle.std.proofs.lemmas.Bool.{cases_lt, and_parts}
@@ -9,7 +9,7 @@ use Rattle.g1_after.proofs.Determined.{word_from_copy}
 use Rattle.g1_words.specs.Copy.{is_taken, renamed, renamed_words, words_at}
 use Rattle.g1_image.specs.Image.{Image}
 use Rattle.g1_after.specs.Moved.{IsMoved}
-use Rattle.g1_words.proofs.Members.{Contains-from_in, In, any_member}
+use Rattle.g1_words.proofs.Members.{any_member}
 use Rattle.g1_words.specs.Heap.{Heap, word}
 use Rattle.g1_words.specs.Layout.{forward, kept}
 use Rattle.g1_words.specs.declared.object.Object.{Object}
@@ -56,11 +56,11 @@ length-renamed_words f h o fits =
 
 module _ (i : Image) (set l : List ℕ) (j : Image) (moved : IsMoved i set l j) where
   -- a word is 0, or one of a moved object
-  pub word_cases : (q : ℕ) → (word j.heap q ≡ 0) ⊎ ((k : Object) × In (kept i.heap set l) k × (m : ℕ) × (m < k.size) × (q ≡ forward i.heap l k.at + m))
+  pub word_cases : (q : ℕ) → (word j.heap q ≡ 0) ⊎ ((k : Object) × Contains (kept i.heap set l) k × (m : ℕ) × (m < k.size) × (q ≡ forward i.heap l k.at + m))
   word_cases q = go (is_taken (forward i.heap l) (kept i.heap set l) q) refl
     where
       go : (b : Bool) → is_taken (forward i.heap l) (kept i.heap set l) q ≡ b →
-          (word j.heap q ≡ 0) ⊎ ((k : Object) × In (kept i.heap set l) k × (m : ℕ) × (m < k.size) × (q ≡ forward i.heap l k.at + m))
+          (word j.heap q ≡ 0) ⊎ ((k : Object) × Contains (kept i.heap set l) k × (m : ℕ) × (m < k.size) × (q ≡ forward i.heap l k.at + m))
       go false e = inl (moved.cleared q e)
       go true e =
           let f : ℕ → ℕ = forward i.heap l in
@@ -70,12 +70,12 @@ module _ (i : Image) (set l : List ℕ) (j : Image) (moved : IsMoved i set l j) 
           let high : q < f m.0.at + m.0.size = ltb-true q (f m.0.at + m.0.size) both.1 in
           inr (m.0, m.1, q - f m.0.at, omega arith, omega arith)
 
-  pub copied_word : (k : Object) (m : ℕ) → In (kept i.heap set l) k → k.refs < k.size → m < k.size
+  pub copied_word : (k : Object) (m : ℕ) → Contains (kept i.heap set l) k → k.refs < k.size → m < k.size
       → StaysAt (forward i.heap l) i.heap k m (word j.heap (forward i.heap l k.at + m)) ⊎ RenamedAt (forward i.heap l) i.heap k m (word j.heap (forward i.heap l k.at + m))
   copied_word k m c fits lt =
       let f : ℕ → ℕ = forward i.heap l in
       let w : word j.heap (f k.at + m) ≡ get_or (renamed_words f i.heap k) (f k.at + m - f k.at) 0 =
-      word_from_copy f i.heap j.heap k (f k.at + m) (moved.copies k (Contains-from_in (kept i.heap set l) k c)) (omega arith) (omega arith) in
+      word_from_copy f i.heap j.heap k (f k.at + m) (moved.copies k c) (omega arith) (omega arith) in
       let z : f k.at + m - f k.at ≡ m = omega arith in
       let e : get_or (renamed_words f i.heap k) m 0 ≡ word j.heap (f k.at + m) = ap (λ x. get_or (renamed_words f i.heap k) x 0) (sym z) ∙ sym w in
       subst (λ x. StaysAt f i.heap k m x ⊎ RenamedAt f i.heap k m x) e (renamed_word f i.heap k m fits lt)

@@ -1,5 +1,5 @@
 -- The image after is covered.
-use Rattle.std.proofs.Common.{◌≡◌, ℕ, suc, ◌+◌, ◌*◌, ◌/◌, ◌<◌, ◌≤◌, ◌⊎◌, inl, inr, Bool, true, false, cond, not, ◌&&◌, ◌||◌, List, [], ◌∷◌, length, get_or, map, filter, flat_map, refl, sym}
+use Rattle.std.proofs.Common.{◌≡◌, ℕ, suc, ◌+◌, ◌*◌, ◌/◌, ◌<◌, ◌⊎◌, inl, inr, Bool, true, false, cond, not, ◌&&◌, ◌||◌, List, [], ◌∷◌, get_or, map, filter, flat_map, refl, sym, Contains, zero}
 use Rattle.std.proofs.Common.{◌∙◌, ap, subst, arith, eqb, eq-eqb}
 use Rattle.std.specs.List.{range_with_len}
 use Rattle.std.proofs.lemmas.Bool.{cases_Bool, false≢true, or_cases}
@@ -12,69 +12,68 @@ use Rattle.g1_image.specs.Cards.{Covered, cards_where, exact, is_covered, is_exa
 use Rattle.g1_image.specs.Image.{Image, remembered_of, card_in}
 use Rattle.g1_after.specs.Moved.{IsMoved, remembered_moved}
 use Rattle.g1_words.proofs.Bounds.{card_below, card_in_region, cards_in_region}
-use Rattle.g1_words.proofs.Computed.{In-range}
-use Rattle.g1_words.proofs.Members.{In, In-filter, In-flat_map, In-map, has_from_in}
+use Rattle.g1_words.proofs.Computed.{Contains-range}
+use Rattle.g1_words.proofs.Members.{Contains-filter, Contains-first, Contains-flat_map, Contains-later, Contains-map, has_from_contains, none_contains}
 use Rattle.g1_words.proofs.OneToOne.{kept_cases, outside_stays}
 use Rattle.g1_words.proofs.Shapes.{IsBuilt}
 use Rattle.g1_words.proofs.Standing.{card_positive}
 use Rattle.g1_words.specs.Geometry.{Geometry}
 use Rattle.g1_words.specs.Heap.{Heap, card_of, object_at, objects, region_of, slots, word}
-use Rattle.g1_words.specs.Layout.{forward, free_regions, kept, need, to_space}
+use Rattle.g1_words.specs.Layout.{forward, free_regions, kept, to_space, HasRoom}
 use Rattle.g1_words.specs.Lists.{has}
 use Rattle.g1_words.specs.References.{Ref, named, refs, refs_at}
-use Rattle.g1_words.specs.Survivors.{AllOrdinary, Survivors, in_set}
+use Rattle.g1_words.specs.Survivors.{in_set}
 use Rattle.g1_words.specs.declared.object.Object.{Object}
 pub use Rattle.g1_words.proofs.Lists.{any_from_in}
 
 -- ---- tests and lists
 
-pub none_left : {A : Type 0} (p : A → Bool) (xs : List A) → ((x : A) → In xs x → p x ≡ true) → filter (λ x. not (p x)) xs ≡ []
+pub none_left : {A : Type 0} (p : A → Bool) (xs : List A) → ((x : A) → Contains xs x → p x ≡ true) → filter (λ x. not (p x)) xs ≡ []
 none_left p [] f = refl
-none_left p (x ∷ xs) f = (λ t. cond (not (f x (inl refl) t)) (x ∷ filter (λ x. not (p x)) xs) (filter (λ x. not (p x)) xs)) ∙ none_left p xs (λ y k. f y (inr k))
+none_left p (x ∷ xs) f = (λ t. cond (not (f x (Contains-first x xs) t)) (x ∷ filter (λ x. not (p x)) xs) (filter (λ x. not (p x)) xs)) ∙ none_left p xs (λ y k. f y (Contains-later x xs y k))
 
 -- every reference of a covered image is covered
-pub covered_each : (i : Image) → Covered i → (e : Ref) → In (refs i.heap) e → is_covered i e ≡ true
+pub covered_each : (i : Image) → Covered i → (e : Ref) → Contains (refs i.heap) e → is_covered i e ≡ true
 covered_each i c e h = elim (cases_Bool (is_covered i e)) [
   | inl t ↦ t
-  | inr f ↦ absurd (subst (λ xs. In xs e.slot) c (In-map (λ (x : Ref). x.slot) (filter (λ e. not (is_covered i e)) (refs i.heap)) e
-      (In-filter (λ (e : Ref). not (is_covered i e)) (refs i.heap) e h (ap not f))))
+  | inr f ↦ absurd (none_contains e.slot (subst (λ xs. Contains xs e.slot) c (Contains-map (λ (x : Ref). x.slot) (filter (λ e. not (is_covered i e)) (refs i.heap)) e
+      (Contains-filter (λ (e : Ref). not (is_covered i e)) (refs i.heap) e h (ap not f)))))
 ]
 
-pub exact_by : (h : Heap) (r c : ℕ) (e : Ref) → In (refs h) e → region_of h e.target ≡ r → eqb (region_of h e.slot) r ≡ false → card_of h e.slot ≡ c → is_exact h r c ≡ true
+pub exact_by : (h : Heap) (r c : ℕ) (e : Ref) → Contains (refs h) e → region_of h e.target ≡ r → eqb (region_of h e.slot) r ≡ false → card_of h e.slot ≡ c → is_exact h r c ≡ true
 exact_by h r c e m a b d = any_from_in (λ e. leads_into h r e && eqb (card_of h e.slot) c) (refs h) e m
     (and_both (leads_into h r e) (eqb (card_of h e.slot) c) (and_both (eqb (region_of h e.target) r) (not (eqb (region_of h e.slot) r))
     (eq-eqb (region_of h e.target) r a) (ap not b)) (eq-eqb (card_of h e.slot) c d))
 
-module _ (i : Image) (set l : List ℕ) (j : Image) (valid : IsBuilt i.heap) (ordinary : AllOrdinary i.heap set) (survivors : Survivors i.heap set l)
-    (room : need i.heap l ≤ length (free_regions i.heap)) (moved : IsMoved i set l j) where
+module _ (i : Image) (set l : List ℕ) (j : Image) (valid : IsBuilt i.heap) (room : HasRoom i.heap set l) (moved : IsMoved i set l j) where
   -- a word of a moved object lies in a region that isn't in the set; a survivor's in to-space
-  pub moved_region : (k : Object) (m : ℕ) → In (kept i.heap set l) k → m < k.size
+  pub moved_region : (k : Object) (m : ℕ) → Contains (kept i.heap set l) k → m < k.size
       → (region_of i.heap (forward i.heap l k.at + m) < i.heap.geometry.n) × (has set (region_of i.heap (forward i.heap l k.at + m)) ≡ false)
-      × (((in_set i.heap set k.at ≡ false) × In (objects i.heap) k × (forward i.heap l k.at ≡ k.at)) ⊎ (has (to_space i.heap l) (region_of i.heap (forward i.heap l k.at + m)) ≡ true))
+      × (((in_set i.heap set k.at ≡ false) × Contains (objects i.heap) k × (forward i.heap l k.at ≡ k.at)) ⊎ (has (to_space i.heap l) (region_of i.heap (forward i.heap l k.at + m)) ≡ true))
   moved_region k m c lt =
-      let s = sound_before i set l j valid ordinary survivors room moved in
-      elim (kept_cases i.heap set l s ordinary survivors room k c) [
+      let s = sound_before i set l j valid room moved in
+      elim (kept_cases i.heap set l s room k c) [
         | inl x ↦
-            let stays = outside_stays i.heap set l s ordinary survivors room k.at x.0 in
-            let u = outside_word i set l j valid ordinary survivors room moved k m x.1 x.0 lt in
+            let stays = outside_stays i.heap set l s room k.at x.0 in
+            let u = outside_word i set l j valid room moved k m x.1 x.0 lt in
             let z : (region_of i.heap (forward i.heap l k.at + m) < i.heap.geometry.n)
             × (has set (region_of i.heap (forward i.heap l k.at + m)) ≡ false) = subst (λ y. (region_of i.heap (y + m) < i.heap.geometry.n)
             × (has set (region_of i.heap (y + m)) ≡ false)) (sym stays) (u.0, u.3) in
             (z.0, z.1, inl (x.0, x.1, stays))
         | inr x ↦
             let at : x.0 ≡ k.at = ap (λ (o : Object). o.at) x.2 in
-            let u = survivor_word i set l j valid ordinary survivors room moved x.0 m x.1 (subst (λ (o : Object). m < o.size) (sym x.2) lt) in
-            let g = goal_is_free i set l j s ordinary survivors room moved u.0 u.1 in
+            let u = survivor_word i set l j valid room moved x.0 m x.1 (subst (λ (o : Object). m < o.size) (sym x.2) lt) in
+            let g = goal_is_free i set l j s room moved u.0 u.1 in
             let same : get_or (free_regions i.heap) u.0 0 ≡ region_of i.heap (forward i.heap l k.at + m) = sym u.2 ∙ ap (λ y. region_of i.heap (forward i.heap l y + m)) at in (
               subst (λ y. y < i.heap.geometry.n) same g.1,
-              subst (λ y. has set y ≡ false) same (goal_not_in_set i set l j s ordinary survivors room moved u.0 u.1),
-              inr (subst (λ y. has (to_space i.heap l) y ≡ true) same (goal_in_to_space i set l j s ordinary survivors room moved u.0 u.1)),
+              subst (λ y. has set y ≡ false) same (goal_not_in_set i set l j s room moved u.0 u.1),
+              inr (subst (λ y. has (to_space i.heap l) y ≡ true) same (goal_in_to_space i set l j s room moved u.0 u.1)),
             )
       ]
 
-  module _ (covered : Covered i) (e : Ref) (here : In (refs j.heap) e) (differ : eqb (e.slot / i.heap.geometry.w) (e.target / i.heap.geometry.w) ≡ false) where
+  module _ (covered : Covered i) (e : Ref) (here : Contains (refs j.heap) e) (differ : eqb (e.slot / i.heap.geometry.w) (e.target / i.heap.geometry.w) ≡ false) where
     r : RefMoved i set l e
-    r = ref_moved i set l j valid ordinary survivors room moved e here
+    r = ref_moved i set l j valid room moved e here
 
     abbrev from : ℕ
     from = e.slot / i.heap.geometry.w
@@ -86,24 +85,24 @@ module _ (i : Image) (set l : List ℕ) (j : Image) (valid : IsBuilt i.heap) (or
     card = e.slot / i.heap.geometry.k
 
     owner_word : r.m < r.owner.size
-    owner_word = let k = kept_refs i set l j valid ordinary survivors room moved r.owner r.is_kept in let m = r.within in omega arith
+    owner_word = let k = kept_refs i set l j valid room moved r.owner r.is_kept in let m = r.within in omega arith
 
-    from_region : (from < i.heap.geometry.n) × (has set from ≡ false) × (((in_set i.heap set r.owner.at ≡ false) × In (objects i.heap) r.owner
+    from_region : (from < i.heap.geometry.n) × (has set from ≡ false) × (((in_set i.heap set r.owner.at ≡ false) × Contains (objects i.heap) r.owner
         × (forward i.heap l r.owner.at ≡ r.owner.at)) ⊎ (has (to_space i.heap l) from ≡ true))
     from_region = subst (λ y. (y / i.heap.geometry.w < i.heap.geometry.n) × (has set (y / i.heap.geometry.w) ≡ false)
-        × (((in_set i.heap set r.owner.at ≡ false) × In (objects i.heap) r.owner × (forward i.heap l r.owner.at ≡ r.owner.at)) ⊎ (has (to_space i.heap l) (y / i.heap.geometry.w) ≡ true))) (sym r.slot)
+        × (((in_set i.heap set r.owner.at ≡ false) × Contains (objects i.heap) r.owner × (forward i.heap l r.owner.at ≡ r.owner.at)) ⊎ (has (to_space i.heap l) (y / i.heap.geometry.w) ≡ true))) (sym r.slot)
         (moved_region r.owner r.m r.is_kept owner_word)
 
-    target_kept : In (kept i.heap set l) (object_at i.heap r.before)
-    target_kept = before_kept i set l j valid ordinary survivors room moved e r
+    target_kept : Contains (kept i.heap set l) (object_at i.heap r.before)
+    target_kept = before_kept i set l j valid room moved e r
 
     to_region : (to < i.heap.geometry.n) × (has set to ≡ false) × (((in_set i.heap set r.before ≡ false)
-        × In (objects i.heap) (object_at i.heap r.before) × (forward i.heap l r.before ≡ r.before)) ⊎ (has (to_space i.heap l) to ≡ true))
+        × Contains (objects i.heap) (object_at i.heap r.before) × (forward i.heap l r.before ≡ r.before)) ⊎ (has (to_space i.heap l) to ≡ true))
     to_region =
         let z : forward i.heap l r.before + 0 ≡ e.target = omega (arith, r.moved_to) in
-        let k = kept_refs i set l j valid ordinary survivors room moved (object_at i.heap r.before) target_kept in
+        let k = kept_refs i set l j valid room moved (object_at i.heap r.before) target_kept in
         subst (λ y. (y / i.heap.geometry.w < i.heap.geometry.n) × (has set (y / i.heap.geometry.w) ≡ false)
-        × (((in_set i.heap set r.before ≡ false) × In (objects i.heap) (object_at i.heap r.before) × (forward i.heap l r.before ≡ r.before))
+        × (((in_set i.heap set r.before ≡ false) × Contains (objects i.heap) (object_at i.heap r.before) × (forward i.heap l r.before ≡ r.before))
         ⊎ (has (to_space i.heap l) (y / i.heap.geometry.w) ≡ true))) z
         (moved_region (object_at i.heap r.before) 0 target_kept (omega arith))
 
@@ -115,7 +114,7 @@ module _ (i : Image) (set l : List ℕ) (j : Image) (valid : IsBuilt i.heap) (or
     divides = cards_in_region i.heap.geometry.w i.heap.geometry.k i.heap.geometry.n valid.limits
 
     slot_below : e.slot < i.heap.geometry.n * i.heap.geometry.w
-    slot_below = let b = moved_below i set l j valid ordinary survivors room moved r.owner r.m r.is_kept owner_word in let s = r.slot in omega arith
+    slot_below = let b = moved_below i set l j valid room moved r.owner r.m r.is_kept owner_word in let s = r.slot in omega arith
 
     card_there : card < i.heap.geometry.n * i.heap.geometry.w / i.heap.geometry.k
     card_there = card_below i.heap.geometry.w i.heap.geometry.k divides.0 i.heap.geometry.n e.slot
@@ -125,9 +124,9 @@ module _ (i : Image) (set l : List ℕ) (j : Image) (valid : IsBuilt i.heap) (or
     card_from = card_in_region i.heap.geometry.w i.heap.geometry.k divides.0 e.slot (card_positive i.heap.geometry.w i.heap.geometry.k i.heap.geometry.n valid.limits) divides.1
 
     has_where : (test : ℕ → Bool) → test card ≡ true → has (cards_where i.heap test) card ≡ true
-    has_where test t = has_from_in (cards_where i.heap test) card (In-filter test
+    has_where test t = has_from_contains (cards_where i.heap test) card (Contains-filter test
         (range_with_len 0 (i.heap.geometry.n * i.heap.geometry.w / i.heap.geometry.k)) card
-        (In-range 0 (i.heap.geometry.n * i.heap.geometry.w / i.heap.geometry.k) card (omega arith) (let c = card_there in omega arith)) t)
+        (Contains-range 0 (i.heap.geometry.n * i.heap.geometry.w / i.heap.geometry.k) card (omega arith) (let c = card_there in omega arith)) t)
 
     has_exact : has (exact j.heap to) card ≡ true
     has_exact =
@@ -145,9 +144,9 @@ module _ (i : Image) (set l : List ℕ) (j : Image) (valid : IsBuilt i.heap) (or
             let goal : r.before ≡ e.target = sym b.2 ∙ r.moved_to in
             let w : word i.heap e.slot ≡ suc e.target = ap (word i.heap) at ∙ r.word_before ∙ ap suc goal in
             let a = r.above in let m = r.within in
-            let k : In (refs_at i.heap e.slot) e = In-map (λ a. record { slot = e.slot; target = a }) (named (word i.heap e.slot)) e.target (subst (λ x. In (named x) e.target) (sym w) (inl refl)) in
-            let there : In (refs i.heap) e = In-flat_map (λ o. flat_map (refs_at i.heap) (slots o)) (objects i.heap) r.owner e o.1
-            (In-flat_map (refs_at i.heap) (slots r.owner) e.slot e (In-range (r.owner.at + 1) r.owner.refs e.slot (omega arith) (omega arith)) k) in
+            let k : Contains (refs_at i.heap e.slot) e = Contains-map (λ a. record { slot = e.slot; target = a }) (named (word i.heap e.slot)) e.target (subst (λ x. Contains (named x) e.target) (sym w) (zero, omega arith, refl)) in
+            let there : Contains (refs i.heap) e = Contains-flat_map (λ o. flat_map (refs_at i.heap) (slots o)) (objects i.heap) r.owner e o.1
+            (Contains-flat_map (refs_at i.heap) (slots r.owner) e.slot e (Contains-range (r.owner.at + 1) r.owner.refs e.slot (omega arith) (omega arith)) k) in
             let c : is_covered i e ≡ true = covered_each i covered e there in
             elim (or_cases (eqb from to || has (remembered_of i to) card) (has i.log card) c) [
               | inl x ↦ elim (or_cases (eqb from to) (has (remembered_of i to) card) x) [
@@ -183,7 +182,7 @@ module _ (i : Image) (set l : List ℕ) (j : Image) (valid : IsBuilt i.heap) (or
     in_rem_moved = ap (λ xs. has xs card) rem_moved ∙ in_new_rem
 
   -- each reference of the image after is covered
-  each_covered : Covered i → (e : Ref) → In (refs j.heap) e → is_covered j e ≡ true
+  each_covered : Covered i → (e : Ref) → Contains (refs j.heap) e → is_covered j e ≡ true
   each_covered c e here =
       let s : e.slot / j.heap.geometry.w ≡ e.slot / i.heap.geometry.w = ap (λ y. e.slot / y) (ap (λ (g : Geometry). g.w) moved.geometry) in
       let t : e.target / j.heap.geometry.w ≡ e.target / i.heap.geometry.w = ap (λ y. e.target / y) (ap (λ (g : Geometry). g.w) moved.geometry) in

@@ -9,7 +9,7 @@ use Rattle.g1_words.specs.Layout.{forward, kept}
 use Rattle.g1_image.specs.Image.{Image}
 use Rattle.g1_words.specs.Copy.{is_taken, renamed_words, IsCopy}
 use Rattle.g1_after.specs.Moved.{remembered_moved, IsMoved, Moved}
-use Rattle.g1_words.proofs.Members.{Contains-from_in, any_member}
+use Rattle.g1_words.proofs.Members.{any_member}
 use Rattle.g1_words.proofs.Unique.{breadth_first_unique}
 use Rattle.g1_words.specs.declared.object.Object.{Object}
 
@@ -28,7 +28,7 @@ module _ (i : Image) (set l : List ℕ) (j k : Image) (a : IsMoved i set l j) (b
       let both = and_parts (leb (f o.at) q) (ltb q (f o.at + o.size)) m.2 in
       let low : f o.at ≤ q = leb-true (f o.at) q both.0 in
       let high : q < f o.at + o.size = ltb-true q (f o.at + o.size) both.1 in
-      let c : Contains (kept i.heap set l) o = Contains-from_in (kept i.heap set l) o m.1 in
+      let c : Contains (kept i.heap set l) o = m.1 in
       word_from_copy f i.heap j.heap o q (a.copies o c) low high ∙ sym (word_from_copy f i.heap k.heap o q (b.copies o c) low high)
 
   same_words : j.heap.words ≡ k.heap.words

@@ -6,14 +6,14 @@ use Rattle.std.proofs.lemmas.List.FromFn.{get_or-map-range_with_len, length-map-
 use Rattle.g1_after.proofs.CopyWords.{RenamedAt, StaysAt, length-renamed_words, renamed_word}
 use Rattle.g1_after.proofs.Determined.{word_from_copy}
 use Rattle.g1_after.proofs.SameGraphs.{copy_targets, roots_renamed}
-use Rattle.g1_words.proofs.Members.{Contains-from_in, In-from_contains, In-map}
-use Rattle.g1_words.proofs.OneToOne.{target_in_refs}
+pub use Rattle.g1_after.proofs.SameGraphs.{live_object}
+use Rattle.g1_words.proofs.Members.{Contains-map}
 use Rattle.g1_words.proofs.Sound.{IsSound}
 use Rattle.g1_words.specs.Copy.{IsCopy, renamed, renamed_words, words_at}
 use Rattle.g1_words.specs.Graph.{SameGraph}
-use Rattle.g1_words.specs.Heap.{Heap, object_at, objects, word}
+use Rattle.g1_words.specs.Heap.{Heap, object_at, word}
 use Rattle.g1_words.specs.Live.{Live, child, seed}
-use Rattle.g1_words.specs.References.{named, refs, root_targets, targets}
+use Rattle.g1_words.specs.References.{named, root_targets, targets}
 use Rattle.g1_words.specs.declared.object.Object.{Object}
 
 -- ---- a copy, word by word
@@ -61,13 +61,6 @@ all_renamed_twice f g (x ∷ xs) = λ t. renamed_twice f g x t ∷ all_renamed_t
 
 -- ---- what the roots reach
 
--- what the roots reach is an object
-pub live_object : (h : Heap) → IsSound h → (a : ℕ) → Live h a → Contains (objects h) (object_at h a)
-live_object h sound a (seed c) = sound.root_named a c
-live_object h sound b (child {a = a} r c) =
-    let e = target_in_refs h [] (object_at h a) b (In-from_contains (objects h) (object_at h a) (live_object h sound a r)) (In-from_contains (targets h a) b c) in
-    subst (λ x. Contains (objects h) (object_at h x)) e.2 (sound.slot_named e.0 (Contains-from_in (refs h) e.0 e.1))
-
 module _ (g h : Heap) (sound : IsSound g) (s : SameGraph g h) where
   -- its references lie within it
   live_fits : (a : ℕ) → Live g a → (object_at g a).refs < (object_at g a).size
@@ -90,14 +83,14 @@ module _ (g h : Heap) (sound : IsSound g) (s : SameGraph g h) where
   pub live_copied : (a : ℕ) → Live g a → Live h (s.rename a)
   live_copied a (seed c) =
       let e : root_targets h ≡ map s.rename (root_targets g) = ap (flat_map named) s.roots ∙ roots_renamed s.rename g.roots in
-      seed (subst (λ xs. Contains xs (s.rename a)) (sym e) (Contains-from_in (map s.rename (root_targets g)) (s.rename a) (In-map s.rename (root_targets g) a (In-from_contains (root_targets g) a c))))
+      seed (subst (λ xs. Contains xs (s.rename a)) (sym e) (Contains-map s.rename (root_targets g) a c))
   live_copied b (child {a = a} r c) =
       let refs : (object_at h (s.rename a)).refs ≡ (object_at g a).refs = ap (λ (o : Object). o.refs) (object_copied a r) in
       let e : targets h (s.rename a) ≡ map s.rename (targets g a) =
       ap (λ n. flat_map (λ p. named (word h p)) (range_with_len (s.rename a + 1) n)) refs
       ∙ copy_targets s.rename g h (object_at g a) (s.copies a r) (live_fits a r) in
       child (live_copied a r) (subst (λ xs. Contains xs (s.rename b)) (sym e)
-      (Contains-from_in (map s.rename (targets g a)) (s.rename b) (In-map s.rename (targets g a) b (In-from_contains (targets g a) b c))))
+      (Contains-map s.rename (targets g a) b c))
 
   module _ (k : Heap) (t : SameGraph h k) where
     -- the copy's copy is a copy

@@ -1,7 +1,8 @@
 -- Where unnamed humongous objects were freed, a tracked image whose log is processed stays tracked.
 use Rattle.std.proofs.Common.{◌≡◌, ◌≢◌, ℕ, ◌<◌, inl, inr, true, false, cond, not, List, [], length, get_or, filter, Contains, sym, ◌∙◌, ap, subst, arith, lit<}
 use Rattle.std.proofs.lemmas.Bool.{cases_Bool, cases_lt, not-true}
-use Rattle.std.proofs.lemmas.List.{get_or_default, get_or_past}
+use Rattle.std.proofs.lemmas.List.{get_or_past}
+use Rattle.std.proofs.lemmas.List.Elements.{Contains-get_or}
 use Rattle.std.proofs.lemmas.List.FromFn.{get_or-map-range_with_len, length-map-range_with_len}
 use Rattle.std.proofs.lemmas.List.Kept.{IsStrictlyIncreasing-filter}
 use Rattle.g1_after.proofs.CardsMoved.{length-filter-le}
@@ -13,7 +14,7 @@ use Rattle.g1_after.specs.Unnamed.{image_without, unnamed_regions}
 use Rattle.g1_image.proofs.Covers.{Covers, card_region, covered_tells}
 use Rattle.g1_image.specs.Cards.{Covered}
 use Rattle.g1_image.specs.Image.{Image, IsImage, IsLog, IsRememberedSet, IsUsedCard, MayHoldCards, region_of_card, remembered_of, card_in}
-use Rattle.g1_words.proofs.Members.{Contains-from_in, In, In-filter, In-from_contains, filter_member}
+use Rattle.g1_words.proofs.Members.{Contains-filter, filter_member, none_contains}
 use Rattle.g1_words.proofs.Ordered.{pairs_from_ordered}
 use Rattle.g1_words.proofs.Shapes.{IsBuilt, built, valid_of}
 use Rattle.g1_words.proofs.Standing.{home, home_region}
@@ -63,10 +64,10 @@ module _ (i : Image) (valid : IsBuilt i.heap) (image : IsImage i) (words : List 
   ]
 
   -- a card that stays is one of the set before, and its region is used still
-  staying_card : (r c : ℕ) → r < i.heap.geometry.n → In (staying i r) c → IsUsedCard (with_parts i.heap words table) c × (region_of_card i.heap c ≢ r)
+  staying_card : (r c : ℕ) → r < i.heap.geometry.n → Contains (staying i r) c → IsUsedCard (with_parts i.heap words table) c × (region_of_card i.heap c ≢ r)
   staying_card r c lt m =
       let f = filter_member (λ c. not (card_in i.heap (unnamed_regions i.heap) c)) (remembered_of i r) c m in
-      let k = Contains-from_in (remembered_of i r) c f.0 in
+      let k = f.0 in
       let u = subst (λ x. IsUsedCard i.heap x × (region_of_card i.heap x ≢ r)) k.2 ((image.remembered r lt).elsewhere k.0 c k.1) in
       let q : ℕ = region_of_card i.heap c in
       let shape = same_shape i.heap valid words table left q (in_heap q u.0.used) (not-true (card_in i.heap (unnamed_regions i.heap) c) f.1) in
@@ -79,8 +80,7 @@ module _ (i : Image) (valid : IsBuilt i.heap) (image : IsImage i) (words : List 
       let few = length-filter-le (λ c. not (card_in i.heap (unnamed_regions i.heap) c)) (remembered_of i r) in
       record {
         rising = IsStrictlyIncreasing-filter (λ c. not (card_in i.heap (unnamed_regions i.heap) c)) (remembered_of i r) s.rising;
-        elsewhere = λ k d less. staying_card r (get_or (staying i r) k d) lt (In-from_contains (staying i r) (get_or (staying i r) k d)
-            (k, less, get_or_default (staying i r) k (get_or (staying i r) k d) d less));
+        elsewhere = λ k d less. staying_card r (get_or (staying i r) k d) lt (Contains-get_or (staying i r) k d less);
         count = let c = s.count in omega arith;
         owner = λ some. subst MayHoldCards (sym (same_shape i.heap valid words table left r lt f).0) (s.owner (omega arith));
       }
@@ -102,23 +102,23 @@ module _ (i : Image) (valid : IsBuilt i.heap) (image : IsImage i) (words : List 
   }
 
   -- a reference that is left keeps its cover
-  covers_left : i.log ≡ [] → (e : Ref) → In (refs i.heap) e → in_set i.heap (unnamed_regions i.heap) e.slot ≡ false → Covers i e → Covers image_with e
+  covers_left : i.log ≡ [] → (e : Ref) → Contains (refs i.heap) e → in_set i.heap (unnamed_regions i.heap) e.slot ≡ false → Covers i e → Covers image_with e
   covers_left none e m out (inl a) = inl a
-  covers_left none e m out (inr (inr a)) = absurd (subst (λ xs. In xs (card_of i.heap e.slot)) none (In-from_contains i.log (card_of i.heap e.slot) a))
+  covers_left none e m out (inr (inr a)) = absurd (none_contains (card_of i.heap e.slot) (subst (λ xs. Contains xs (card_of i.heap e.slot)) none a))
   covers_left none e m out (inr (inl a)) =
       let r : ℕ = region_of i.heap e.target in
       let c : ℕ = card_of i.heap e.slot in
-      let t = home i.heap valid (object_at i.heap e.target) (valid.slot_named e (Contains-from_in (refs i.heap) e m)) in
+      let t = home i.heap valid (object_at i.heap e.target) (valid.slot_named e m) in
       let lt : r < i.heap.geometry.n = subst (λ q. q < i.heap.geometry.n) (sym (home_region i.heap valid t.0 (object_at i.heap e.target) t.2)) t.2.0 in
       let away : card_in i.heap (unnamed_regions i.heap) c ≡ false = ap (has (unnamed_regions i.heap)) (card_region i.heap image.heap e.slot) ∙ out in
       inr (inl (subst (λ xs. Contains xs c) (sym (same_set r lt (ref_away i.heap valid e m out)))
-      (Contains-from_in (staying i r) c (In-filter (λ c. not (card_in i.heap (unnamed_regions i.heap) c)) (remembered_of i r) c (In-from_contains (remembered_of i r) c a) (ap not away)))))
+      (Contains-filter (λ c. not (card_in i.heap (unnamed_regions i.heap) c)) (remembered_of i r) c a (ap not away))))
 
   -- it is covered
   pub covered_left : i.log ≡ [] → Covered i → Covered image_with
   covered_left none c = (covered_tells image_with).1 (λ e k.
-      let m = ref_cases i.heap valid words table left e (In-from_contains (refs (with_parts i.heap words table)) e k) in
-      covers_left none e m.0 m.1 ((covered_tells i).0 c e (Contains-from_in (refs i.heap) e m.0)))
+      let m = ref_cases i.heap valid words table left e k in
+      covers_left none e m.0 m.1 ((covered_tells i).0 c e m.0))
 
 -- the image that is left is tracked
 pub tracked_left : TrackedLeft

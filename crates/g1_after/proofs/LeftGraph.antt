@@ -9,13 +9,13 @@ use Rattle.g1_after.proofs.ObjectsLeft.{IsLeft, heap_is_left, with_parts}
 use Rattle.g1_after.proofs.UnnamedRegions.{word_with_header}
 use Rattle.g1_after.specs.Freed.{GraphLeft, heap_left}
 use Rattle.g1_after.specs.Unnamed.{unnamed_regions}
-use Rattle.g1_words.proofs.Members.{Contains-from_in, In, In-flat_map, In-from_contains, In-map, flat_map_cases}
+use Rattle.g1_words.proofs.Members.{Contains-flat_map, Contains-map, flat_map_cases}
 use Rattle.g1_words.proofs.Shapes.{IsBuilt, built}
 use Rattle.g1_words.specs.Copy.{IsCopy, renamed, renamed_words, words_at}
 use Rattle.g1_words.specs.Graph.{SameGraph}
 use Rattle.g1_words.specs.Heap.{Heap, object_at, objects, slots, word}
 use Rattle.g1_words.specs.Live.{Live, child, seed}
-use Rattle.g1_words.specs.References.{Ref, named, refs, refs_at, root_targets, targets}
+use Rattle.g1_words.specs.References.{Ref, named, refs, refs_at}
 use Rattle.g1_words.specs.Survivors.{in_set}
 use Rattle.g1_words.specs.declared.object.Object.{Object}
 use Rattle.g1_words.specs.declared.region.Region.{Region}
@@ -33,15 +33,15 @@ roots_same (x ∷ xs) = λ t. sym (renamed_same x) t ∷ roots_same xs t
 module _ (h : Heap) (valid : IsBuilt h) where
   -- what the roots reach is an object outside the freed regions
   pub live_away : (a : ℕ) → Live h a → Contains (objects h) (object_at h a) × (in_set h (unnamed_regions h) a ≡ false)
-  live_away a (seed c) = (valid.root_named a c, root_away h valid a (In-from_contains (root_targets h) a c))
+  live_away a (seed c) = (valid.root_named a c, root_away h valid a c)
   live_away b (child {a = a} r c) =
       let k = live_away a r in
       let o : Object = object_at h a in
-      let p = flat_map_cases (λ p. named (word h p)) (slots o) b (In-from_contains (targets h a) b c) in
+      let p = flat_map_cases (λ p. named (word h p)) (slots o) b c in
       let e : Ref = record { slot = p.0; target = b } in
-      let here : In (refs_at h p.0) e = In-map (λ a. record { slot = p.0; target = a }) (named (word h p.0)) b p.2 in
-      let m : In (refs h) e = In-flat_map (λ o. flat_map (refs_at h) (slots o)) (objects h) o e (In-from_contains (objects h) o k.0) (In-flat_map (refs_at h) (slots o) p.0 e p.1 here) in
-      (valid.slot_named e (Contains-from_in (refs h) e m), ref_away h valid e m (slot_with_header h valid o p.0 k.0 p.1 ∙ k.1))
+      let here : Contains (refs_at h p.0) e = Contains-map (λ a. record { slot = p.0; target = a }) (named (word h p.0)) b p.2 in
+      let m : Contains (refs h) e = Contains-flat_map (λ o. flat_map (refs_at h) (slots o)) (objects h) o e k.0 (Contains-flat_map (refs_at h) (slots o) p.0 e p.1 here) in
+      (valid.slot_named e m, ref_away h valid e m (slot_with_header h valid o p.0 k.0 p.1 ∙ k.1))
 
 module _ (h : Heap) (valid : IsBuilt h) (words : List ℕ) (table : List Region) (left : IsLeft h words table) where
   -- an object outside the freed regions keeps its words

@@ -9,13 +9,13 @@ use Rattle.g1_after.proofs.ObjectsLeft.{IsLeft, header_same, heap_is_left, objec
 use Rattle.g1_after.proofs.UnnamedRegions.{unnamed_not_ordinary, words_together}
 use Rattle.g1_after.specs.Freed.{ValidLeft, heap_left}
 use Rattle.g1_after.specs.Unnamed.{unnamed_regions}
-use Rattle.g1_words.proofs.Computed.{In-range}
-use Rattle.g1_words.proofs.Members.{Contains-from_in, In, In-flat_map, In-from_contains}
+use Rattle.g1_words.proofs.Computed.{Contains-range}
+use Rattle.g1_words.proofs.Members.{Contains-flat_map}
 use Rattle.g1_words.proofs.Shapes.{BeginsRun, IsBuilt, IsBuiltBy, IsTiled, TakesRun, built, valid_of}
 use Rattle.g1_words.proofs.Standing.{home_region, run_object, stands, tiled_member, tiled_same, w_pos}
 use Rattle.g1_words.specs.Heap.{Heap, kind, object_at, objects, objects_in, region_of, regions, top, word}
 use Rattle.g1_words.specs.Lists.{has}
-use Rattle.g1_words.specs.References.{Ref, refs, root_targets}
+use Rattle.g1_words.specs.References.{Ref, refs}
 use Rattle.g1_words.specs.Survivors.{in_set}
 use Rattle.g1_words.specs.Valid.{MayBePinned}
 use Rattle.g1_words.specs.declared.object.Object.{Object}
@@ -31,8 +31,8 @@ module _ (h : Heap) (valid : IsBuilt h) where
   -- the object of a run
   run_head : (r : ℕ) → r < h.geometry.n → kind h r ≡ HumongousFirst → BeginsRun h r → Contains (objects h) (object_at h (r * h.geometry.w))
   run_head r lt two s =
-      Contains-from_in (objects h) (object_at h (r * h.geometry.w)) (In-flat_map (objects_in h) (regions h) r (object_at h (r * h.geometry.w))
-      (In-range 0 h.geometry.n r (omega arith) (omega (arith, lt))) (run_object h (w_pos h valid) r two s))
+      Contains-flat_map (objects_in h) (regions h) r (object_at h (r * h.geometry.w))
+      (Contains-range 0 h.geometry.n r (omega arith) (omega (arith, lt))) (run_object h (w_pos h valid) r two s)
 
   -- the regions of a run are freed together, or none is
   run_together : (r q : ℕ) → r < h.geometry.n → kind h r ≡ HumongousFirst → BeginsRun h r → q * h.geometry.w < (object_at h (r * h.geometry.w)).size
@@ -131,15 +131,14 @@ module _ (h : Heap) (valid : IsBuilt h) (words : List ℕ) (table : List Region)
   -- an object outside the freed regions stands there still
   pub stands_left : (a : ℕ) → Contains (objects h) (object_at h a) → in_set h (unnamed_regions h) a ≡ false → Contains (objects (with_parts h words table)) (object_at (with_parts h words table) a)
   stands_left a c out =
-      Contains-from_in (objects (with_parts h words table)) (object_at (with_parts h words table) a)
-      (subst (λ (o : Object). In (objects (with_parts h words table)) o) (sym (header_same h valid words table left a out))
-      (object_left h valid words table left (object_at h a) (In-from_contains (objects h) (object_at h a) c) out))
+      subst (λ (o : Object). Contains (objects (with_parts h words table)) o) (sym (header_same h valid words table left a out))
+      (object_left h valid words table left (object_at h a) c out)
 
   -- what a slot names stands there still
   slot_left : (e : Ref) → Contains (refs (with_parts h words table)) e → Contains (objects (with_parts h words table)) (object_at (with_parts h words table) e.target)
   slot_left e c =
-      let m = ref_cases h valid words table left e (In-from_contains (refs (with_parts h words table)) e c) in
-      stands_left e.target (valid.slot_named e (Contains-from_in (refs h) e m.0)) (ref_away h valid e m.0 m.1)
+      let m = ref_cases h valid words table left e c in
+      stands_left e.target (valid.slot_named e m.0) (ref_away h valid e m.0 m.1)
 
   -- the current region is ordinary, so it was not freed
   current_left : (r : ℕ) → h.current ≡ Some r → (r < h.geometry.n) × (kind (with_parts h words table) r ≡ Ordinary)
@@ -163,7 +162,7 @@ module _ (h : Heap) (valid : IsBuilt h) (words : List ℕ) (table : List Region)
     shaped = shaped_left;
     pins = pins_left;
     zero_above = zero_left;
-    root_named = λ a c. stands_left a (valid.root_named a c) (root_away h valid a (In-from_contains (root_targets h) a c));
+    root_named = λ a c. stands_left a (valid.root_named a c) (root_away h valid a c);
     slot_named = slot_left;
     current = current_left;
   }

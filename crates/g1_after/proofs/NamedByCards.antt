@@ -11,7 +11,7 @@ use Rattle.g1_after.specs.Freed.{NamedByCards}
 use Rattle.g1_after.specs.Unnamed.{has_word, is_named, lies_in}
 use Rattle.g1_image.specs.Cards.{Covered, is_exact, leads_into}
 use Rattle.g1_image.specs.Image.{Image, region_of_card, remembered_of}
-use Rattle.g1_words.proofs.Members.{Contains-from_in, In, any_member, in_from_has}
+use Rattle.g1_words.proofs.Members.{any_member, Contains-from_has}
 use Rattle.g1_words.proofs.Shapes.{BeginsRun, IsBuilt, IsBuiltBy, built}
 use Rattle.g1_words.proofs.Standing.{home, ordinary_word, run_object, run_word, stands_refs, w_pos, words_apart}
 use Rattle.g1_words.specs.Heap.{Heap, card_of, kind, object_at, objects, objects_in, region_of}
@@ -42,7 +42,7 @@ module _ (h : Heap) (valid : IsBuilt h) (r : ℕ) (there : r < h.geometry.n) (tw
   first = subst (IsBuiltBy h r) two (valid.shaped r there)
 
   -- it is the region's object
-  stands_first : In (objects_in h r) whole
+  stands_first : Contains (objects_in h r) whole
   stands_first = run_object h (w_pos h valid) r two first
 
   -- no region of the run is ordinary
@@ -86,15 +86,14 @@ module _ (h : Heap) (valid : IsBuilt h) (r : ℕ) (there : r < h.geometry.n) (tw
       (q - r, omega arith, sym same)
 
   -- a slot of another object doesn't lie in a region of the run
-  slot_apart : (e : Ref) → In (refs h) e → has_word whole e.slot ≡ false → lies_in h (region_of h e.slot) whole ≡ false
+  slot_apart : (e : Ref) → Contains (refs h) e → has_word whole e.slot ≡ false → lies_in h (region_of h e.slot) whole ≡ false
   slot_apart e m without = false_from_ne_true (lies_in h (region_of h e.slot) whole) (λ y.
       let s = slot_of h e m in
-      let c : Contains (objects h) s.owner = Contains-from_in (objects h) s.owner s.is_one in
-      let stood = home h valid s.owner c in
+      let stood = home h valid s.owner s.is_one in
       let fits = stands_refs h valid stood.0 s.owner stood.2 in
       let above = s.above in let within = s.within in let at = s.at in
       let z = in_run (region_of h e.slot) y in
-      let same : s.owner ≡ whole = run_alone s.owner s.m z.0 c (omega arith) z.1 (ap (region_of h) (sym at) ∙ z.2) in
+      let same : s.owner ≡ whole = run_alone s.owner s.m z.0 s.is_one (omega arith) z.1 (ap (region_of h) (sym at) ∙ z.2) in
       let word : has_word s.owner e.slot ≡ true =
       and_from (leb s.owner.at e.slot) (ltb e.slot (s.owner.at + s.owner.size)) (le-leb s.owner.at e.slot (omega arith)) (lt-ltb e.slot (s.owner.at + s.owner.size) (omega arith)) in
       false≢true (sym without ∙ subst (λ (x : Object). has_word x e.slot ≡ true) same word))
@@ -144,7 +143,7 @@ module _ (i : Image) (valid : IsBuilt i.heap) (covered : Covered i) (empty : i.l
         | inr x ↦ absurd (false≢true x)
       ] in
       let outside : lies_in i.heap (region_of_card i.heap c) object ≡ false = ap (λ y. lies_in i.heap y object) (region_of_slot i.heap valid e.slot) ∙ apart in
-      any_from_in by_card (remembered_of i r) c (in_from_has (remembered_of i r) c held)
+      any_from_in by_card (remembered_of i r) c (Contains-from_has (remembered_of i r) c held)
       (and_from (not (lies_in i.heap (region_of_card i.heap c) object)) (is_exact i.heap r c) (ap not outside) (exact_by i.heap r c e m.1 to differ refl))
 
   -- such a card holds a slot of another object that names it
@@ -158,7 +157,7 @@ module _ (i : Image) (valid : IsBuilt i.heap) (covered : Covered i) (empty : i.l
       let x = exact_parts i.heap r c e k.2 in
       let none : 0 * i.heap.geometry.w < object.size = let f = (first i.heap valid r there two).refs in omega arith in
       let target : Object = object_at i.heap e.target in
-      let one : Contains (objects i.heap) target = valid.slot_named e (Contains-from_in (refs i.heap) e k.1) in
+      let one : Contains (objects i.heap) target = valid.slot_named e k.1 in
       let stood = home i.heap valid target one in
       let fits = stands_refs i.heap valid stood.0 target stood.2 in
       let zero_on : e.target + 0 ≡ e.target = omega arith in

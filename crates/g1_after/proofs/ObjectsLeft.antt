@@ -7,9 +7,9 @@ use Rattle.std.proofs.lemmas.List.FromFn.{get_or-map-range_with_len, length-map-
 use Rattle.g1_after.proofs.ObjectsMoved.{region_at}
 use Rattle.g1_after.specs.Freed.{ObjectsLeft, heap_left}
 use Rattle.g1_after.specs.Unnamed.{unnamed_regions}
-use Rattle.g1_words.proofs.Computed.{In-range}
+use Rattle.g1_words.proofs.Computed.{Contains-range}
 use Rattle.g1_words.proofs.Indices.{range_bounds}
-use Rattle.g1_words.proofs.Members.{Contains-from_in, In, In-flat_map, In-from_contains, flat_map_cases}
+use Rattle.g1_words.proofs.Members.{Contains-flat_map, flat_map_cases, none_contains}
 use Rattle.g1_words.proofs.Shapes.{IsBuilt, built}
 use Rattle.g1_words.proofs.Standing.{home, home_region, stands}
 use Rattle.g1_words.specs.Heap.{Heap, free_region, kind, object_at, objects, objects_by, objects_in, region, region_of, regions, word}
@@ -68,7 +68,7 @@ module _ (h : Heap) (valid : IsBuilt h) where
 
 module _ (h : Heap) (valid : IsBuilt h) (words : List ℕ) (table : List Region) (left : IsLeft h words table) where
   -- an object starts in its region
-  in_home : (r : ℕ) (o : Object) → In (objects_in h r) o → region_of h o.at ≡ r
+  in_home : (r : ℕ) (o : Object) → Contains (objects_in h r) o → region_of h o.at ≡ r
   in_home r o m = home_region h valid r o (stands h valid r o m)
 
   -- an object elsewhere is the one that its header tells, as before
@@ -87,30 +87,27 @@ module _ (h : Heap) (valid : IsBuilt h) (words : List ℕ) (table : List Region)
   freed_is_empty r lt t = let q : region (with_parts h words table) r ≡ free_region = left.freed r lt t in ap (λ (q : Region). objects_by q.kind (with_parts h words table) r) q
 
   -- an object that is left was one, outside the freed regions
-  pub left_cases : (o : Object) → In (objects (with_parts h words table)) o → In (objects h) o × (in_set h (unnamed_regions h) o.at ≡ false)
+  pub left_cases : (o : Object) → Contains (objects (with_parts h words table)) o → Contains (objects h) o × (in_set h (unnamed_regions h) o.at ≡ false)
   left_cases o m =
       let r = flat_map_cases (objects_in (with_parts h words table)) (regions h) o m in
       let b = range_bounds 0 h.geometry.n r.0 r.1 in
       elim (cases_Bool (has (unnamed_regions h) r.0)) [
-        | inl t ↦ absurd (subst (λ xs. In xs o) (freed_is_empty r.0 (omega arith) t) r.2)
+        | inl t ↦ absurd (none_contains o (subst (λ xs. Contains xs o) (freed_is_empty r.0 (omega arith) t) r.2))
         | inr f ↦
-            let k : In (objects_in h r.0) o = subst (λ xs. In xs o) (objects_same r.0 (omega arith) f) r.2 in
-            (In-flat_map (objects_in h) (regions h) r.0 o r.1 k, ap (has (unnamed_regions h)) (in_home r.0 o k) ∙ f)
+            let k : Contains (objects_in h r.0) o = subst (λ xs. Contains xs o) (objects_same r.0 (omega arith) f) r.2 in
+            (Contains-flat_map (objects_in h) (regions h) r.0 o r.1 k, ap (has (unnamed_regions h)) (in_home r.0 o k) ∙ f)
       ]
 
   -- an object outside the freed regions is left
-  pub object_left : (o : Object) → In (objects h) o → in_set h (unnamed_regions h) o.at ≡ false → In (objects (with_parts h words table)) o
+  pub object_left : (o : Object) → Contains (objects h) o → in_set h (unnamed_regions h) o.at ≡ false → Contains (objects (with_parts h words table)) o
   object_left o m out =
-      let r = home h valid o (Contains-from_in (objects h) o m) in
+      let r = home h valid o m in
       let f : has (unnamed_regions h) r.0 ≡ false = ap (has (unnamed_regions h)) (sym (in_home r.0 o r.1)) ∙ out in
       let lt : r.0 < h.geometry.n = r.2.0 in
-      In-flat_map (objects_in (with_parts h words table)) (regions h) r.0 o (In-range 0 h.geometry.n r.0 (omega arith) (omega arith)) (subst (λ xs. In xs o) (sym (objects_same r.0 lt f)) r.1)
+      Contains-flat_map (objects_in (with_parts h words table)) (regions h) r.0 o (Contains-range 0 h.geometry.n r.0 (omega arith) (omega arith)) (subst (λ xs. Contains xs o) (sym (objects_same r.0 lt f)) r.1)
 
   left_is : (o : Object) → Contains (objects (with_parts h words table)) o ↔ (Contains (objects h) o × IsFalse (in_set h (unnamed_regions h) o.at))
-  left_is o = (
-    (λ c. let m = left_cases o (In-from_contains (objects (with_parts h words table)) o c) in (Contains-from_in (objects h) o m.0, m.1)),
-    (λ c. Contains-from_in (objects (with_parts h words table)) o (object_left o (In-from_contains (objects h) o c.0) c.1)),
-  )
+  left_is o = (left_cases o, λ c. object_left o c.0 c.1)
 
 -- the objects that are left are those outside the freed regions
 pub objects_left : ObjectsLeft

@@ -1,5 +1,5 @@
 -- What holds of the image after the pause: the survivors moved, and the unnamed humongous objects freed.
-use Rattle.std.proofs.Common.{◌≡◌, ◌↔◌, ℕ, ◌+◌, ◌/◌, ◌<◌, inl, inr, Bool, true, false, not, ◌||◌, List, ◌++◌, length, get_or, flat_map, Contains, refl, sym, ◌∙◌, ap, subst, arith, eqb, add-zero}
+use Rattle.std.proofs.Common.{◌≡◌, ◌↔◌, ℕ, zero, ◌+◌, ◌/◌, ◌<◌, inl, inr, true, false, not, ◌||◌, List, ◌++◌, length, get_or, Contains, refl, sym, ◌∙◌, ap, subst, arith, eqb, add-zero}
 use Rattle.std.specs.List.{range_with_len}
 use Rattle.std.proofs.lemmas.List.{ext_get_or}
 use Rattle.std.proofs.lemmas.List.Folds.{list_any-append}
@@ -7,8 +7,8 @@ use Rattle.std.proofs.lemmas.List.FromFn.{get_or-map-range_with_len, length-map-
 use Rattle.std.proofs.lemmas.Bool.{false_from_ne_true, not-true}
 use Rattle.g1_image.specs.Cards.{IsTracked}
 use Rattle.g1_image.specs.Image.{Image}
-use Rattle.g1_words.proofs.Computed.{In-range}
-use Rattle.g1_words.proofs.Members.{Contains-from_in, In, In-filter, In-flat_map, In-from_contains, filter_member}
+use Rattle.g1_words.proofs.Computed.{Contains-range}
+use Rattle.g1_words.proofs.Members.{Contains-filter, Contains-flat_map, filter_member}
 use Rattle.g1_words.proofs.OneToOne.{kept_cases, outside_stays, survivor_fits, survivor_in_set}
 use Rattle.g1_words.proofs.Shapes.{IsBuilt, built, valid_of}
 use Rattle.g1_words.proofs.Sound.{IsSound, sound}
@@ -54,7 +54,7 @@ one_image_after i set j k a b =
 -- there is an image after
 pub pause_exists : PauseExists
 pause_exists i set l valid a =
-    record { between = image_moved i set l; moved = made_is_moved i set l (built i.heap valid) a.ordinary a.survivors a.room; freed = refl }
+    record { between = image_moved i set l; moved = made_is_moved i set l (built i.heap valid) a; freed = refl }
 
 -- ---- the freed regions of the image between
 
@@ -64,8 +64,8 @@ module _ (i : Image) (set l : List ℕ) (b : Image) (valid : IsValid i.heap) (a 
   freed = unnamed_regions b.heap
 
   -- the image between keeps the rules
-  built_between : IsBuilt b.heap
-  built_between = valid_moved i set l b (built i.heap valid) a.ordinary a.survivors a.room m
+  pub built_between : IsBuilt b.heap
+  built_between = valid_moved i set l b (built i.heap valid) a m
 
   -- it is valid
   pub valid_between : IsValid b.heap
@@ -76,54 +76,53 @@ module _ (i : Image) (set l : List ℕ) (b : Image) (valid : IsValid i.heap) (a 
   same_in_set rs x = λ t. has rs (x / (m.geometry t).w)
 
   -- a region of the set is none of those freed after it
-  set_not_freed : (r : ℕ) → has set r ≡ true → has freed r ≡ false
+  pub set_not_freed : (r : ℕ) → has set r ≡ true → has freed r ≡ false
   set_not_freed r inset = false_from_ne_true (has freed r) (λ t.
       let lt = (region_unnamed b.heap built_between r t).0 in
       let n = ap (λ (g : Geometry). g.n) m.geometry in
-      unnamed_not_free b.heap built_between r t (set_shape i set l b (built i.heap valid) a.ordinary a.survivors a.room m r (omega arith) inset).0)
+      unnamed_not_free b.heap built_between r t (set_shape i set l b (built i.heap valid) a m r (omega arith) inset).0)
 
   -- nor is a region that a survivor went to
-  survivor_not_freed : (x : ℕ) → In l x → in_set b.heap freed (forward i.heap l x) ≡ false
+  survivor_not_freed : (x : ℕ) → Contains l x → in_set b.heap freed (forward i.heap l x) ≡ false
   survivor_not_freed x c = false_from_ne_true (in_set b.heap freed (forward i.heap l x)) (λ t.
       let s : IsSound i.heap = sound i.heap valid in
-      let pos = (survivor_fits i.heap set l s a.ordinary a.survivors a.room x c).0 in
-      let g = survivor_region i.heap set l s a.ordinary a.survivors a.room x 0 c pos in
+      let pos = (survivor_fits i.heap set l s a x c).0 in
+      let g = survivor_region i.heap set l s a x 0 c pos in
       let at : region_of i.heap (forward i.heap l x) ≡ get_or (free_regions i.heap) g.0 0 = ap (region_of i.heap) (sym (add-zero (forward i.heap l x))) ∙ g.2 in
       let same : region_of b.heap (forward i.heap l x) ≡ region_of i.heap (forward i.heap l x) = λ t. forward i.heap l x / (m.geometry t).w in
       unnamed_not_ordinary b.heap built_between (region_of b.heap (forward i.heap l x)) t
-      (ap (kind b.heap) (same ∙ at) ∙ goal_kind i set l b s a.ordinary a.survivors a.room m g.0 g.1))
+      (ap (kind b.heap) (same ∙ at) ∙ goal_kind i set l b s a m g.0 g.1))
 
   -- a kept object stands in a freed region exactly where it stood in one
-  freed_stays : (k : Object) → In (kept i.heap set l) k → in_set b.heap freed (forward i.heap l k.at) ≡ in_set i.heap freed k.at
+  freed_stays : (k : Object) → Contains (kept i.heap set l) k → in_set b.heap freed (forward i.heap l k.at) ≡ in_set i.heap freed k.at
   freed_stays k c =
       let s : IsSound i.heap = sound i.heap valid in
-      elim (kept_cases i.heap set l s a.ordinary a.survivors a.room k c) [
-        | inl x ↦ ap (in_set b.heap freed) (outside_stays i.heap set l s a.ordinary a.survivors a.room k.at x.0) ∙ same_in_set freed k.at
+      elim (kept_cases i.heap set l s a k c) [
+        | inl x ↦ ap (in_set b.heap freed) (outside_stays i.heap set l s a k.at x.0) ∙ same_in_set freed k.at
         | inr x ↦
             let at : x.0 ≡ k.at = ap (λ (o : Object). o.at) x.2 in
-            let old : in_set i.heap freed x.0 ≡ false = set_not_freed (region_of i.heap x.0) (survivor_in_set i.heap set l s a.ordinary a.survivors a.room x.0 x.1) in
+            let old : in_set i.heap freed x.0 ≡ false = set_not_freed (region_of i.heap x.0) (survivor_in_set i.heap set l s a x.0 x.1) in
             subst (λ y. in_set b.heap freed (forward i.heap l y) ≡ in_set i.heap freed y) at (survivor_not_freed x.0 x.1 ∙ sym old)
       ]
 
   -- an object that remains is a kept one that goes to no freed region
-  pub remaining_kept : (k : Object) → Contains (remaining i.heap set l freed) k → In (kept i.heap set l) k × (in_set b.heap freed (forward i.heap l k.at) ≡ false)
+  pub remaining_kept : (k : Object) → Contains (remaining i.heap set l freed) k → Contains (kept i.heap set l) k × (in_set b.heap freed (forward i.heap l k.at) ≡ false)
   remaining_kept k c =
-      let f = filter_member (λ (o : Object). not (in_set i.heap freed o.at)) (kept i.heap set l) k (In-from_contains (remaining i.heap set l freed) k c) in
+      let f = filter_member (λ (o : Object). not (in_set i.heap freed o.at)) (kept i.heap set l) k c in
       (f.0, freed_stays k f.0 ∙ not-true (in_set i.heap freed k.at) f.1)
 
   -- and such a one remains
-  pub kept_remains : (k : Object) → In (kept i.heap set l) k → in_set b.heap freed (forward i.heap l k.at) ≡ false → Contains (remaining i.heap set l freed) k
+  pub kept_remains : (k : Object) → Contains (kept i.heap set l) k → in_set b.heap freed (forward i.heap l k.at) ≡ false → Contains (remaining i.heap set l freed) k
   kept_remains k c out =
-      Contains-from_in (remaining i.heap set l freed) k (In-filter (λ (o : Object). not (in_set i.heap freed o.at)) (kept i.heap set l) k c (ap not (sym (freed_stays k c) ∙ out)))
+      Contains-filter (λ (o : Object). not (in_set i.heap freed o.at)) (kept i.heap set l) k c (ap not (sym (freed_stays k c) ∙ out))
 
   -- the words of an object that isn't freed stay
-  words_left : (k : Object) → In (kept i.heap set l) k → in_set b.heap freed (forward i.heap l k.at) ≡ false
+  words_left : (k : Object) → Contains (kept i.heap set l) k → in_set b.heap freed (forward i.heap l k.at) ≡ false
       → words_at (heap_left b.heap) (forward i.heap l k.at) k.size ≡ words_at b.heap (forward i.heap l k.at) k.size
   words_left k c out =
       let f : ℕ → ℕ = forward i.heap l in
       let s : IsSound i.heap = sound i.heap valid in
-      let there : Contains (objects b.heap) (moved_object f k) =
-      Contains-from_in (objects b.heap) (moved_object f k) (kept_is_moved i set l b s a.ordinary a.survivors a.room m k c) in
+      let there : Contains (objects b.heap) (moved_object f k) = kept_is_moved i set l b s a m k c in
       let size : length (words_at (heap_left b.heap) (f k.at) k.size) ≡ k.size = length-map-range_with_len (word (heap_left b.heap)) (f k.at) k.size in
       let size' : length (words_at b.heap (f k.at) k.size) ≡ k.size = length-map-range_with_len (word b.heap) (f k.at) k.size in
       ext_get_or 0 (words_at (heap_left b.heap) (f k.at) k.size) (words_at b.heap (f k.at) k.size) (size ∙ sym size')
@@ -144,14 +143,13 @@ module _ (i : Image) (set l : List ℕ) (b : Image) (valid : IsValid i.heap) (a 
   ref_not_into_set e c =
       let f : ℕ → ℕ = forward i.heap l in
       let v : IsBuilt i.heap = built i.heap valid in
-      let r = (refs_moved i set l b v a.ordinary a.survivors a.room m e).0 c in
-      let w = slot_word i set l b v a.ordinary a.survivors a.room m r.owner r.m r.target (In-from_contains (kept i.heap set l) r.owner r.is_kept) r.above r.within r.names in
+      let r = (refs_moved i set l b v a m e).0 c in
+      let w = slot_word i set l b v a m r.owner r.m r.target r.is_kept r.above r.within r.names in
       let above = r.above in let within = r.within in
-      no_slot_into_set i set l b (sound i.heap valid) a.ordinary a.survivors a.room m r.owner e.target r.is_kept
-      (Contains-from_in (flat_map (λ p. named (word b.heap p)) (range_with_len (f r.owner.at + 1) r.owner.refs)) e.target
-      (In-flat_map (λ p. named (word b.heap p)) (range_with_len (f r.owner.at + 1) r.owner.refs) (f r.owner.at + r.m) e.target
-      (In-range (f r.owner.at + 1) r.owner.refs (f r.owner.at + r.m) (omega arith) (omega arith))
-      (subst (λ x. In (named x) e.target) (sym w) (inl (sym r.target_at)))))
+      no_slot_into_set i set l b (sound i.heap valid) a m r.owner e.target r.is_kept
+      (Contains-flat_map (λ p. named (word b.heap p)) (range_with_len (f r.owner.at + 1) r.owner.refs) (f r.owner.at + r.m) e.target
+      (Contains-range (f r.owner.at + 1) r.owner.refs (f r.owner.at + r.m) (omega arith) (omega arith))
+      (subst (λ x. Contains (named x) e.target) (sym w) (zero, omega arith, sym r.target_at)))
 
 -- each object that remains is a copy
 pub copies_paused : CopiesPaused
@@ -159,7 +157,7 @@ copies_paused i set l j valid a p o c =
     let b : Image = p.between in
     let k = remaining_kept i set l b valid a p.moved o c in
     subst (λ (x : Image). IsCopy (forward i.heap l) i.heap x.heap o) (sym p.freed)
-    (words_left i set l b valid a p.moved o k.0 k.1 ∙ p.moved.copies o (Contains-from_in (kept i.heap set l) o k.0))
+    (words_left i set l b valid a p.moved o k.0 k.1 ∙ p.moved.copies o k.0)
 
 -- the objects after are exactly the kept ones that weren't freed, each where it was moved
 pub objects_paused : ObjectsPaused
@@ -167,23 +165,23 @@ objects_paused i set l j valid a p o =
     let b : Image = p.between in
     let f : ℕ → ℕ = forward i.heap l in
     let left = objects_left b.heap (valid_between i set l b valid a p.moved) o in
-    let moved = objects_moved i set l b (sound i.heap valid) a.ordinary a.survivors a.room p.moved o in
+    let moved = objects_moved i set l b (sound i.heap valid) a p.moved o in
     subst (λ (x : Image). Contains (objects x.heap) o ↔ ((k : Object) × Contains (remaining i.heap set l (unnamed_regions b.heap)) k × (o ≡ moved_object f k))) (sym p.freed) (
       (λ c.
           let u = left.0 c in
           let k = moved.0 u.0 in
           let at : o.at ≡ f k.0.at = ap (λ (x : Object). x.at) k.2 in
-          (k.0, kept_remains i set l b valid a p.moved k.0 (In-from_contains (kept i.heap set l) k.0 k.1) (ap (in_set b.heap (unnamed_regions b.heap)) (sym at) ∙ u.1), k.2)),
+          (k.0, kept_remains i set l b valid a p.moved k.0 k.1 (ap (in_set b.heap (unnamed_regions b.heap)) (sym at) ∙ u.1), k.2)),
       (λ k.
           let r = remaining_kept i set l b valid a p.moved k.0 k.1 in
           let at : o.at ≡ f k.0.at = ap (λ (x : Object). x.at) k.2 in
-          left.1 (moved.1 (k.0, Contains-from_in (kept i.heap set l) k.0 r.0, k.2), ap (in_set b.heap (unnamed_regions b.heap)) at ∙ r.1)),
+          left.1 (moved.1 (k.0, r.0, k.2), ap (in_set b.heap (unnamed_regions b.heap)) at ∙ r.1)),
     )
 
 -- the image after is tracked
 pub tracked_paused : TrackedPaused
 tracked_paused i set l j t a p =
-    subst IsTracked (sym p.freed) (tracked_left p.between (tracked_moved i set l p.between t a.ordinary a.survivors a.room p.moved) p.moved.log)
+    subst IsTracked (sym p.freed) (tracked_left p.between (tracked_moved i set l p.between t a p.moved) p.moved.log)
 
 -- whoever reads from the roots finds the same graph
 pub graph_stays : GraphStays
@@ -191,7 +189,7 @@ graph_stays i set l j valid a p =
     let b : Image = p.between in
     let s : IsSound i.heap = sound i.heap valid in
     subst (λ (x : Image). SameGraph i.heap x.heap) (sym p.freed)
-    (graphs_compose i.heap b.heap s (same_graph i set l b s a.ordinary a.survivors a.room p.moved) (heap_left b.heap) (graph_left b.heap (valid_between i set l b valid a p.moved)))
+    (graphs_compose i.heap b.heap s (same_graph i set l b s a p.moved) (heap_left b.heap) (graph_left b.heap (valid_between i set l b valid a p.moved)))
 
 -- nothing leads into the set or into what was freed
 pub nothing_into_freed : NothingIntoFreed
@@ -201,6 +199,6 @@ nothing_into_freed i set l j valid a p =
     let v : IsValid b.heap = valid_between i set l b valid a p.moved in
     let none = nothing_into_unnamed b.heap v in
     subst (λ (x : Image). ((y : ℕ) → Contains (root_targets x.heap) y → in_set i.heap rs y ≡ false) × ((e : Ref) → Contains (refs x.heap) e → in_set i.heap rs e.target ≡ false)) (sym p.freed) (
-      (λ y c. in_neither i set l b valid a p.moved y (no_root_into_set i set l b (sound i.heap valid) a.ordinary a.survivors a.room p.moved y c) (none.0 y c)),
+      (λ y c. in_neither i set l b valid a p.moved y (no_root_into_set i set l b (sound i.heap valid) a p.moved y c) (none.0 y c)),
       (λ e c. in_neither i set l b valid a p.moved e.target (ref_not_into_set i set l b valid a p.moved e ((refs_left b.heap v e).0 c).0) (none.1 e c)),
     )

@@ -1,14 +1,14 @@
 -- A reference is a slot of an object that names another, and each such slot is a reference.
-use Rattle.std.proofs.Common.{◌≡◌, ℕ, suc, ◌+◌, ◌-◌, ◌<◌, ◌≤◌, inl, true, false, ◌&&◌, not, flat_map, refl, sym, ◌∙◌, ap, subst, arith, eqb, eqb-true}
+use Rattle.std.proofs.Common.{◌≡◌, ℕ, suc, ◌+◌, ◌-◌, ◌<◌, ◌≤◌, true, false, ◌&&◌, not, flat_map, refl, sym, ◌∙◌, ap, subst, arith, eqb, eqb-true, Contains, zero}
 use Rattle.std.proofs.lemmas.Bool.{and_parts, not-true}
-use Rattle.g1_after.proofs.RulesMoved.{named_suc}
 use Rattle.g1_image.specs.Cards.{leads_into}
 use Rattle.g1_image.specs.Image.{region_of_card}
 use Rattle.g1_words.proofs.Bounds.{card_in_region, cards_in_region}
-use Rattle.g1_words.proofs.Computed.{In-range}
+use Rattle.g1_words.proofs.Computed.{Contains-range}
 use Rattle.g1_words.proofs.Indices.{range_bounds}
-use Rattle.g1_words.proofs.Members.{In, In-flat_map, In-map, flat_map_cases, map_cases}
+use Rattle.g1_words.proofs.Members.{Contains-flat_map, Contains-map, flat_map_cases, map_cases}
 use Rattle.g1_words.proofs.Shapes.{IsBuilt}
+use Rattle.g1_words.proofs.Sound.{named_suc}
 use Rattle.g1_words.proofs.Standing.{card_positive}
 use Rattle.g1_words.specs.Heap.{Heap, card_of, objects, region_of, slots, word}
 use Rattle.g1_words.specs.References.{Ref, named, refs, refs_at}
@@ -17,7 +17,7 @@ use Rattle.g1_words.specs.declared.object.Object.{Object}
 -- the reference is slot number m of one of the heap's objects
 pub record SlotOf (h : Heap) (e : Ref) : Type 0 where
   pub owner : Object
-  pub is_one : In (objects h) owner
+  pub is_one : Contains (objects h) owner
   pub m : ℕ
   pub above : 0 < m
   pub within : m ≤ owner.refs
@@ -25,7 +25,7 @@ pub record SlotOf (h : Heap) (e : Ref) : Type 0 where
   pub names : word h e.slot ≡ suc e.target
 
 -- whose slot a reference is
-pub slot_of : (h : Heap) (e : Ref) → In (refs h) e → SlotOf h e
+pub slot_of : (h : Heap) (e : Ref) → Contains (refs h) e → SlotOf h e
 slot_of h e c =
     let o = flat_map_cases (λ o. flat_map (refs_at h) (slots o)) (objects h) e c in
     let p = flat_map_cases (refs_at h) (slots o.0) e o.2 in
@@ -44,12 +44,12 @@ slot_of h e c =
     }
 
 -- a slot of an object that names an address is a reference
-pub ref_of : (h : Heap) (e : Ref) → SlotOf h e → In (refs h) e
+pub ref_of : (h : Heap) (e : Ref) → SlotOf h e → Contains (refs h) e
 ref_of h e s =
     let a = s.above in let b = s.within in let at = s.at in
-    let k : In (refs_at h e.slot) e = In-map (λ a. record { slot = e.slot; target = a }) (named (word h e.slot)) e.target (subst (λ x. In (named x) e.target) (sym s.names) (inl refl)) in
-    In-flat_map (λ o. flat_map (refs_at h) (slots o)) (objects h) s.owner e s.is_one
-    (In-flat_map (refs_at h) (slots s.owner) e.slot e (In-range (s.owner.at + 1) s.owner.refs e.slot (omega arith) (omega arith)) k)
+    let k : Contains (refs_at h e.slot) e = Contains-map (λ a. record { slot = e.slot; target = a }) (named (word h e.slot)) e.target (subst (λ x. Contains (named x) e.target) (sym s.names) (zero, omega arith, refl)) in
+    Contains-flat_map (λ o. flat_map (refs_at h) (slots o)) (objects h) s.owner e s.is_one
+    (Contains-flat_map (refs_at h) (slots s.owner) e.slot e (Contains-range (s.owner.at + 1) s.owner.refs e.slot (omega arith) (omega arith)) k)
 
 -- a slot's card lies in the slot's region
 pub region_of_slot : (h : Heap) → IsBuilt h → (p : ℕ) → region_of_card h (card_of h p) ≡ region_of h p

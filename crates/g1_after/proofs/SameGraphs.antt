@@ -1,122 +1,102 @@
 -- After a pause the roots read the same graph, and nothing leads into the set.
-use Rattle.std.proofs.Common.{◌≡◌, ℕ, zero, suc, ◌+◌, ◌-◌, ◌<◌, ◌≤◌, ◌⊎◌, inl, inr, Bool, true, false, not, ◌&&◌, List, [], ◌∷◌, ◌++◌, length, get_or, map, filter, flat_map, Contains, refl}
+use Rattle.std.proofs.Common.{◌≡◌, ℕ, zero, suc, ◌+◌, ◌-◌, ◌<◌, inl, inr, true, false, not, ◌&&◌, List, [], ◌∷◌, ◌++◌, length, get_or, map, filter, flat_map, Contains, refl}
 use Rattle.std.proofs.Common.{sym, ◌∙◌, ap, subst, arith, add-zero}
 use Rattle.std.specs.List.{range_with_len}
-use Rattle.std.proofs.lemmas.Bool.{cases_Bool, false≢true}
+use Rattle.std.proofs.lemmas.Bool.{and_from, cases_Bool, false≢true}
 use Rattle.std.proofs.lemmas.List.{map-append, length-map, get_or-map, get_or_append_left}
 use Rattle.std.proofs.lemmas.List.FromFn.{get_or-map-range_with_len, length-map-range_with_len}
+use Rattle.std.proofs.lemmas.List.Elements.{Contains-append_left, Contains-append_right}
 use Rattle.g1_words.specs.declared.region.Kind.TheVariants.{Free, Ordinary}
 use Rattle.g1_words.specs.Lists.{has}
 use Rattle.g1_words.specs.Heap.{Heap, kind, region_of, objects, object_at, slots, word}
 use Rattle.g1_words.specs.References.{Ref, refs, refs_at, named, root_targets, targets}
 use Rattle.g1_words.specs.Live.{Reached, seed, child, Live}
-use Rattle.g1_words.specs.Survivors.{in_set, seeds, children, Survivors, AllOrdinary}
-use Rattle.g1_words.specs.Layout.{need, free_regions, forward, kept}
+use Rattle.g1_words.specs.Survivors.{in_set, seeds, children}
+use Rattle.g1_words.specs.Layout.{forward, kept, HasRoom}
 use Rattle.g1_words.specs.Moves.{moved_object}
 use Rattle.g1_image.specs.Image.{Image}
 use Rattle.g1_words.specs.Copy.{renamed, words_at, renamed_words, IsCopy}
 use Rattle.g1_after.specs.Moved.{IsMoved}
 use Rattle.g1_words.specs.Graph.{SameGraph}
 use Rattle.g1_words.proofs.Sound.{IsSound}
-use Rattle.g1_words.proofs.Members.{In, In-from_contains, Contains-from_in, In-append_left, In-append_right, In-append_cases, In-flat_map, flat_map_cases, In-map, map_cases, In-filter}
-use Rattle.g1_words.proofs.Members.{filter_member, in_from_has}
-use Rattle.g1_words.proofs.OneToOne.{target_in_refs, kept_object, forward_one_to_one, survivor_to_free, outside_stays}
+use Rattle.g1_words.proofs.Members.{Contains-flat_map, flat_map_cases, Contains-map, map_cases, Contains-filter, Contains-from_has}
+use Rattle.g1_words.proofs.OneToOne.{target_in_refs, kept_cases, kept_object, forward_one_to_one, survivor_to_free, outside_stays}
 use Rattle.g1_after.proofs.Determined.{word_from_copy}
 use Rattle.g1_after.proofs.ToSpace.{object_copied}
-use Rattle.g1_after.proofs.ObjectsOf.{kept_is_object, kept_is_moved}
+use Rattle.g1_after.proofs.ObjectsOf.{kept_is_moved}
 use Rattle.g1_words.specs.declared.object.Object.{Object}
 
-module _ (h : Heap) (set l : List ℕ) (sound : IsSound h) (ordinary : AllOrdinary h set) (survivors : Survivors h set l) where
-  live_object : (a : ℕ) → Live h a → Contains (objects h) (object_at h a)
-  live_object a (seed c) = sound.root_named a c
-  live_object b (child {a = a} r c) =
-      let e = target_in_refs h set (object_at h a) b (In-from_contains (objects h) (object_at h a) (live_object a r)) (In-from_contains (targets h a) b c) in
-      subst (λ x. Contains (objects h) (object_at h x)) e.2 (sound.slot_named e.0 (Contains-from_in (refs h) e.0 e.1))
+-- what the roots reach is an object
+pub live_object : (h : Heap) → IsSound h → (a : ℕ) → Live h a → Contains (objects h) (object_at h a)
+live_object h sound a (seed c) = sound.root_named a c
+live_object h sound b (child {a = a} r c) =
+    let e = target_in_refs h [] (object_at h a) b (live_object h sound a r) c in
+    subst (λ x. Contains (objects h) (object_at h x)) e.2 (sound.slot_named e.0 e.1)
 
+module _ (h : Heap) (set l : List ℕ) (sound : IsSound h) (room : HasRoom h set l) where
   -- what an object outside the set names in the set is a seed
-  named_from_outside : (o : Object) (b : ℕ) → Contains (objects h) o → in_set h set o.at ≡ false → In (flat_map (λ p. named (word h p)) (slots o)) b → in_set h set b ≡ true → Contains (seeds h set) b
+  pub named_from_outside : (o : Object) (b : ℕ) → Contains (objects h) o → in_set h set o.at ≡ false → Contains (flat_map (λ p. named (word h p)) (slots o)) b → in_set h set b ≡ true → Contains (seeds h set) b
   named_from_outside o b co out hb inb =
       let p = flat_map_cases (λ p. named (word h p)) (slots o) b hb in
       let e : Ref = record { slot = p.0; target = b } in
-      let here : In (refs_at h p.0) e = In-map (λ a. record { slot = p.0; target = a }) (named (word h p.0)) b p.2 in
-      let er : In (refs h) e = In-flat_map (λ o. flat_map (refs_at h) (slots o)) (objects h) o e (In-from_contains (objects h) o co) (In-flat_map (refs_at h) (slots o) p.0 e p.1 here) in
+      let here : Contains (refs_at h p.0) e = Contains-map (λ a. record { slot = p.0; target = a }) (named (word h p.0)) b p.2 in
+      let er : Contains (refs h) e = Contains-flat_map (λ o. flat_map (refs_at h) (slots o)) (objects h) o e co (Contains-flat_map (refs_at h) (slots o) p.0 e p.1 here) in
       let away : in_set h set p.0 ≡ false = elim (cases_Bool (in_set h set p.0)) [
         | inr f ↦ f
         | inl t ↦
-            let k : kind h (region_of h p.0) ≡ Ordinary = ordinary (region_of h p.0) (Contains-from_in set (region_of h p.0) (in_from_has set (region_of h p.0) t)) in
-            let home : region_of h p.0 ≡ region_of h o.at = sound.slots_at_home o p.0 co (Contains-from_in (slots o) p.0 p.1) k in
-            absurd (false≢true (sym out ∙ ap (λ r. in_set_of r) (sym home) ∙ t))
+            let k : kind h (region_of h p.0) ≡ Ordinary = room.ordinary (region_of h p.0) (Contains-from_has set (region_of h p.0) t) in
+            let home : region_of h p.0 ≡ region_of h o.at = sound.slots_at_home o p.0 co p.1 k in
+            absurd (false≢true (sym out ∙ ap (has set) (sym home) ∙ t))
       ] in
-      let passes : (in_set h set b && not (in_set h set p.0)) ≡ true = both (in_set h set b) (in_set h set p.0) inb away in
-      Contains-from_in (seeds h set) b
-      (In-append_right (filter (in_set h set) (root_targets h)) (map (λ e. e.target) (filter (λ e. in_set h set e.target && not (in_set h set e.slot)) (refs h))) b
-      (In-map (λ (e : Ref). e.target) (filter (λ e. in_set h set e.target && not (in_set h set e.slot)) (refs h)) e
-      (In-filter (λ (e : Ref). in_set h set e.target && not (in_set h set e.slot)) (refs h) e er passes)))
-    where
-      in_set_of : ℕ → Bool
-      in_set_of r = has set r
-
-      both : (x y : Bool) → x ≡ true → y ≡ false → (x && not y) ≡ true
-      both true false e f = refl
-      both true true e f = cc
-      both false y e f = cc
+      let passes : (in_set h set b && not (in_set h set p.0)) ≡ true = and_from (in_set h set b) (not (in_set h set p.0)) inb (ap not away) in
+      Contains-append_right (filter (in_set h set) (root_targets h)) (map (λ e. e.target) (filter (λ e. in_set h set e.target && not (in_set h set e.slot)) (refs h))) b
+      (Contains-map (λ (e : Ref). e.target) (filter (λ e. in_set h set e.target && not (in_set h set e.slot)) (refs h)) e
+      (Contains-filter (λ (e : Ref). in_set h set e.target && not (in_set h set e.slot)) (refs h) e er passes))
 
   -- what the roots reach in the set is found
   pub live_found : (a : ℕ) → Live h a → in_set h set a ≡ true → Reached (seeds h set) (children h set) a
   live_found a (seed c) t =
-      seed (Contains-from_in (seeds h set) a (In-append_left (filter (in_set h set) (root_targets h))
+      seed (Contains-append_left (filter (in_set h set) (root_targets h))
       (map (λ e. e.target) (filter (λ e. in_set h set e.target && not (in_set h set e.slot)) (refs h))) a
-      (In-filter (in_set h set) (root_targets h) a (In-from_contains (root_targets h) a c) t)))
+      (Contains-filter (in_set h set) (root_targets h) a c t))
   live_found b (child {a = a} r c) t =
       elim (cases_Bool (in_set h set a)) [
-        | inl ina ↦ child (live_found a r ina) (Contains-from_in (children h set a) b (In-filter (in_set h set) (targets h a) b (In-from_contains (targets h a) b c) t))
-        | inr out ↦ seed (named_from_outside (object_at h a) b (live_object a r) out (In-from_contains (targets h a) b c) t)
+        | inl ina ↦ child (live_found a r ina) (Contains-filter (in_set h set) (targets h a) b c t)
+        | inr out ↦ seed (named_from_outside (object_at h a) b (live_object h sound a r) out c t)
       ]
 
   pub live_kept : (a : ℕ) → Live h a → Contains (kept h set l) (object_at h a)
   live_kept a r =
-      Contains-from_in (kept h set l) (object_at h a) (elim (cases_Bool (in_set h set a)) [
-        | inl t ↦ In-append_right (filter (λ o. not (in_set h set o.at)) (objects h)) (map (object_at h) l) (object_at h a)
-            (In-map (object_at h) l a (In-from_contains l a ((survivors.reached a).1 (live_found a r t))))
-        | inr f ↦ In-append_left (filter (λ o. not (in_set h set o.at)) (objects h)) (map (object_at h) l) (object_at h a)
-            (In-filter (λ (o : Object). not (in_set h set o.at)) (objects h) (object_at h a) (In-from_contains (objects h) (object_at h a) (live_object a r)) (ap not f))
-      ])
+      elim (cases_Bool (in_set h set a)) [
+        | inl t ↦ Contains-append_right (filter (λ o. not (in_set h set o.at)) (objects h)) (map (object_at h) l) (object_at h a)
+            (Contains-map (object_at h) l a ((room.survivors.reached a).1 (live_found a r t)))
+        | inr f ↦ Contains-append_left (filter (λ o. not (in_set h set o.at)) (objects h)) (map (object_at h) l) (object_at h a)
+            (Contains-filter (λ (o : Object). not (in_set h set o.at)) (objects h) (object_at h a) (live_object h sound a r) (ap not f))
+      ]
 
   -- what a kept object names in the set is a survivor
-  pub named_survives : (o : Object) (b : ℕ) → In (kept h set l) o → In (flat_map (λ p. named (word h p)) (slots o)) b → in_set h set b ≡ true → In l b
+  pub named_survives : (o : Object) (b : ℕ) → Contains (kept h set l) o → Contains (flat_map (λ p. named (word h p)) (slots o)) b → in_set h set b ≡ true → Contains l b
   named_survives o b k hb t =
-      In-from_contains l b ((survivors.reached b).1 (elim (kept_cases_of o k) [
-        | inl x ↦ seed (named_from_outside o b (Contains-from_in (objects h) o x.1) x.0 hb t)
-        | inr x ↦ child ((survivors.reached x.0).0 (Contains-from_in l x.0 x.1))
-            (Contains-from_in (children h set x.0) b (In-filter (in_set h set) (targets h x.0) b (subst (λ (z : Object). In (flat_map (λ p. named (word h p)) (slots z)) b) (sym x.2) hb) t))
-      ]))
-    where
-      not_true : (b : Bool) → not b ≡ true → b ≡ false
-      not_true true e = cc
-      not_true false e = refl
+      (room.survivors.reached b).1 (elim (kept_cases h set l sound room o k) [
+        | inl x ↦ seed (named_from_outside o b x.1 x.0 hb t)
+        | inr x ↦ child ((room.survivors.reached x.0).0 x.1)
+            (Contains-filter (in_set h set) (targets h x.0) b (subst (λ (z : Object). Contains (flat_map (λ p. named (word h p)) (slots z)) b) (sym x.2) hb) t)
+      ])
 
-      kept_cases_of : (o : Object) → In (kept h set l) o → ((in_set h set o.at ≡ false) × In (objects h) o) ⊎ ((a : ℕ) × In l a × (object_at h a ≡ o))
-      kept_cases_of o k =
-          elim (In-append_cases (filter (λ o. not (in_set h set o.at)) (objects h)) (map (object_at h) l) o k) [
-            | inl m ↦ let f = filter_member (λ (o : Object). not (in_set h set o.at)) (objects h) o m in inl (not_true (in_set h set o.at) f.1, f.0)
-            | inr m ↦ inr (map_cases (object_at h) l o m)
-          ]
-
-  module _ (room : need h l ≤ length (free_regions h)) where
-    -- a new address is none in the set
-    pub away_from_set : (b : ℕ) → (in_set h set b ≡ true → In l b) → in_set h set (forward h l b) ≡ false
-    away_from_set b f =
-        elim (cases_Bool (in_set h set b)) [
-          | inr out ↦ ap (in_set h set) (outside_stays h set l sound ordinary survivors room b out) ∙ out
-          | inl t ↦ elim (cases_Bool (in_set h set (forward h l b))) [
-            | inr out ↦ out
-            | inl u ↦
-                let one : kind h (region_of h (forward h l b)) ≡ Ordinary = ordinary (region_of h (forward h l b))
-                (Contains-from_in set (region_of h (forward h l b)) (in_from_has set (region_of h (forward h l b)) u)) in
-                let none : kind h (region_of h (forward h l b)) ≡ Free = survivor_to_free h set l sound ordinary survivors room b (f t) in
-                let clash : Ordinary ≡ Free = sym one ∙ none in cc
-          ]
+  -- a new address is none in the set
+  pub away_from_set : (b : ℕ) → (in_set h set b ≡ true → Contains l b) → in_set h set (forward h l b) ≡ false
+  away_from_set b f =
+      elim (cases_Bool (in_set h set b)) [
+        | inr out ↦ ap (in_set h set) (outside_stays h set l sound room b out) ∙ out
+        | inl t ↦ elim (cases_Bool (in_set h set (forward h l b))) [
+          | inr out ↦ out
+          | inl u ↦
+              let one : kind h (region_of h (forward h l b)) ≡ Ordinary = room.ordinary (region_of h (forward h l b))
+              (Contains-from_has set (region_of h (forward h l b)) u) in
+              let none : kind h (region_of h (forward h l b)) ≡ Free = survivor_to_free h set l sound room b (f t) in
+              let clash : Ordinary ≡ Free = sym one ∙ none in cc
         ]
+      ]
 
 -- ---- what the slots of a moved object name
 
@@ -157,46 +137,44 @@ pub roots_renamed : (f : ℕ → ℕ) (xs : List ℕ) → flat_map named (map (r
 roots_renamed f [] = refl
 roots_renamed f (x ∷ xs) = (λ t. named_renamed f x t ++ roots_renamed f xs t) ∙ sym (map-append f (named x) (flat_map named xs))
 
-module _ (i : Image) (set l : List ℕ) (j : Image) (sound : IsSound i.heap) (ordinary : AllOrdinary i.heap set) (survivors : Survivors i.heap set l)
-    (room : need i.heap l ≤ length (free_regions i.heap)) (moved : IsMoved i set l j) where
+module _ (i : Image) (set l : List ℕ) (j : Image) (sound : IsSound i.heap) (room : HasRoom i.heap set l) (moved : IsMoved i set l j) where
   pub no_root_into_set : (b : ℕ) → Contains (root_targets j.heap) b → in_set i.heap set b ≡ false
   no_root_into_set b c =
       let f : ℕ → ℕ = forward i.heap l in
       let e : root_targets j.heap ≡ map f (root_targets i.heap) = ap (flat_map named) moved.roots ∙ roots_renamed f i.heap.roots in
-      let m = map_cases f (root_targets i.heap) b (subst (λ xs. In xs b) e (In-from_contains (root_targets j.heap) b c)) in
-      let away : in_set i.heap set (f m.0) ≡ false = away_from_set i.heap set l sound ordinary survivors room m.0
-      (λ t. In-from_contains l m.0 ((survivors.reached m.0).1 (live_found i.heap set l sound ordinary survivors m.0 (seed (Contains-from_in (root_targets i.heap) m.0 m.1)) t))) in
+      let m = map_cases f (root_targets i.heap) b (subst (λ xs. Contains xs b) e c) in
+      let away : in_set i.heap set (f m.0) ≡ false = away_from_set i.heap set l sound room m.0
+      (λ t. (room.survivors.reached m.0).1 (live_found i.heap set l sound room m.0 (seed m.1) t)) in
       subst (λ x. in_set i.heap set x ≡ false) m.2 away
 
   pub no_slot_into_set : (o : Object) (b : ℕ) → Contains (kept i.heap set l) o
       → Contains (flat_map (λ p. named (word j.heap p)) (range_with_len (forward i.heap l o.at + 1) o.refs)) b → in_set i.heap set b ≡ false
   no_slot_into_set o b co c =
-      let fits : o.refs < o.size = sound.slots_fit o (kept_object i.heap set l sound ordinary survivors room o (In-from_contains (kept i.heap set l) o co)) in
+      let fits : o.refs < o.size = sound.slots_fit o (kept_object i.heap set l sound room o co) in
       let f : ℕ → ℕ = forward i.heap l in
       let e = copy_targets f i.heap j.heap o (moved.copies o co) fits in
-      let m = map_cases f (flat_map (λ p. named (word i.heap p)) (slots o)) b
-      (subst (λ xs. In xs b) e (In-from_contains (flat_map (λ p. named (word j.heap p)) (range_with_len (f o.at + 1) o.refs)) b c)) in
-      let away : in_set i.heap set (f m.0) ≡ false = away_from_set i.heap set l sound ordinary survivors room m.0
-      (λ t. named_survives i.heap set l sound ordinary survivors o m.0 (In-from_contains (kept i.heap set l) o co) m.1 t) in
+      let m = map_cases f (flat_map (λ p. named (word i.heap p)) (slots o)) b (subst (λ xs. Contains xs b) e c) in
+      let away : in_set i.heap set (f m.0) ≡ false = away_from_set i.heap set l sound room m.0
+      (λ t. named_survives i.heap set l sound room o m.0 co m.1 t) in
       subst (λ x. in_set i.heap set x ≡ false) m.2 away
 
   -- what the roots reach stands where it was moved
   live_stands : (a : ℕ) → Live i.heap a → Contains (objects j.heap) (object_at j.heap (forward i.heap l a))
   live_stands a r =
-      let k : In (kept i.heap set l) (object_at i.heap a) = In-from_contains (kept i.heap set l) (object_at i.heap a) (live_kept i.heap set l sound ordinary survivors a r) in
+      let k : Contains (kept i.heap set l) (object_at i.heap a) = live_kept i.heap set l sound room a r in
       let e : object_at j.heap (forward i.heap l a) ≡ moved_object (forward i.heap l) (object_at i.heap a) =
-      object_copied i set l j sound ordinary survivors room moved (object_at i.heap a) k (kept_is_object i.heap set l sound ordinary survivors room (object_at i.heap a) k) refl in
+      object_copied i set l j sound room moved (object_at i.heap a) k (kept_object i.heap set l sound room (object_at i.heap a) k) refl in
       let there : Contains (objects j.heap) (moved_object (forward i.heap l) (object_at i.heap a)) =
-      Contains-from_in (objects j.heap) (moved_object (forward i.heap l) (object_at i.heap a)) (kept_is_moved i set l j sound ordinary survivors room moved (object_at i.heap a) k) in
+      kept_is_moved i set l j sound room moved (object_at i.heap a) k in
       subst (λ (o : Object). Contains (objects j.heap) o) (sym e) there
 
   -- the graph read from the roots is the same
   pub same_graph : SameGraph i.heap j.heap
   same_graph = record {
     rename = forward i.heap l;
-    one_to_one = λ a b ra rb q. forward_one_to_one i.heap set l sound ordinary survivors room (object_at i.heap a) (object_at i.heap b)
-        (live_kept i.heap set l sound ordinary survivors a ra) (live_kept i.heap set l sound ordinary survivors b rb) q;
+    one_to_one = λ a b ra rb q. forward_one_to_one i.heap set l sound room (object_at i.heap a) (object_at i.heap b)
+        (live_kept i.heap set l sound room a ra) (live_kept i.heap set l sound room b rb) q;
     roots = moved.roots;
     stands = live_stands;
-    copies = λ a r. moved.copies (object_at i.heap a) (live_kept i.heap set l sound ordinary survivors a r);
+    copies = λ a r. moved.copies (object_at i.heap a) (live_kept i.heap set l sound room a r);
   }

@@ -4,14 +4,15 @@ use Rattle.std.proofs.Common.{fold, max, Contains, refl, sym, ◌∙◌, ap, sub
 use Rattle.std.proofs.Common.{flat_map}
 use Rattle.std.proofs.lemmas.Bool.{cases_lt, false≢true}
 use Rattle.std.proofs.Math.Nat.{mul-le-mul_right, div-mul-le_self}
+use Rattle.std.proofs.lemmas.List.Elements.{Contains-append_right, Contains-get_or}
 use Rattle.g1_after.proofs.Determined.{word_from_copy}
 use Rattle.g1_after.proofs.ObjectsMoved.{region_moved}
 use Rattle.g1_words.specs.Copy.{renamed_words}
 use Rattle.g1_image.specs.Image.{Image}
 use Rattle.g1_after.specs.Moved.{IsMoved}
 use Rattle.g1_words.proofs.Firsts.{Distinct, Distinct-firsts}
-use Rattle.g1_words.proofs.Indices.{In-take, get_or-In, is_free_region, not_has}
-use Rattle.g1_words.proofs.Members.{Contains-from_in, In, In-append_right, In-map, filter_member, has_from_in, map_cases}
+use Rattle.g1_words.proofs.Indices.{Contains-take, is_free_region, not_has}
+use Rattle.g1_words.proofs.Members.{Contains-later, Contains-map, filter_member, has_from_contains, map_cases, none_contains}
 use Rattle.g1_words.proofs.NextFit.{Fitting, distinct_places, free_distinct, region_below, region_of_row, spot_below, spot_fits}
 use Rattle.g1_words.proofs.OneToOne.{all_fit, reached_object}
 use Rattle.g1_words.proofs.RowRegions.{offset_of, placed_in, placed_is_laid}
@@ -20,10 +21,10 @@ use Rattle.g1_words.proofs.Shapes.{IsPlain, IsTiled}
 use Rattle.g1_words.proofs.Sound.{IsSound}
 use Rattle.g1_words.specs.Geometry.{Geometry}
 use Rattle.g1_words.specs.Heap.{Heap, kind, object_at, objects, objects_by, objects_in, region, region_with, tiles, top, word}
-use Rattle.g1_words.specs.Layout.{end_in, forward, free_regions, kept, laid, laid_end, moved_to, need, next_fit, row_address, sizes_of, to_space}
+use Rattle.g1_words.specs.Layout.{end_in, forward, free_regions, kept, laid, laid_end, moved_to, need, next_fit, row_address, sizes_of, to_space, HasRoom}
 use Rattle.g1_words.specs.Lists.{has}
 use Rattle.g1_words.specs.Moves.{moved_object, placed_there}
-use Rattle.g1_words.specs.Survivors.{AllOrdinary, Survivors, in_set, children, seeds}
+use Rattle.g1_words.specs.Survivors.{in_set, children, seeds}
 use Rattle.g1_words.specs.declared.object.Object.{Object}
 use Rattle.g1_words.specs.declared.region.Kind.TheVariants.{Free, Ordinary}
 use Rattle.g1_words.specs.declared.region.Region.{Region}
@@ -36,13 +37,13 @@ chain_fold o (x ∷ xs) end c =
     let m : max o (x.0 + x.1) ≡ o + x.1 = omega (arith, c.0) in
     ap (λ y. fold (λ m x. max m x) y (map (λ x. x.0 + x.1) xs)) m ∙ chain_fold (o + x.1) xs end c.1
 
-pub chain_count : (o : ℕ) (xs : List (ℕ × ℕ)) (end : ℕ) → Chain o xs end → ((x : ℕ × ℕ) → In xs x → 0 < x.1) → o + length xs ≤ end
+pub chain_count : (o : ℕ) (xs : List (ℕ × ℕ)) (end : ℕ) → Chain o xs end → ((x : ℕ × ℕ) → Contains xs x → 0 < x.1) → o + length xs ≤ end
 chain_count o [] end c f = omega arith
-chain_count o (x ∷ xs) end c f = let a = f x (inl refl) in let b = chain_count (o + x.1) xs end c.1 (λ y k. f y (inr k)) in omega arith
+chain_count o (x ∷ xs) end c f = let a = f x (zero, omega arith, refl) in let b = chain_count (o + x.1) xs end c.1 (λ y k. f y (suc k.0, omega (arith, k.1), k.2)) in omega arith
 
-pub chain_top : (w o : ℕ) (xs : List (ℕ × ℕ)) (end : ℕ) → o ≤ w → Chain o xs end → ((x : ℕ × ℕ) → In xs x → x.0 + x.1 ≤ w) → end ≤ w
+pub chain_top : (w o : ℕ) (xs : List (ℕ × ℕ)) (end : ℕ) → o ≤ w → Chain o xs end → ((x : ℕ × ℕ) → Contains xs x → x.0 + x.1 ≤ w) → end ≤ w
 chain_top w o [] end le c f = omega arith
-chain_top w o (x ∷ xs) end le c f = let a = f x (inl refl) in let e = c.0 in chain_top w (o + x.1) xs end (omega arith) c.1 (λ y k. f y (inr k))
+chain_top w o (x ∷ xs) end le c f = let a = f x (zero, omega arith, refl) in let e = c.0 in chain_top w (o + x.1) xs end (omega arith) c.1 (λ y k. f y (suc k.0, omega (arith, k.1), k.2))
 
 module _ (w : ℕ) (pos : 0 < w) where
   -- the objects that the whole row lays into a region are a chain from its start
@@ -60,9 +61,9 @@ Paired h j f (a ∷ as') [] = ⊥
 Paired h j f (a ∷ as') (p ∷ ps) = (f a ≡ row_address h p) × (p / h.geometry.w < length (free_regions h)) × (object_at j (f a) ≡ moved_object f (object_at h a)) × Paired h j f as' ps
 
 module _ (h j : Heap) (pos : 0 < h.geometry.w) (f : ℕ → ℕ) where
-  pub paired : (l : List ℕ) (from : ℕ) → Distinct l → ((a : ℕ) → In l a → f a ≡ moved_to l (map (row_address h) (laid h.geometry.w from (sizes_of h l))) a)
-      → ((a : ℕ) → In l a → object_at j (f a) ≡ moved_object f (object_at h a))
-      → ((x : ℕ × ℕ) → In (zip (laid h.geometry.w from (sizes_of h l)) (sizes_of h l)) x → x.0 / h.geometry.w < length (free_regions h))
+  pub paired : (l : List ℕ) (from : ℕ) → Distinct l → ((a : ℕ) → Contains l a → f a ≡ moved_to l (map (row_address h) (laid h.geometry.w from (sizes_of h l))) a)
+      → ((a : ℕ) → Contains l a → object_at j (f a) ≡ moved_object f (object_at h a))
+      → ((x : ℕ × ℕ) → Contains (zip (laid h.geometry.w from (sizes_of h l)) (sizes_of h l)) x → x.0 / h.geometry.w < length (free_regions h))
       → Paired h j f l (laid h.geometry.w from (sizes_of h l))
   paired [] from d e o b = tt
   paired (a ∷ l) from d e o b =
@@ -70,12 +71,12 @@ module _ (h j : Heap) (pos : 0 < h.geometry.w) (f : ℕ → ℕ) where
       let p : ℕ = next_fit h.geometry.w from s in
       let q : eqb a a ≡ true = eq-eqb a a refl in
       let ps : List ℕ = map (row_address h) (laid h.geometry.w (p + s) (sizes_of h l)) in (
-        e a (inl refl) ∙ (λ t. cond (q t) (row_address h p) (moved_to l ps a)),
-        b (p, s) (inl refl),
-        o a (inl refl),
+        e a (zero, omega arith, refl) ∙ (λ t. cond (q t) (row_address h p) (moved_to l ps a)),
+        b (p, s) (zero, omega arith, refl),
+        o a (zero, omega arith, refl),
         paired l (p + s) d.1
-            (λ c k. let n : eqb a c ≡ false = ne_eqb a c (λ g. d.0 (subst (λ x. In l x) (sym g) k)) in e c (inr k) ∙ (λ t. cond (n t) (row_address h p) (moved_to l ps c)))
-            (λ c k. o c (inr k)) (λ x k. b x (inr k)),
+            (λ c k. let n : eqb a c ≡ false = ne_eqb a c (λ g. d.0 (subst (λ x. Contains l x) (sym g) k)) in e c (Contains-later a l c k) ∙ (λ t. cond (n t) (row_address h p) (moved_to l ps c)))
+            (λ c k. o c (suc k.0, omega (arith, k.1), k.2)) (λ x k. b x (suc k.0, omega (arith, k.1), k.2)),
       )
 
   module _ (t : ℕ) (here : t < length (free_regions h)) where
@@ -143,18 +144,18 @@ module _ (h j : Heap) (pos : 0 < h.geometry.w) (f : ℕ → ℕ) where
         ∙ ends_at p (object_at h a).size (filter (λ x. eqb (x.0 / h.geometry.w) t) (zip ps (sizes_of h l))) G (eqb (p / h.geometry.w) t) refl (ends l ps k.3)
 
     headers_at : (a p : ℕ) (F : List (ℕ × ℕ)) (b : Bool) → eqb (p / h.geometry.w) t ≡ b → f a ≡ row_address h p → object_at j (f a) ≡ moved_object f (object_at h a)
-        → ((x : ℕ × ℕ) → In (map (offset_of h.geometry.w) F) x → (object_at j (region_at * h.geometry.w + x.0)).size ≡ x.1)
-        → (x : ℕ × ℕ) → In (map (offset_of h.geometry.w) (cond b ((p, (object_at h a).size) ∷ F) F)) x → (object_at j (region_at * h.geometry.w + x.0)).size ≡ x.1
+        → ((x : ℕ × ℕ) → Contains (map (offset_of h.geometry.w) F) x → (object_at j (region_at * h.geometry.w + x.0)).size ≡ x.1)
+        → (x : ℕ × ℕ) → Contains (map (offset_of h.geometry.w) (cond b ((p, (object_at h a).size) ∷ F) F)) x → (object_at j (region_at * h.geometry.w + x.0)).size ≡ x.1
     headers_at a p F false e g o rest x k = rest x k
-    headers_at a p F true e g o rest x (inr k) = rest x k
-    headers_at a p F true e g o rest x (inl k) =
+    headers_at a p F true e g o rest x (suc n, b, eq) = rest x (n, omega (arith, b), eq)
+    headers_at a p F true e g o rest x (zero, b, k) =
         let q : p / h.geometry.w ≡ t = eqb-true (p / h.geometry.w) t e in
         let head : (object_at j (region_at * h.geometry.w + p % h.geometry.w)).size ≡ (object_at h a).size =
         (λ i. (object_at j (get_or (free_regions h) (sym q i) 0 * h.geometry.w + p % h.geometry.w)).size) ∙ (λ i. (object_at j (sym g i)).size) ∙ ap (λ (x : Object). x.size) o in
         subst (λ (y : ℕ × ℕ). (object_at j (region_at * h.geometry.w + y.0)).size ≡ y.1) k head
 
-    pub headers : (l ps : List ℕ) → Paired h j f l ps → (x : ℕ × ℕ) → In (placed_in h.geometry.w t (zip ps (sizes_of h l))) x → (object_at j (region_at * h.geometry.w + x.0)).size ≡ x.1
-    headers [] [] k x m = absurd m
+    pub headers : (l ps : List ℕ) → Paired h j f l ps → (x : ℕ × ℕ) → Contains (placed_in h.geometry.w t (zip ps (sizes_of h l))) x → (object_at j (region_at * h.geometry.w + x.0)).size ≡ x.1
+    headers [] [] k x m = absurd (none_contains x m)
     headers [] (p ∷ ps) k x m = absurd k
     headers (a ∷ l) [] k x m = absurd k
     headers (a ∷ l) (p ∷ ps) k x m =
@@ -197,47 +198,46 @@ module _ (w : ℕ) (pos : 0 < w) where
 -- ---- the law
 
 pub chain_tiled : (j : Heap) (base o : ℕ) (xs : List (ℕ × ℕ)) (end : ℕ) → Chain o xs end
-    → ((x : ℕ × ℕ) → In xs x → (object_at j (base + x.0)).size ≡ x.1) → ((x : ℕ × ℕ) → In xs x → IsPlain j (object_at j (base + x.0)))
+    → ((x : ℕ × ℕ) → Contains xs x → (object_at j (base + x.0)).size ≡ x.1) → ((x : ℕ × ℕ) → Contains xs x → IsPlain j (object_at j (base + x.0)))
     → IsTiled j (base + o) (map (λ x. object_at j (base + x.0)) xs) (base + end)
 chain_tiled j base o [] end c f g = ap (λ e. base + e) c
 chain_tiled j base o (x ∷ xs) end c f g =
-    let size : (object_at j (base + x.0)).size ≡ x.1 = f x (inl refl) in
+    let size : (object_at j (base + x.0)).size ≡ x.1 = f x (zero, omega arith, refl) in
     let at : base + x.0 ≡ base + o = ap (λ y. base + y) c.0 in
     let next : base + (o + x.1) ≡ base + o + (object_at j (base + x.0)).size = omega (arith, size) in (
       ap (object_at j) at,
-      g x (inl refl),
-      subst (λ y. IsTiled j y (map (λ x. object_at j (base + x.0)) xs) (base + end)) next (chain_tiled j base (o + x.1) xs end c.1 (λ y k. f y (inr k)) (λ y k. g y (inr k))),
+      g x (zero, omega arith, refl),
+      subst (λ y. IsTiled j y (map (λ x. object_at j (base + x.0)) xs) (base + end)) next (chain_tiled j base (o + x.1) xs end c.1 (λ y k. f y (suc k.0, omega (arith, k.1), k.2)) (λ y k. g y (suc k.0, omega (arith, k.1), k.2))),
     )
 
-module _ (i : Image) (set l : List ℕ) (j : Image) (sound : IsSound i.heap) (ordinary : AllOrdinary i.heap set) (survivors : Survivors i.heap set l)
-    (room : need i.heap l ≤ length (free_regions i.heap)) (moved : IsMoved i set l j) where
+module _ (i : Image) (set l : List ℕ) (j : Image) (sound : IsSound i.heap) (room : HasRoom i.heap set l) (moved : IsMoved i set l j) where
   pub survivors_distinct : Distinct l
-  survivors_distinct = subst Distinct (sym survivors.in_order) (Distinct-firsts (seeds i.heap set ++ flat_map (children i.heap set) l))
+  survivors_distinct = subst Distinct (sym room.survivors.in_order) (Distinct-firsts (seeds i.heap set ++ flat_map (children i.heap set) l))
 
-  pub survivor_object : (a : ℕ) → In l a → Contains (objects i.heap) (object_at i.heap a)
-  survivor_object a k = reached_object i.heap set sound a ((survivors.reached a).0 (Contains-from_in l a k))
+  pub survivor_object : (a : ℕ) → Contains l a → Contains (objects i.heap) (object_at i.heap a)
+  survivor_object a k = reached_object i.heap set sound a ((room.survivors.reached a).0 k)
 
   -- the header of a kept object is copied
-  pub object_copied : (o : Object) → In (kept i.heap set l) o → Contains (objects i.heap) o → o ≡ object_at i.heap o.at → object_at j.heap (forward i.heap l o.at) ≡ moved_object (forward i.heap l) o
+  pub object_copied : (o : Object) → Contains (kept i.heap set l) o → Contains (objects i.heap) o → o ≡ object_at i.heap o.at → object_at j.heap (forward i.heap l o.at) ≡ moved_object (forward i.heap l) o
   object_copied o k c e =
       let f : ℕ → ℕ = forward i.heap l in
       let pos : o.refs < o.size = sound.slots_fit o c in
       let w : word j.heap (f o.at) ≡ get_or (renamed_words f i.heap o) (f o.at - f o.at) 0 =
-      word_from_copy f i.heap j.heap o (f o.at) (moved.copies o (Contains-from_in (kept i.heap set l) o k)) (omega arith) (omega arith) in
+      word_from_copy f i.heap j.heap o (f o.at) (moved.copies o k) (omega arith) (omega arith) in
       let z : f o.at - f o.at ≡ 0 = omega arith in
       let same : word j.heap (f o.at) ≡ word i.heap o.at = w ∙ ap (λ m. get_or (renamed_words f i.heap o) m 0) z in
       (λ t. record { at = f o.at; size = same t / 2 ^ 32; refs = same t % 2 ^ 32 }) ∙ ap (λ (x : Object). moved_object f x) (sym e)
 
-  pub survivor_kept : (a : ℕ) → In l a → In (kept i.heap set l) (object_at i.heap a)
-  survivor_kept a k = In-append_right (filter (λ o. not (in_set i.heap set o.at)) (objects i.heap)) (map (object_at i.heap) l) (object_at i.heap a) (In-map (object_at i.heap) l a k)
+  pub survivor_kept : (a : ℕ) → Contains l a → Contains (kept i.heap set l) (object_at i.heap a)
+  survivor_kept a k = Contains-append_right (filter (λ o. not (in_set i.heap set o.at)) (objects i.heap)) (map (object_at i.heap) l) (object_at i.heap a) (Contains-map (object_at i.heap) l a k)
 
   abbrev sizes : List ℕ
   sizes = sizes_of i.heap l
 
   row_fits : Fitting i.heap.geometry.w (sizes_of i.heap l)
-  row_fits = all_fit i.heap set l sound ordinary survivors room
+  row_fits = all_fit i.heap set l sound room
 
-  row_below : (x : ℕ × ℕ) → In (zip (laid i.heap.geometry.w 0 (sizes_of i.heap l)) (sizes_of i.heap l)) x → x.0 / i.heap.geometry.w < length (free_regions i.heap)
+  row_below : (x : ℕ × ℕ) → Contains (zip (laid i.heap.geometry.w 0 (sizes_of i.heap l)) (sizes_of i.heap l)) x → x.0 / i.heap.geometry.w < length (free_regions i.heap)
   row_below x k =
       let a = spot_fits i.heap.geometry.w sound.w_positive 0 (sizes_of i.heap l) row_fits x k in
       let b = spot_below i.heap.geometry.w sound.w_positive 0 (sizes_of i.heap l) row_fits x k in
@@ -256,16 +256,16 @@ module _ (i : Image) (set l : List ℕ) (j : Image) (sound : IsSound i.heap) (or
     there = omega arith
 
     pub goal_in_to_space : has (to_space i.heap l) goal_region ≡ true
-    goal_in_to_space = has_from_in (to_space i.heap l) goal_region (In-take (need i.heap l) (free_regions i.heap) t 0 here there)
+    goal_in_to_space = has_from_contains (to_space i.heap l) goal_region (Contains-take (need i.heap l) (free_regions i.heap) t 0 here there)
 
     pub goal_is_free : (kind i.heap goal_region ≡ Free) × (goal_region < i.heap.geometry.n)
-    goal_is_free = is_free_region i.heap goal_region (get_or-In (free_regions i.heap) t 0 there)
+    goal_is_free = is_free_region i.heap goal_region (Contains-get_or (free_regions i.heap) t 0 there)
 
     pub goal_not_in_set : has set goal_region ≡ false
-    goal_not_in_set = not_has set goal_region (λ k. let clash : Free ≡ Ordinary = sym goal_is_free.0 ∙ ordinary goal_region (Contains-from_in set goal_region k) in cc)
+    goal_not_in_set = not_has set goal_region (λ k. let clash : Free ≡ Ordinary = sym goal_is_free.0 ∙ room.ordinary goal_region k in cc)
 
     goal_is : region j.heap goal_region ≡ region_with Ordinary (end_in i.heap l goal_region)
-    goal_is = region_moved i set l j sound ordinary survivors room moved goal_region goal_is_free.1 ∙ rw (goal_not_in_set, goal_in_to_space) refl
+    goal_is = region_moved i set l j sound room moved goal_region goal_is_free.1 ∙ rw (goal_not_in_set, goal_in_to_space) refl
 
     pub goal_kind : kind j.heap goal_region ≡ Ordinary
     goal_kind = ap (λ (q : Region). q.kind) goal_is
@@ -285,15 +285,15 @@ module _ (i : Image) (set l : List ℕ) (j : Image) (sound : IsSound i.heap) (or
     chain : Chain 0 row end
     chain = (row_chain i.heap.geometry.w sound.w_positive t (sizes_of i.heap l)).1
 
-    row_of_spots : (x : ℕ × ℕ) → In row x → (0 < x.1) × (x.0 + x.1 ≤ i.heap.geometry.w)
+    row_of_spots : (x : ℕ × ℕ) → Contains row x → (0 < x.1) × (x.0 + x.1 ≤ i.heap.geometry.w)
     row_of_spots x k =
         let m = map_cases (offset_of i.heap.geometry.w) (filter (λ x. eqb (x.0 / i.heap.geometry.w) t)
-        (zip (laid i.heap.geometry.w 0 (sizes_of i.heap l)) (sizes_of i.heap l))) x (subst (λ xs. In xs x) (sym placed_same) k) in
+        (zip (laid i.heap.geometry.w 0 (sizes_of i.heap l)) (sizes_of i.heap l))) x (subst (λ xs. Contains xs x) (sym placed_same) k) in
         let y = (filter_member (λ (x : ℕ × ℕ). eqb (x.0 / i.heap.geometry.w) t) (zip (laid i.heap.geometry.w 0 (sizes_of i.heap l)) (sizes_of i.heap l)) m.0 m.1).0 in
         subst (λ (x : ℕ × ℕ). (0 < x.1) × (x.0 + x.1 ≤ i.heap.geometry.w)) m.2 (spot_fits i.heap.geometry.w sound.w_positive 0 (sizes_of i.heap l) row_fits m.0 y)
 
-    row_headers : (x : ℕ × ℕ) → In row x → (object_at j.heap (goal_region * i.heap.geometry.w + x.0)).size ≡ x.1
-    row_headers x k = headers i.heap j.heap sound.w_positive (forward i.heap l) t there l (laid i.heap.geometry.w 0 (sizes_of i.heap l)) all_paired x (subst (λ xs. In xs x) (sym placed_same) k)
+    row_headers : (x : ℕ × ℕ) → Contains row x → (object_at j.heap (goal_region * i.heap.geometry.w + x.0)).size ≡ x.1
+    row_headers x k = headers i.heap j.heap sound.w_positive (forward i.heap l) t there l (laid i.heap.geometry.w 0 (sizes_of i.heap l)) all_paired x (subst (λ xs. Contains xs x) (sym placed_same) k)
 
     end_is : end_in i.heap l goal_region ≡ end
     end_is =
@@ -342,7 +342,7 @@ module _ (i : Image) (set l : List ℕ) (j : Image) (sound : IsSound i.heap) (or
         ∙ row_objects
 
     -- and they fill it up to its top
-    pub to_space_tiled : ((o : Object) → In (objects_in j.heap goal_region) o → IsPlain j.heap o) →
+    pub to_space_tiled : ((o : Object) → Contains (objects_in j.heap goal_region) o → IsPlain j.heap o) →
         IsTiled j.heap (goal_region * j.heap.geometry.w) (objects_in j.heap goal_region) (goal_region * j.heap.geometry.w + top j.heap goal_region)
     to_space_tiled f =
         let base : ℕ = goal_region * i.heap.geometry.w in
@@ -350,7 +350,7 @@ module _ (i : Image) (set l : List ℕ) (j : Image) (sound : IsSound i.heap) (or
         let os : map (λ x. object_at j.heap (base + x.0)) row ≡ objects_in j.heap goal_region = row_objects ∙ sym to_space_objects in
         let t : IsTiled j.heap (base + 0) (map (λ x. object_at j.heap (base + x.0)) row) (base + end) =
         chain_tiled j.heap base 0 row end chain row_headers (λ x k. f (object_at j.heap (base + x.0))
-        (subst (λ xs. In xs (object_at j.heap (base + x.0))) os (In-map (λ (x : ℕ × ℕ). object_at j.heap (base + x.0)) row x k))) in
+        (subst (λ xs. Contains xs (object_at j.heap (base + x.0))) os (Contains-map (λ (x : ℕ × ℕ). object_at j.heap (base + x.0)) row x k))) in
         subst (λ y. IsTiled j.heap (goal_region * y) (objects_in j.heap goal_region) (goal_region * y + top j.heap goal_region)) (sym (ap (λ (g : Geometry). g.w) moved.geometry))
         (subst (λ y. IsTiled j.heap base (objects_in j.heap goal_region) (base + y)) (sym goal_end)
         (subst (λ xs. IsTiled j.heap base xs (base + end)) os (subst (λ y. IsTiled j.heap y (map (λ x. object_at j.heap (base + x.0)) row) (base + end)) z t)))

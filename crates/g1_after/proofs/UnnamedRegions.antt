@@ -6,9 +6,9 @@ use Rattle.std.proofs.lemmas.Bool.{cases_lt, and_from, not-true, and_parts}
 use Rattle.std.proofs.lemmas.Nat.{div-mul-add}
 use Rattle.std.proofs.Math.Nat.{add-mul}
 use Rattle.g1_after.specs.Unnamed.{has_word, humongous, is_named, lies_in, unnamed, unnamed_regions}
-use Rattle.g1_words.proofs.Computed.{In-range}
+use Rattle.g1_words.proofs.Computed.{Contains-range}
 use Rattle.g1_words.proofs.Indices.{range_bounds}
-use Rattle.g1_words.proofs.Members.{Contains-from_in, In, In-filter, any_member, filter_member, has_from_in, in_from_has}
+use Rattle.g1_words.proofs.Members.{Contains-filter, any_member, filter_member, has_from_contains, Contains-from_has}
 use Rattle.g1_words.proofs.Shapes.{IsBuilt}
 use Rattle.g1_words.proofs.Standing.{InHumongous, Stands, home, home_region, ordinary_word, run_word, w_pos, word_in_ordinary, word_used, words_apart}
 use Rattle.g1_words.specs.Heap.{Heap, is_first, kind, object_at, objects, objects_in, region_of, regions}
@@ -21,10 +21,10 @@ pub use Rattle.g1_words.proofs.Logic.{same_test}
 
 module _ (h : Heap) (valid : IsBuilt h) where
   -- a humongous object stands at the start of its run
-  pub humongous_home : (o : Object) → In (humongous h) o → (r : ℕ) × In (objects_in h r) o × Stands h r o × InHumongous h r o
+  pub humongous_home : (o : Object) → Contains (humongous h) o → (r : ℕ) × Contains (objects_in h r) o × Stands h r o × InHumongous h r o
   humongous_home o c =
       let f = filter_member (λ (o : Object). is_first (kind h (region_of h o.at))) (objects h) o c in
-      let m = home h valid o (Contains-from_in (objects h) o f.0) in
+      let m = home h valid o f.0 in
       elim m.2.2 [
         | inr a ↦ (m.0, m.1, m.2, a)
         | inl a ↦
@@ -58,7 +58,7 @@ module _ (h : Heap) (valid : IsBuilt h) where
       (lt-ltb o.at (r * h.geometry.w + h.geometry.w) (omega arith)) (lt-ltb (r * h.geometry.w) (o.at + o.size) (omega arith))
 
   -- a region in which a humongous object has a word has no word of another
-  pub one_run : (o p : Object) (m x : ℕ) → Contains (objects h) o → In (humongous h) p → m < o.size → x < p.size → region_of h (o.at + m) ≡ region_of h (p.at + x) → o ≡ p
+  pub one_run : (o p : Object) (m x : ℕ) → Contains (objects h) o → Contains (humongous h) p → m < o.size → x < p.size → region_of h (o.at + m) ≡ region_of h (p.at + x) → o ≡ p
   one_run o p m x co hp lm lx e =
       let s = home h valid o co in
       let t = humongous_home p hp in
@@ -81,7 +81,7 @@ module _ (h : Heap) (valid : IsBuilt h) where
       ]
 
   -- a word of an object is one of a humongous object's exactly where that one lies in the word's region
-  pub word_in_run : (o q : Object) (m : ℕ) → In (humongous h) o → Contains (objects h) q → m < q.size → lies_in h (region_of h (q.at + m)) o ≡ has_word o (q.at + m)
+  pub word_in_run : (o q : Object) (m : ℕ) → Contains (humongous h) o → Contains (objects h) q → m < q.size → lies_in h (region_of h (q.at + m)) o ≡ has_word o (q.at + m)
   word_in_run o q m ho cq lm =
       let t = humongous_home o ho in
       let fits = t.3.refs in
@@ -100,17 +100,17 @@ module _ (h : Heap) (valid : IsBuilt h) where
       word_lies (region_of h (q.at + m)) o (q.at + m - o.at) (omega arith) (ap (region_of h) z))
 
   -- one that nothing names is humongous and not named
-  pub unnamed_humongous : (o : Object) → In (unnamed h) o → In (humongous h) o × (is_named h o ≡ false)
+  pub unnamed_humongous : (o : Object) → Contains (unnamed h) o → Contains (humongous h) o × (is_named h o ≡ false)
   unnamed_humongous o c = let f = filter_member (λ o. not (is_named h o)) (humongous h) o c in (f.0, not-true (is_named h o) f.1)
 
   -- a humongous object is an object
-  pub humongous_object : (o : Object) → In (humongous h) o → Contains (objects h) o
-  humongous_object o c = Contains-from_in (objects h) o (filter_member (λ (o : Object). is_first (kind h (region_of h o.at))) (objects h) o c).0
+  pub humongous_object : (o : Object) → Contains (humongous h) o → Contains (objects h) o
+  humongous_object o c = (filter_member (λ (o : Object). is_first (kind h (region_of h o.at))) (objects h) o c).0
 
   -- a region of theirs has a word of one of them
-  pub region_unnamed : (r : ℕ) → has (unnamed_regions h) r ≡ true → (r < h.geometry.n) × (o : Object) × In (unnamed h) o × (m : ℕ) × (m < o.size) × (region_of h (o.at + m) ≡ r)
+  pub region_unnamed : (r : ℕ) → has (unnamed_regions h) r ≡ true → (r < h.geometry.n) × (o : Object) × Contains (unnamed h) o × (m : ℕ) × (m < o.size) × (region_of h (o.at + m) ≡ r)
   region_unnamed r t =
-      let f = filter_member (λ r. list_any (lies_in h r) (unnamed h)) (regions h) r (in_from_has (unnamed_regions h) r t) in
+      let f = filter_member (λ r. list_any (lies_in h r) (unnamed h)) (regions h) r (Contains-from_has (unnamed_regions h) r t) in
       let b = range_bounds 0 h.geometry.n r f.0 in
       let a = any_member (lies_in h r) (unnamed h) f.1 in
       let fits = (humongous_home a.0 (unnamed_humongous a.0 a.1).0).3.refs in
@@ -118,20 +118,20 @@ module _ (h : Heap) (valid : IsBuilt h) where
       (omega arith, a.0, a.1, w.0, w.1, w.2)
 
   -- each word of theirs lies in a region of theirs
-  pub unnamed_region : (o : Object) (m : ℕ) → In (unnamed h) o → m < o.size → has (unnamed_regions h) (region_of h (o.at + m)) ≡ true
+  pub unnamed_region : (o : Object) (m : ℕ) → Contains (unnamed h) o → m < o.size → has (unnamed_regions h) (region_of h (o.at + m)) ≡ true
   unnamed_region o m c lt =
       let t = humongous_home o (unnamed_humongous o c).0 in
       let u = word_used h valid t.0 o m t.2 lt in
       let r : ℕ = region_of h (o.at + m) in
-      has_from_in (unnamed_regions h) r (In-filter (λ r. list_any (lies_in h r) (unnamed h)) (regions h) r (In-range 0 h.geometry.n r (omega arith) (let b = u.0 in omega arith))
+      has_from_contains (unnamed_regions h) r (Contains-filter (λ r. list_any (lies_in h r) (unnamed h)) (regions h) r (Contains-range 0 h.geometry.n r (omega arith) (let b = u.0 in omega arith))
       (any_from_in (lies_in h r) (unnamed h) o c (word_lies r o m lt refl)))
 
   -- an object with a word in a region of theirs is one of them
-  pub unnamed_there : (o : Object) (m : ℕ) → Contains (objects h) o → m < o.size → has (unnamed_regions h) (region_of h (o.at + m)) ≡ true → In (unnamed h) o
+  pub unnamed_there : (o : Object) (m : ℕ) → Contains (objects h) o → m < o.size → has (unnamed_regions h) (region_of h (o.at + m)) ≡ true → Contains (unnamed h) o
   unnamed_there o m c lt t =
       let u = region_unnamed (region_of h (o.at + m)) t in
       let same : o ≡ u.1 = one_run o u.1 m u.3 c (unnamed_humongous u.1 u.2).0 lt u.4 (sym u.5) in
-      subst (λ x. In (unnamed h) x) (sym same) u.2
+      subst (λ x. Contains (unnamed h) x) (sym same) u.2
 
   -- the words of an object lie all in their regions, or all elsewhere
   pub words_together : (o : Object) (m k : ℕ) → Contains (objects h) o → m < o.size → k < o.size → has (unnamed_regions h) (region_of h (o.at + m)) ≡ has (unnamed_regions h) (region_of h (o.at + k))

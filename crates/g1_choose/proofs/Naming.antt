@@ -2,16 +2,17 @@
 use Rattle.std.proofs.Common.{◌≡◌, ◌≢◌, ℕ, zero, suc, ◌+◌, ◌<◌, ◌≤◌, ◌⊎◌, inl, inr, Bool, true, false, List, [], ◌∷◌, ◌++◌, take, length, get_or, Contains, IsTrue, IsFalse, refl, sym, ◌∙◌}
 use Rattle.std.proofs.Common.{ap, subst, arith, get_or-set_same, get_or-set_other}
 use Rattle.std.specs.Prelude.{◌↔◌, slice_index, slice_index_or, slice_set}
-use Rattle.std.proofs.lemmas.Bool.{cases_order, cases_lt, cases_eq}
+use Rattle.std.proofs.lemmas.Bool.{cases_Bool, cases_order, cases_lt, cases_eq}
 use Rattle.std.proofs.lemmas.List.{take_more, get_or_default, get_or_past}
-use Rattle.std.proofs.lemmas.List.Elements.{Contains-push, Contains-push_cases, Contains-append_left}
+use Rattle.std.proofs.lemmas.List.Elements.{Contains-get_or, Contains-push, Contains-push_cases, Contains-append_left}
 use Rattle.g1_words.specs.declared.region.Kind.{Kind}
 use Rattle.g1_words.specs.declared.region.Kind.TheVariants.{Free, Ordinary, HumongousFirst, Continuation}
 use Rattle.g1_words.specs.declared.region.Region.{Region}
 use Rattle.g1_words.specs.Heap.{Heap, kind, pinned, regions, free_region}
-use Rattle.g1_words.proofs.Members.{In, In-from_contains, Contains-from_in}
-use Rattle.g1_words.proofs.Indices.{In-take, take_cases}
-use Rattle.g1_words.proofs.Computed.{In-range}
+use Rattle.g1_words.proofs.Indices.{Contains-take, take_cases}
+use Rattle.g1_words.proofs.Computed.{Contains-range}
+use Rattle.g1_words.proofs.Members.{Contains-from_has, has_from_contains}
+use Rattle.g1_words.specs.Lists.{has}
 use Rattle.g1_choose.specs.Named.{AreTakeable, IsBadAt, IsFirstBad}
 
 -- of the regions of a heap, those of the list are marked
@@ -41,10 +42,6 @@ marked_more n i marks list count len lt m q below =
 pub both : {b : Bool} → IsTrue b → IsFalse b → ⊥
 both t f = let clash : true ≡ false = sym t ∙ f in cc
 
-pub true_or_false : (b : Bool) → IsTrue b ⊎ IsFalse b
-true_or_false true = inl refl
-true_or_false false = inr refl
-
 -- the region at a place is good, and those before it are
 pub good_more : (h : Heap) (list : List ℕ) (i : ℕ) → ((j : ℕ) → j < i → IsBadAt h list j → ⊥) → slice_index list i < h.geometry.n →
     kind h (slice_index list i) ≡ Ordinary → IsFalse (pinned h (slice_index list i))
@@ -73,13 +70,13 @@ all_good h list good =
           ordinary_from (kind h r) (λ ne. good k.0 k.1 (inr (inl (subst (λ x. kind h x ≢ Ordinary) (sym same) ne))));
       unpinned = λ r k.
           let same : slice_index list k.0 ≡ r = get_or_default list k.0 0 r k.1 ∙ k.2 in
-          elim (true_or_false (pinned h r)) [
+          elim (cases_Bool (pinned h r)) [
             | inl t ↦ absurd (good k.0 k.1 (inr (inr (inl (subst (λ x. IsTrue (pinned h x)) (sym same) t)))))
             | inr f ↦ f
           ];
       distinct = λ i j d lt len e.
           let first : get_or list i 0 ≡ get_or list j 0 = get_or_default list i 0 d (omega arith) ∙ e ∙ get_or_default list j d 0 len in
-          good j len (inr (inr (inr (subst (Contains (take j list)) first (Contains-from_in (take j list) (get_or list i 0) (In-take j list i 0 lt (omega arith)))))));
+          good j len (inr (inr (inr (subst (Contains (take j list)) first (Contains-take j list i 0 lt (omega arith))))));
     }
 
 -- a valid heap's regions are below its number of regions
@@ -90,12 +87,11 @@ ordinary_within h r count e = elim (cases_lt r h.geometry.n) [
 ]
 
 -- and its regions are the heap's
-pub all_within : (h : Heap) (list : List ℕ) → ((i : ℕ) → i < length list → IsBadAt h list i → ⊥) → (r : ℕ) → In list r → In (regions h) r
-all_within h list good r m =
-    let k = Contains-from_in list r m in
+pub all_within : (h : Heap) (list : List ℕ) → ((i : ℕ) → i < length list → IsBadAt h list i → ⊥) → (r : ℕ) → Contains list r → Contains (regions h) r
+all_within h list good r k =
     let same : slice_index list k.0 ≡ r = get_or_default list k.0 0 r k.1 ∙ k.2 in
     elim (cases_lt r h.geometry.n) [
-      | inl lt ↦ In-range 0 h.geometry.n r (omega arith) (omega arith)
+      | inl lt ↦ Contains-range 0 h.geometry.n r (omega arith) (omega arith)
       | inr ge ↦ absurd (good k.0 k.1 (inl (omega (arith, same, ge))))
     ]
 
@@ -107,11 +103,10 @@ ordinary_or_not Ordinary = inl refl
 ordinary_or_not HumongousFirst = inr (λ e. cc)
 ordinary_or_not Continuation = inr (λ e. cc)
 
-in_or_not : (xs : List ℕ) (r : ℕ) → In xs r ⊎ (In xs r → ⊥)
-in_or_not [] r = inr (λ i. i)
-in_or_not (x ∷ xs) r = elim (cases_eq x r) [
-  | inl e ↦ inl (inl e)
-  | inr ne ↦ elim (in_or_not xs r) [ inl i ↦ inl (inr i) | inr no_more ↦ inr (λ i. elim i [ inl e ↦ ne e | inr k ↦ no_more k ]) ]
+in_or_not : (xs : List ℕ) (r : ℕ) → Contains xs r ⊎ (Contains xs r → ⊥)
+in_or_not xs r = elim (cases_Bool (has xs r)) [
+  | inl t ↦ inl (Contains-from_has xs r t)
+  | inr f ↦ inr (λ i. both {b = has xs r} (has_from_contains xs r i) f)
 ]
 
 bad_or_good : (h : Heap) (list : List ℕ) (i : ℕ) → IsBadAt h list i ⊎ (IsBadAt h list i → ⊥)
@@ -121,15 +116,15 @@ bad_or_good h list i =
       | inr ge ↦ inl (inl ge)
       | inl lt ↦ elim (ordinary_or_not (kind h r)) [
         | inr other ↦ inl (inr (inl other))
-        | inl ordinary ↦ elim (true_or_false (pinned h r)) [
+        | inl ordinary ↦ elim (cases_Bool (pinned h r)) [
           | inl pin ↦ inl (inr (inr (inl pin)))
           | inr free ↦ elim (in_or_not (take i list) r) [
-            | inl again ↦ inl (inr (inr (inr (Contains-from_in (take i list) r again))))
+            | inl again ↦ inl (inr (inr (inr again)))
             | inr new ↦ inr (λ bad. elim bad [
               | inl past ↦ omega arith
               | inr b ↦ elim b [
                 | inl other ↦ other ordinary
-                | inr d ↦ elim d [ inl pin ↦ both pin free | inr again ↦ new (In-from_contains (take i list) r again) ]
+                | inr d ↦ elim d [ inl pin ↦ both pin free | inr again ↦ new again ]
               ]
             ])
           ]
@@ -160,7 +155,7 @@ accepted_or_bad h list = elim (good_or_first h list (length list) (omega arith))
 pub accepted_not_bad : (h : Heap) (list : List ℕ) (i : ℕ) → length h.regions ≡ h.geometry.n → AreTakeable h list → IsFirstBad h list i → ⊥
 accepted_not_bad h list i count a bad =
     let r : ℕ = slice_index list i in
-    let there : Contains list r = (i, bad.within, get_or_default list i r 0 bad.within) in
+    let there : Contains list r = Contains-get_or list i 0 bad.within in
     elim bad.bad [
       | inl past ↦ let within = ordinary_within h r count (a.ordinary r there) in omega arith
       | inr b ↦ elim b [
@@ -168,7 +163,7 @@ accepted_not_bad h list i count a bad =
         | inr d ↦ elim d [
           | inl pin ↦ both pin (a.unpinned r there)
           | inr again ↦
-              let k = take_cases i list r 0 (In-from_contains (take i list) r again) in
+              let k = take_cases i list r 0 again in
               a.distinct k.0 i 0 k.1 bad.within k.3
         ]
       ]

@@ -7,7 +7,7 @@ use Rattle.std.proofs.lemmas.List.Sorted.{Contains-permutation, IsPermutation-sy
 use Rattle.std.specs.Prelude.{not, ◌&&◌}
 use Rattle.g1_words.specs.Heap.{Heap, kind, pinned, regions, is_ordinary}
 use Rattle.g1_words.specs.Lists.{has}
-use Rattle.g1_words.proofs.Members.{In, In-from_contains, Contains-from_in, In-filter, filter_member, has_from_in, in_from_has}
+use Rattle.g1_words.proofs.Members.{Contains-filter, Contains-first, filter_member, has_from_contains, Contains-from_has}
 use Rattle.g1_words.proofs.Ordered.{Ordered, Ordered-from_pairs, pairs_from_ordered, same_order}
 use Rattle.g1_words.proofs.Indices.{taken_in}
 use Rattle.g1_choose.specs.declared.parameters.Cost.{Cost}
@@ -18,12 +18,12 @@ use Rattle.g1_choose.proofs.Rising.{rising_is, comes_before-one_way, order_apart
 use Rattle.g1_choose.proofs.Sorting.{apart_by_number}
 
 -- what comes before one of the first is one of the first
-kept_before : (R : ℕ → ℕ → Type 0) → ((r q : ℕ) → R r q → R q r → ⊥) → (m : ℕ) (xs : List ℕ) (r q : ℕ) → Ordered R xs → In xs r → In (take m xs) q → R r q → In (take m xs) r
-kept_before R strict zero xs r q o i k b = absurd k
-kept_before R strict (suc m) [] r q o i k b = absurd k
-kept_before R strict (suc m) (x ∷ xs) r q o (inl e) k b = inl e
-kept_before R strict (suc m) (x ∷ xs) r q o (inr i) (inl f) b = absurd (strict r x (subst (R r) (sym f) b) (o.0 r i))
-kept_before R strict (suc m) (x ∷ xs) r q o (inr i) (inr k) b = inr (kept_before R strict m xs r q o.1 i k b)
+kept_before : (R : ℕ → ℕ → Type 0) → ((r q : ℕ) → R r q → R q r → ⊥) → (m : ℕ) (xs : List ℕ) (r q : ℕ) → Ordered R xs → Contains xs r → Contains (take m xs) q → R r q → Contains (take m xs) r
+kept_before R strict zero xs r q o i k b = absurd (omega (arith, k.1))
+kept_before R strict (suc m) [] r q o i k b = absurd (omega (arith, k.1))
+kept_before R strict (suc m) (x ∷ xs) r q o (zero, lt, e) k b = (zero, omega arith, e)
+kept_before R strict (suc m) (x ∷ xs) r q o (suc k, lt, e) (zero, less, f) b = absurd (strict r x (subst (R r) (sym f) b) (o.0 r (k, omega (arith, lt), e)))
+kept_before R strict (suc m) (x ∷ xs) r q o (suc j, lt, e) (suc n, less, eq) b = let c = kept_before R strict m xs r q o.1 (j, omega (arith, lt), e) (n, omega (arith, less), eq) b in (suc c.0, omega (arith, c.1), c.2)
 
 module _ (c : Cost) (h : Heap) (remembered : List (List ℕ)) (lives : List ℕ) where
   abbrev First : ℕ → ℕ → Type 0
@@ -46,7 +46,7 @@ module _ (c : Cost) (h : Heap) (remembered : List (List ℕ)) (lives : List ℕ)
 
   some_waste : (r : ℕ) → Candidates r → 0 < waste r
   some_waste r k =
-      let passes = (filter_member (is_candidate c h remembered lives) (regions h) r (In-from_contains (candidates c h remembered lives) r k)).1 in
+      let passes = (filter_member (is_candidate c h remembered lives) (regions h) r k).1 in
       let others = (and_parts (is_ordinary (kind h r)) (not (pinned h r) && ltb 0 (waste r)) passes).1 in
       ltb-true 0 (waste r) (and_parts (not (pinned h r)) (ltb 0 (waste r)) others).1
 
@@ -68,7 +68,7 @@ module _ (c : Cost) (h : Heap) (remembered : List (List ℕ)) (lives : List ℕ)
           all = λ r. ((λ k. Contains-permutation (sorted test all) all r (IsPermutation-sym all (sorted test all) moved) k), (λ k. Contains-permutation all (sorted test all) r moved k));
           sorted = pairs_from_ordered First (sorted test all)
               (sorted_ordered test Candidates (λ r q x y ne. comes_before-any_two r q ne) comes_before-chain all
-              (λ r i. Contains-from_in all r i)
+              (λ r i. i)
               (Ordered-from_pairs (λ r q. r ≢ q) all (apart_by_number (is_candidate c h remembered lives) h.geometry.n)));
         },
       )
@@ -78,8 +78,8 @@ module _ (c : Cost) (h : Heap) (remembered : List (List ℕ)) (lives : List ℕ)
       same_order First (comes_before-one_way c h remembered lives) xs ys
       (Ordered-from_pairs First xs a.sorted)
       (Ordered-from_pairs First ys b.sorted)
-      (λ z k. In-from_contains ys z ((b.all z).1 ((a.all z).0 (Contains-from_in xs z k))))
-      (λ z k. In-from_contains xs z ((a.all z).1 ((b.all z).0 (Contains-from_in ys z k))))
+      (λ z k. (b.all z).1 ((a.all z).0 k))
+      (λ z k. (a.all z).1 ((b.all z).0 k))
 
   -- of the beginnings up to a length, the longest that the budget pays
   longest_up_to : (d budget : ℕ) (order : List ℕ) (n : ℕ) → n ≤ length order
@@ -118,21 +118,21 @@ module _ (c : Cost) (h : Heap) (remembered : List (List ℕ)) (lives : List ℕ)
       a.rising ∙ sym (b.rising ∙ (λ t. filter (has (take (n t) (e t))) (regions h)))
 
   -- the regions of a set are those of the beginning
-  set_member : (d budget : ℕ) (set : List ℕ) (r : ℕ) (a : IsChosen c h remembered lives d budget set) → Contains set r → In (take a.taken a.order) r
+  set_member : (d budget : ℕ) (set : List ℕ) (r : ℕ) (a : IsChosen c h remembered lives d budget set) → Contains set r → Contains (take a.taken a.order) r
   set_member d budget set r a k =
-      let i : In (filter (has (take a.taken a.order)) (regions h)) r = subst (λ l. In l r) a.rising (In-from_contains set r k) in
-      in_from_has (take a.taken a.order) r (filter_member (has (take a.taken a.order)) (regions h) r i).1
+      let i : Contains (filter (has (take a.taken a.order)) (regions h)) r = subst (λ l. Contains l r) a.rising k in
+      Contains-from_has (take a.taken a.order) r (filter_member (has (take a.taken a.order)) (regions h) r i).1
 
   pub only_candidates : (d budget : ℕ) (set : List ℕ) (r : ℕ) → IsChosen c h remembered lives d budget set → Contains set r → Candidates r
-  only_candidates d budget set r a k = (a.is_order.all r).0 (Contains-from_in a.order r (taken_in a.taken a.order r (set_member d budget set r a k)))
+  only_candidates d budget set r a k = (a.is_order.all r).0 (taken_in a.taken a.order r (set_member d budget set r a k))
 
   pub none_skipped : (d budget : ℕ) (set : List ℕ) (r q : ℕ) → IsChosen c h remembered lives d budget set → Candidates r → First r q → Contains set q → Contains set r
   none_skipped d budget set r q a k b t =
-      let there : In a.order r = In-from_contains a.order r ((a.is_order.all r).1 k) in
-      let first : In (take a.taken a.order) r =
+      let there : Contains a.order r = (a.is_order.all r).1 k in
+      let first : Contains (take a.taken a.order) r =
       kept_before First (comes_before-one_way c h remembered lives) a.taken a.order r q (Ordered-from_pairs First a.order a.is_order.sorted) there (set_member d budget set q a t) b in
-      let i = In-filter (has (take a.taken a.order)) (regions h) r (order_within c h remembered lives a.order a.taken r a.is_order first) (has_from_in (take a.taken a.order) r first) in
-      Contains-from_in set r (subst (λ l. In l r) (sym a.rising) i)
+      let i = Contains-filter (has (take a.taken a.order)) (regions h) r (order_within c h remembered lives a.order a.taken r a.is_order first) (has_from_contains (take a.taken a.order) r first) in
+      subst (λ l. Contains l r) (sym a.rising) i
 
   -- the set costs what the beginning costs
   same_cost : (d budget : ℕ) (set : List ℕ) (a : IsChosen c h remembered lives d budget set) → pause_cost c h remembered lives d set ≡ pause_cost c h remembered lives d (take a.taken a.order)
@@ -161,12 +161,12 @@ module _ (c : Cost) (h : Heap) (remembered : List (List ℕ)) (lives : List ℕ)
   pub within_budget : (d budget : ℕ) (set : List ℕ) → IsChosen c h remembered lives d budget set → 0 < length set → pause_cost c h remembered lives d set ≤ budget
   within_budget d budget set a some = omega (arith, same_cost d budget set a, a.longest.paid (taken_some a.taken a.order set a.rising some))
     where
-      some_taken : (n : ℕ) (order : List ℕ) (x : ℕ) → In (take n order) x → 0 < n
-      some_taken zero order x i = absurd i
+      some_taken : (n : ℕ) (order : List ℕ) (x : ℕ) → Contains (take n order) x → 0 < n
+      some_taken zero order x i = absurd (omega (arith, i.1))
       some_taken (suc n) order x i = omega arith
 
       taken_some : (n : ℕ) (order set : List ℕ) → set ≡ filter (has (take n order)) (regions h) → 0 < length set → 0 < n
       taken_some n order [] e lt = absurd (omega arith)
       taken_some n order (x ∷ set) e lt =
-          let i : In (filter (has (take n order)) (regions h)) x = subst (λ l. In l x) e (inl refl) in
-          some_taken n order x (in_from_has (take n order) x (filter_member (has (take n order)) (regions h) x i).1)
+          let i : Contains (filter (has (take n order)) (regions h)) x = subst (λ l. Contains l x) e (Contains-first x set) in
+          some_taken n order x (Contains-from_has (take n order) x (filter_member (has (take n order)) (regions h) x i).1)

@@ -1,32 +1,32 @@
 -- A set of regions, by number.
-use Rattle.std.proofs.Common.{◌≡◌, ◌≢◌, ℕ, zero, suc, ◌<◌, ◌≤◌, inl, inr, List, [], ◌∷◌, filter, take, get_or, AllPairs, IsTrue, sym, subst, arith}
+use Rattle.std.proofs.Common.{◌≡◌, ◌≢◌, ℕ, zero, suc, ◌<◌, ◌≤◌, inl, inr, List, [], ◌∷◌, filter, take, get_or, AllPairs, IsTrue, sym, subst, arith, Contains}
 use Rattle.std.proofs.lemmas.Bool.{cases_order}
 use Rattle.std.specs.List.Sorted.{IsPermutation, IsSorted}
 use Rattle.std.specs.Ordering.{nat_cmp}
 use Rattle.std.proofs.lemmas.List.Sorted.{IsNonDecreasingBy-from_sort, IsPermutation-sym, Contains-permutation}
 use Rattle.g1_words.specs.Heap.{Heap, regions}
 use Rattle.g1_words.specs.Lists.{has}
-use Rattle.g1_words.proofs.Members.{In, In-from_contains, Contains-from_in, In-filter, filter_member, has_from_in, in_from_has}
+use Rattle.g1_words.proofs.Members.{Contains-filter, filter_member, has_from_contains, Contains-from_has}
 use Rattle.g1_words.proofs.Ordered.{Ordered, Ordered-from_pairs, pairs_from_ordered, same_order}
 use Rattle.g1_words.proofs.Rising.{Ordered-filter, Ordered-range}
 use Rattle.g1_words.proofs.Indices.{taken_in}
 use Rattle.g1_choose.specs.declared.parameters.Cost.{Cost}
-use Rattle.g1_choose.specs.Choice.{cost_of, garbage, candidates, is_candidate, comes_before, IsOrder}
+use Rattle.g1_choose.specs.Choice.{cost_of, garbage, is_candidate, comes_before, IsOrder}
 use Rattle.g1_choose.proofs.Ratios.{before, one_way}
 use Rattle.g1_choose.proofs.Sorting.{apart_permuted}
 
 -- regions in any order, each once, when they rise
-pub rising_is : (h : Heap) (xs ys : List ℕ) → IsPermutation xs ys → Ordered (λ r q. r < q) ys → ((r : ℕ) → In xs r → In (regions h) r) → ys ≡ filter (has xs) (regions h)
+pub rising_is : (h : Heap) (xs ys : List ℕ) → IsPermutation xs ys → Ordered (λ r q. r < q) ys → ((r : ℕ) → Contains xs r → Contains (regions h) r) → ys ≡ filter (has xs) (regions h)
 rising_is h xs ys p o within =
     same_order (λ r q. r < q) (λ r q a b. omega arith) ys (filter (has xs) (regions h)) o
     (Ordered-filter (λ r q. r < q) (has xs) (regions h) (Ordered-range 0 h.geometry.n))
     (λ r k.
-    let i = In-from_contains xs r (Contains-permutation ys xs r (IsPermutation-sym xs ys p) (Contains-from_in ys r k)) in
-    In-filter (has xs) (regions h) r (within r i) (has_from_in xs r i))
-    (λ r k. In-from_contains ys r (Contains-permutation xs ys r p (Contains-from_in xs r (in_from_has xs r (filter_member (has xs) (regions h) r k).1))))
+    let i = Contains-permutation ys xs r (IsPermutation-sym xs ys p) k in
+    Contains-filter (has xs) (regions h) r (within r i) (has_from_contains xs r i))
+    (λ r k. Contains-permutation xs ys r p (Contains-from_has xs r (filter_member (has xs) (regions h) r k).1))
 
 -- and when they are sorted
-pub risen : (h : Heap) (xs ys : List ℕ) → IsPermutation xs ys → IsSorted nat_cmp ys → AllPairs (λ r q. r ≢ q) xs → ((r : ℕ) → In xs r → In (regions h) r) → ys ≡ filter (has xs) (regions h)
+pub risen : (h : Heap) (xs ys : List ℕ) → IsPermutation xs ys → IsSorted nat_cmp ys → AllPairs (λ r q. r ≢ q) xs → ((r : ℕ) → Contains xs r → Contains (regions h) r) → ys ≡ filter (has xs) (regions h)
 risen h xs ys p s apart within =
     let up = IsNonDecreasingBy-from_sort (λ x. x) ys s in
     let differ = apart_permuted xs ys p apart in
@@ -62,6 +62,6 @@ module _ (c : Cost) (h : Heap) (remembered : List (List ℕ)) (lives : List ℕ)
       let self : R x x = subst (R x) (sym e) (front i j d lt len) in
       comes_before-one_way x x self self
 
-  pub order_within : (order : List ℕ) (m r : ℕ) → IsOrder c h remembered lives order → In (take m order) r → In (regions h) r
+  pub order_within : (order : List ℕ) (m r : ℕ) → IsOrder c h remembered lives order → Contains (take m order) r → Contains (regions h) r
   order_within order m r o i =
-      (filter_member (is_candidate c h remembered lives) (regions h) r (In-from_contains (candidates c h remembered lives) r ((o.all r).0 (Contains-from_in order r (taken_in m order r i))))).0
+      (filter_member (is_candidate c h remembered lives) (regions h) r ((o.all r).0 (taken_in m order r i))).0

@@ -11,6 +11,7 @@ use Rattle.std.proofs.lemmas.Map.Keys.{IsDistinct-IsPermutation}
 use Rattle.std.proofs.lemmas.Map.Made.{AllPairs-from_IsDistinct, IsDistinct-from_AllPairs}
 use Rattle.std.proofs.lemmas.Bool.{false_from_ne_true}
 use Rattle.g1_words.specs.Heap.{Heap}
+use Rattle.g1_words.proofs.Members.{Contains-first, Contains-later}
 use Rattle.g1_words.proofs.Ordered.{Ordered, Ordered-from_pairs, pairs_from_ordered}
 use Rattle.g1_words.proofs.Rising.{Ordered-filter, Ordered-map, Ordered-range}
 use Rattle.g1_words.proofs.Lists.{all_in}
@@ -75,8 +76,8 @@ module _ (c : Cost) (h : Heap) (remembered : List (List ℕ)) (lives : List ℕ)
   by_region [] t o = tt
   by_region (x ∷ xs) t o = (
     (λ y i.
-        let a = all_in (TellsRegion c h remembered lives) (x ∷ xs) x t (inl refl) in
-        let b = all_in (TellsRegion c h remembered lives) (x ∷ xs) y t (inr i) in
+        let a = all_in (TellsRegion c h remembered lives) (x ∷ xs) x t (Contains-first x xs) in
+        let b = all_in (TellsRegion c h remembered lives) (x ∷ xs) y t (Contains-later x xs y i) in
         let same : goes_first x y ≡ comes_before c h remembered lives x.region y.region = λ i. is_before (a.cost i) (a.garbage i) x.region (b.cost i) (b.garbage i) y.region in
         subst IsTrue same (o.0 y i)),
     by_region xs (All-tail (TellsRegion c h remembered lives) x xs t) o.1,

@@ -1,21 +1,9 @@
 -- What was written, part after part.
-use Rattle.std.proofs.Common.{◌≡◌, ℕ, ◌+◌, ◌-◌, ◌≤◌, List, ◌++◌, Option, Some, None, Result, Ok, Err, length, take, drop, sym, ap, ◌∙◌, subst, append_assoc, arith}
-use Rattle.std.proofs.lemmas.List.{take-take, take_all}
-use Rattle.std.proofs.Math.Seq.{take-add}
+use Rattle.std.proofs.Common.{ℕ, ◌≤◌, List, Option, Result, Ok, Err, length, sym, subst, arith}
+use Rattle.std.proofs.lemmas.List.{take_all}
 use Rattle.std.specs.Io.KnownBytes.{Appends, Keeps}
 use Rattle.std.proofs.KnownBytes.{Appends-kept}
 use Rattle.g1_command.specs.Deliveries.{Delivers}
-
--- what was written up to a place, and n bytes of what stands behind it, is what is written up to n bytes further
-pub appends_part : (a b c : Option (List ℕ)) (xs : List ℕ) (at n : ℕ) → n ≤ length xs - at → Appends a b (take at xs) → Appends b c (take n (take (length xs - at) (drop at xs)))
-    → Appends a c (take (at + n) xs)
-appends_part None b c xs at n h p q = tt
-appends_part (Some x) None c xs at n h p q = absurd p
-appends_part (Some x) (Some y) None xs at n h p q = absurd q
-appends_part (Some x) (Some y) (Some z) xs at n h p q =
-    let part : take n (take (length xs - at) (drop at xs)) ≡ take n (drop at xs) = take-take n (length xs - at) (drop at xs) h in
-    let whole : take at xs ++ take n (drop at xs) ≡ take (at + n) xs = sym (take-add at n xs) in
-    q ∙ (ap (λ (s : List ℕ). y ++ s) part ∙ (ap (λ (s : List ℕ). s ++ take n (drop at xs)) p ∙ (append_assoc x (take at xs) (take n (drop at xs)) ∙ ap (λ (s : List ℕ). x ++ s) whole)))
 
 -- a flush behind all of a text keeps it
 pub flushed : {E : Type 0} (text : List ℕ) (a b c : Option (List ℕ)) (r : Result (Unit {0}) E) → Appends a b text → Keeps b c → Delivers text a c r

@@ -5,3 +5,4 @@ pub mod Tabled
 pub mod Listed
 pub mod ReadLines
 pub mod Tied
+pub mod Reasons

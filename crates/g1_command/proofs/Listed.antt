@@ -1,6 +1,6 @@
 -- The regions that lists name.
 use Rattle.std.proofs.Common.{◌≡◌, ◌≢◌, ◌∙◌, ◌<◌, ◌≤◌, ◌+◌, ◌-◌, ◌++◌, ℕ, zero, suc, List, [], ◌∷◌, length, get_or, take, drop, map, Option, Some, None, true, false, refl, sym, ap, subst, eqb, eqb-true, eq-eqb, ne_eqb, arith}
-use Rattle.std.specs.Prelude.{Result, Ok, Err, IfErr, unwrap_or, flat_map}
+use Rattle.std.specs.Prelude.{unwrap_or, flat_map}
 use Rattle.std.specs.Borrow.{Bor}
 use Rattle.std.specs.List.{All, AllZip, IsDistinct, concat, join_with_byte, range_with_len}
 use Rattle.std.specs.Str.Parse.{AllDigits}
@@ -15,11 +15,9 @@ use Rattle.std.proofs.lemmas.Str.Parse.{not_in_digits}
 use Rattle.std.proofs.lemmas.Str.Pattern.{IsSplitOnceResult, split_parts}
 use Rattle.g1_words.specs.Lists.{has}
 use Rattle.clap.specs.Words.{Text}
-use Rattle.g1_command.specs.declared.values.Misuse.{Misuse}
-use Rattle.g1_command.specs.declared.values.Misuse.TheVariants as misuse
-use Rattle.g1_command.specs.Values.{Because, IsBelow}
+use Rattle.g1_command.specs.Values.{IsBelow}
 use Rattle.g1_command.specs.Lists.{HasTwice, IsRegionOfImage, AreBetween, AreRegionsOfPart, AreRegionsIn, AddsParts, AddNone, ends_of, parts_of, rising}
-use Rattle.g1_command.proofs.Numerals.{by_value}
+use Rattle.g1_words.proofs.Numerals.{by_value}
 
 -- a text without a dash is its own only end
 no_dash : (bs : Text) → ((i : ℕ) → i < length bs → get_or bs i 0 ≢ 45) → All (λ b. eqb b 45 ≡ false) bs
@@ -232,12 +230,3 @@ lists_around (x ∷ lists) (suc n) d lt =
 pub lists_stop : (lists : List (Bor Text)) (n : ℕ) (d : Bor Text) (mid : List ℕ) → n < length lists → AddsParts (parts_in (take n lists)) [] mid → AddNone (parts_of (get_or lists n d).now) mid → AddNone (parts_in lists) []
 lists_stop lists n d mid lt before none =
     subst (λ l. AddNone l []) (sym (lists_around lists n d lt)) (adds_none (parts_in (take n lists)) (parts_of (get_or lists n d).now) (parts_in (drop (n + 1) lists)) [] mid before none)
-
--- the reason is there whether memory was wanted or not
-pub because_of : {P : Type 0} → P → (m : Misuse) → Because P m
-because_of h misuse.Memory = tt
-because_of h (misuse.Value message) = h
-
-pub error_because : {A P : Type 0} → P → (r : Result A Misuse) → IfErr r (Because P)
-error_because h (Ok a) = tt
-error_because h (Err m) = because_of h m

@@ -1,17 +1,11 @@
 -- Whole numbers that are read from their digits.
-use Rattle.std.proofs.Common.{◌≡◌, ◌≢◌, ℕ, ◌<◌, ◌^◌, List, length, get_or, sym, subst, arith}
+use Rattle.std.proofs.Common.{◌≡◌, ◌≢◌, ℕ, ◌<◌, ◌^◌, List, length, get_or, sym, subst}
 use Rattle.std.specs.Prelude.{Option, MatchOption, Result, Ok, Err}
 use Rattle.std.specs.Result.{OkIff, result_ok}
-use Rattle.std.specs.Str.Parse.{AllDigits, IsNumeral, ParsesUnsigned, digits_value}
-use Rattle.std.proofs.lemmas.Str.Parse.{IsNumeralModel, numerals_by_value, tells_digits, parse_plain, not_in_digits}
+use Rattle.std.specs.Str.Parse.{AllDigits, ParsesUnsigned, digits_value}
+use Rattle.std.proofs.lemmas.Str.Parse.{parse_plain}
 use Rattle.g1_command.specs.Values.{IsBelow, IsNumber}
-
-pub by_value : IsNumeralModel (AllDigits 10) (digits_value 10)
-by_value = numerals_by_value (AllDigits 10) tells_digits
-
--- digits have no plus among them
-pub unsigned : (bs : List ℕ) → IsNumeral 10 bs → get_or bs 0 0 ≢ 43
-unsigned bs h f = not_in_digits by_value bs 43 h.1 (λ q. let low = q.0 in absurd (omega (arith, low))) 0 h.0 f
+use Rattle.g1_words.proofs.Numerals.{by_value}
 
 -- what is read of a text without a plus is the number that its digits say, and nothing is read of another
 pub read_digits : {E : Type 0} (bs : List ℕ) (r : Result ℕ E) (o : Option ℕ) → ParsesUnsigned 64 10 bs r → get_or bs 0 0 ≢ 43 → o ≡ result_ok r

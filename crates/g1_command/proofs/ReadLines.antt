@@ -1,11 +1,11 @@
 -- What std reads up to a byte is a line.
-use Rattle.std.proofs.Common.{◌≡◌, ◌≢◌, ◌⊎◌, inl, inr, ℕ, ◌+◌, ◌-◌, ◌<◌, Bool, true, false, eqb, cond, List, [], ◌∷◌, ◌++◌, Option, Some, None, IfSome, length, get_or, take, drop, refl, sym, ap, subst, ◌∙◌, arith, take-append-drop, take_all, length-append}
+use Rattle.std.proofs.Common.{◌≡◌, ◌≢◌, ◌⊎◌, inl, inr, ℕ, ◌+◌, ◌-◌, Bool, true, false, eqb, cond, List, [], ◌∷◌, ◌++◌, Option, Some, None, IfSome, length, get_or, take, drop, refl, sym, ap, subst, ◌∙◌, arith, take-append-drop, take_all, length-append}
 use Rattle.std.specs.Prelude.{nat_lt}
 use Rattle.std.proofs.lemmas.Bool.{eqb-true, eqb-false}
 use Rattle.std.proofs.lemmas.List.{take_more}
 use Rattle.std.proofs.lemmas.List.Elements.{All-head, All-tail, All-push}
 use Rattle.std.specs.Io.{StartsWith, StopsAt}
-use Rattle.std.specs.Io.KnownBytes.{Consumes, prepend_known}
+use Rattle.std.specs.Io.KnownBytes.{Consumes}
 use Rattle.std.specs.Io.BufRead.{take_through}
 use Rattle.g1_command.specs.Lines.{HasNoEnd, IsEndedLine, ReadsLine}
 

@@ -1,5 +1,5 @@
 -- What clap reads of a table, from the steps that build its command.
-use Rattle.std.proofs.Common.{◌≡◌, ◌<◌, ◌≤◌, ◌∙◌, ◌++◌, ◌+◌, ◌&&◌, ℕ, suc, Bool, true, false, List, [], ◌∷◌, length, map, max, get_or, drop, Option, Some, None, refl, sym, ap, arith, drop-cons, drop_of_length-le}
+use Rattle.std.proofs.Common.{◌≡◌, ◌<◌, ◌≤◌, ◌∙◌, ◌++◌, ◌+◌, ◌&&◌, ℕ, suc, Bool, true, false, List, [], length, max, get_or, drop, Option, Some, None, refl, sym, ap, arith, drop-cons, drop_of_length-le}
 use Rattle.std.specs.Prelude.{IsSomeAnd, option_map, if◌then◌else◌}
 use Rattle.std.specs.List.{fold}
 use Rattle.std.specs.Option.{option_map_or}

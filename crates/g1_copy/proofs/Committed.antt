@@ -3,7 +3,6 @@ use Rattle.std.proofs.Common.{◌≡◌, ℕ, zero, suc, refl, ◌++◌, ◌+◌
 use Rattle.std.specs.List.{range_with_len}
 use Rattle.std.proofs.Math.Nat.{mul-div_left}
 use Rattle.std.proofs.lemmas.List.FromFn.{length-map-range_with_len}
-use Rattle.g1_after.proofs.Existence.{made_is_moved}
 use Rattle.g1_image.specs.Image.{Image}
 use Rattle.g1_after.specs.Made.{heap_moved, image_moved, image_paused, moved_word}
 use Rattle.g1_after.specs.Paused.{IsPaused}
@@ -12,7 +11,7 @@ use Rattle.g1_work.proofs.Slices.{length-slice_of, next_slice}
 use Rattle.g1_work.specs.Regions.{EverySlice, slice_of}
 use Rattle.g1_words.proofs.Firsts.{Distinct}
 use Rattle.g1_words.proofs.NextFit.{free_distinct}
-use Rattle.g1_words.proofs.Shapes.{built}
+use Rattle.g1_words.proofs.Sound.{w_positive}
 use Rattle.g1_words.specs.Heap.{object_at, start}
 use Rattle.g1_words.specs.Layout.{forward, free_regions, need, to_space}
 use Rattle.g1_words.specs.Valid.{IsValid}
@@ -22,6 +21,7 @@ use Rattle.g1_copy.specs.Patches.{AreBefore, all_patches}
 use Rattle.g1_copy.specs.Prepared.{IsMadeFor, Prepared, written}
 use Rattle.g1_copy.specs.Slices.{IsWritable, by_fate}
 use Rattle.g1_copy.proofs.FatesMade.{run_there}
+use Rattle.g1_copy.proofs.Ground.{ground}
 use Rattle.g1_copy.proofs.InPlaceFreed.{words_paused}
 use Rattle.g1_copy.proofs.InPlaceSlices.{Distinct-take, flat_length}
 
@@ -43,14 +43,11 @@ module _ (p : Prepared) (i : Image) (set l : List ℕ) (valid : IsValid i.heap) 
   abbrev clears : List ℕ
   clears = set ++ unnamed_regions (heap_moved i.heap set l)
 
-  w_positive : 0 < i.heap.geometry.w
-  w_positive = let k = valid.limits.w_least in omega arith
-
   once : Distinct (to_space i.heap l)
-  once = Distinct-take (need i.heap l) (free_regions i.heap) (free_distinct i.heap w_positive)
+  once = Distinct-take (need i.heap l) (free_regions i.heap) (free_distinct i.heap (w_positive i.heap valid))
 
   count : length i.heap.words / i.heap.geometry.w ≡ i.heap.geometry.n
-  count = ap (λ y. y / i.heap.geometry.w) valid.word_count ∙ mul-div_left i.heap.geometry.n w_positive
+  count = ap (λ y. y / i.heap.geometry.w) valid.word_count ∙ mul-div_left i.heap.geometry.n (w_positive i.heap valid)
 
   gathered_length : length p.gathered ≡ length (to_space i.heap l) * i.heap.geometry.w
   gathered_length =
@@ -91,7 +88,7 @@ module _ (p : Prepared) (i : Image) (set l : List ℕ) (valid : IsValid i.heap) 
       flat_map_same (λ r. by_fate i.heap.geometry.w p.gathered p.patches r (fate_at p.fates r) (slice_of i.heap.geometry.w r i.heap.words))
       (λ r. by_fate i.heap.geometry.w (to_space_words i.heap l) (all_patches i.heap set l) r (fate_of clears (to_space i.heap l) r) (slice_of i.heap.geometry.w r i.heap.words))
       0 (length i.heap.words / i.heap.geometry.w) (λ r low high. by_fates r (omega (arith, high, count)))
-      ∙ words_paused i set l (built i.heap valid) made.room.ordinary made.room.survivors made.room.room
+      ∙ words_paused i set l (ground i set l valid made.room)
 
   is_after : committed p i ≡ image_paused i set l
   is_after = λ q. record {
@@ -103,6 +100,6 @@ module _ (p : Prepared) (i : Image) (set l : List ℕ) (valid : IsValid i.heap) 
   pub is_paused : IsPaused i set l (committed p i)
   is_paused = record {
     between = image_moved i set l;
-    moved = made_is_moved i set l (built i.heap valid) made.room.ordinary made.room.survivors made.room.room;
+    moved = (ground i set l valid made.room).moved;
     freed = is_after;
   }

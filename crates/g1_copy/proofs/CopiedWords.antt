@@ -3,7 +3,7 @@ use Rattle.std.proofs.Common.{◌≡◌, ◌≢◌, ◌≤◌, ◌<◌, ℕ, zer
 use Rattle.std.proofs.Common.{filter, flat_map, take, drop, Contains, arith, refl, sym, ap, ◌∙◌, eqb, ne_eqb, append-nil, All, subst}
 use Rattle.std.specs.List.{range_with_len, slice_range}
 use Rattle.std.proofs.lemmas.List.{get_or-drop, get_or-map, get_or-take, length-drop, length-map, length-take-le, map-append, take_more}
-use Rattle.std.proofs.lemmas.List.Elements.{filter-append}
+use Rattle.std.proofs.lemmas.List.Elements.{filter-append, Contains-append_cases, Contains-append_right, Contains-get_or}
 use Rattle.std.proofs.lemmas.List.FromFn.{get_or-map-range_with_len, length-map-range_with_len, length-range_with_len}
 use Rattle.std.proofs.lemmas.List.Sums.{count_by-le-length, length-filter}
 use Rattle.std.proofs.lemmas.Grind.{flat_map-append, same_number_lists}
@@ -15,22 +15,26 @@ use Rattle.g1_words.specs.declared.object.Object.{Object}
 use Rattle.g1_words.specs.Heap.{Heap, is_free, kind, object_at, regions, start, word}
 use Rattle.g1_words.specs.Layout.{forward, free_regions, laid, need, places, sizes_of}
 use Rattle.g1_words.specs.Valid.{IsValid}
-use Rattle.g1_words.proofs.Indices.{get_or-In, is_free_region, range_bounds}
-use Rattle.g1_words.proofs.Members.{In, In-append_cases, In-append_right, Contains-from_in, filter_member, map_cases}
+use Rattle.g1_words.proofs.Indices.{is_free_region, range_bounds}
+use Rattle.g1_words.proofs.Lists.{all_in}
+use Rattle.g1_words.proofs.Members.{Contains-later, filter_member, map_cases}
+use Rattle.g1_words.proofs.Sound.{w_positive}
 use Rattle.g1_words.specs.Copy.{renamed, renamed_words, words_at}
 use Rattle.g1_after.specs.Made.{moved_word}
 use Rattle.g1_layout.proofs.Conditions.{can_lay}
 use Rattle.g1_layout.proofs.Lists.{range-more}
 use Rattle.g1_layout.proofs.Running.{count_places, fits, laid_before-more, place_is, size_is, stretch_lies}
+use Rattle.g1_layout.proofs.Stretches.{forward_at}
 use Rattle.g1_layout.specs.Placed.{CanPlace}
-use Rattle.g1_layout.specs.Plan.{Plan, laid_before, run_at, runs}
+use Rattle.g1_layout.specs.Plan.{Plan, laid_before, run_at}
 use Rattle.g1_layout.specs.declared.plan.Run.{Run}
 use Rattle.g1_copy.specs.Plans.{IsPlanOf}
 use Rattle.g1_copy.specs.Gathered.{placed_words, to_space_words}
 use Rattle.g1_copy.specs.Filled.{filled_slots}
 use Rattle.g1_copy.specs.Links.{copied_between, moved_slots}
+use Rattle.g1_copy.proofs.Plans.{places_of_plan, run_is, runs_count}
 use Rattle.g1_copy.proofs.CopiedSlots.{place_within, survivor_slots, slot_named, slots_before}
-use Rattle.g1_copy.proofs.GatheringWords.{forward_at, get_or-placed_words, get_or-to_space_words, length-placed_words, length-to_space_words, placed_word}
+use Rattle.g1_copy.proofs.GatheringWords.{get_or-placed_words, get_or-to_space_words, length-placed_words, length-to_space_words, placed_word}
 
 -- ---- the slots of one object, one by one
 
@@ -68,10 +72,10 @@ module _ (xs : List ℕ) (at place : ℕ) where
 
   -- the first k stand no higher than the k-th
   pub first_below : (before : List (ℕ × ℕ)) (k : ℕ) → All (λ x. x.0 ≤ place) before → All (λ x. x.0 ≤ place + k + 1) (before ++ first_slots k)
-  first_below before k low = λ m d lt. below (get_or (before ++ first_slots k) m d) (get_or-In (before ++ first_slots k) m d lt) where
-    below : (x : ℕ × ℕ) → In (before ++ first_slots k) x → x.0 ≤ place + k + 1
-    below x i = elim (In-append_cases before (first_slots k) x i) [
-      | inl old ↦ let c = Contains-from_in before x old in let le : x.0 ≤ place = subst (λ (z : ℕ × ℕ). z.0 ≤ place) c.2 (low c.0 x c.1) in omega (arith, le)
+  first_below before k low = λ m d lt. below (get_or (before ++ first_slots k) m d) (Contains-get_or (before ++ first_slots k) m d lt) where
+    below : (x : ℕ × ℕ) → Contains (before ++ first_slots k) x → x.0 ≤ place + k + 1
+    below x i = elim (Contains-append_cases before (first_slots k) x i) [
+      | inl old ↦ let le : x.0 ≤ place = all_in (λ (z : ℕ × ℕ). z.0 ≤ place) before x low old in omega (arith, le)
       | inr new ↦
           let m = map_cases slot_there (filter filled (range_with_len 1 k)) x new in
           let f = filter_member filled (range_with_len 1 k) m.0 m.1 in
@@ -103,13 +107,13 @@ renamed_null f (suc x) = apart (suc (f x)) (λ e. omega (arith, e)) ∙ sym (apa
 abbrev slots_by : (ℕ → ℕ) → ℕ → List ℕ → List (ℕ × ℕ)
 slots_by g p ks = map (λ k. (p + k, g k)) ks
 
-same_slots : (f g w : ℕ → ℕ) (p : ℕ) (ks : List ℕ) → ((k : ℕ) → In ks k → g k ≡ renamed f (w k))
+same_slots : (f g w : ℕ → ℕ) (p : ℕ) (ks : List ℕ) → ((k : ℕ) → Contains ks k → g k ≡ renamed f (w k))
     → slots_by g p (filter (λ k. not (eqb (g k) 0)) ks) ≡ slots_by (λ k. renamed f (w k)) p (filter (λ k. not (eqb (w k) 0)) ks)
 same_slots f g w p [] same = refl
 same_slots f g w p (k ∷ ks) same =
-    let e : g k ≡ renamed f (w k) = same k (inl refl) in
+    let e : g k ≡ renamed f (w k) = same k (zero, omega arith, refl) in
     let test : not (eqb (g k) 0) ≡ not (eqb (w k) 0) = ap (λ x. not (eqb x 0)) e ∙ ap not (renamed_null f (w k)) in
-    head e (not (eqb (g k) 0)) (not (eqb (w k) 0)) test (filter (λ k. not (eqb (g k) 0)) ks) (filter (λ k. not (eqb (w k) 0)) ks) (same_slots f g w p ks (λ j i. same j (inr i)))
+    head e (not (eqb (g k) 0)) (not (eqb (w k) 0)) test (filter (λ k. not (eqb (g k) 0)) ks) (filter (λ k. not (eqb (w k) 0)) ks) (same_slots f g w p ks (λ j i. same j (Contains-later k ks j i)))
   where
     head : g k ≡ renamed f (w k) → (b c : Bool) → b ≡ c → (ys zs : List ℕ) → slots_by g p ys ≡ slots_by (λ k. renamed f (w k)) p zs
         → slots_by g p (cond b (k ∷ ys) ys) ≡ slots_by (λ k. renamed f (w k)) p (cond c (k ∷ zs) zs)
@@ -148,13 +152,10 @@ module _ (h : Heap) (l : List ℕ) where
       ∙ ap (flat_map (moved_slots h l)) (sym (take-add i (j - i) l) ∙ ap (λ n. take n l) whole)
 
   -- a member of a stretch is one of the first
-  pub between_first : (i j : ℕ) (x : ℕ × ℕ) → i ≤ j → In (copied_between h l i j) x → In (first_copied h l j) x
-  between_first i j x le k = subst (λ ys. In ys x) (first_between i j le) (In-append_right (first_copied h l i) (copied_between h l i j) x k)
+  pub between_first : (i j : ℕ) (x : ℕ × ℕ) → i ≤ j → Contains (copied_between h l i j) x → Contains (first_copied h l j) x
+  between_first i j x le k = subst (λ ys. Contains ys x) (first_between i j le) (Contains-append_right (first_copied h l i) (copied_between h l i j) x k)
 
 module _ (h : Heap) (set l : List ℕ) (valid : IsValid h) (can : CanPlace h set l) (room : need h l ≤ length (free_regions h)) where
-  positive : 0 < h.geometry.w
-  positive = omega (arith, valid.limits.w_least)
-
   -- ---- the survivors of one run
 
   -- where the i-th survivor stands in its region
@@ -173,20 +174,20 @@ module _ (h : Heap) (set l : List ℕ) (valid : IsValid h) (can : CanPlace h set
     words = placed_words h l (get_or (free_regions h) t 0)
 
     pub in_list : i < length l
-    in_list = (stretch_lies h l positive (can_lay h set l valid can) room t there i from to).0
+    in_list = (stretch_lies h l (w_positive h valid) (can_lay h set l valid can) room t there i from to).0
 
     -- its place lies in the run's region
     pub place_there : place ≡ get_or (free_regions h) t 0 * h.geometry.w + offset i
     place_there =
         let lay = can_lay h set l valid can in
-        place_is h l positive lay room i in_list ∙ ap (λ q. get_or (free_regions h) q 0 * h.geometry.w + offset i) (stretch_lies h l positive lay room t there i from to).1
+        place_is h l (w_positive h valid) lay room i in_list ∙ ap (λ q. get_or (free_regions h) q 0 * h.geometry.w + offset i) (stretch_lies h l (w_positive h valid) lay room t there i from to).1
 
     -- and so does all of it
     pub ends_within : offset i + (object_at h survivor).size ≤ h.geometry.w
     ends_within =
         let lay = can_lay h set l valid can in
-        let f = fits h l positive lay room i in_list in
-        let s = size_is h l positive lay room i in_list in
+        let f = fits h l (w_positive h valid) lay room i in_list in
+        let s = size_is h l (w_positive h valid) lay room i in_list in
         omega (arith, f.1, s)
 
     -- its words stand there, its references renamed
@@ -199,7 +200,7 @@ module _ (h : Heap) (set l : List ℕ) (valid : IsValid h) (can : CanPlace h set
         ∙ placed_word h set l valid can room i k in_list less
 
     pub some_slots : (object_at h survivor).refs < (object_at h survivor).size
-    some_slots = survivor_slots h set l valid can room survivor (get_or-In l i 0 in_list)
+    some_slots = survivor_slots h set l valid can room survivor (Contains-get_or l i 0 in_list)
 
     -- the header tells its references
     pub refs_there : get_or words (offset i) 0 % 2 ^ 32 ≡ (object_at h survivor).refs
@@ -228,7 +229,7 @@ module _ (h : Heap) (set l : List ℕ) (valid : IsValid h) (can : CanPlace h set
         let next : offset i + k + 1 ≡ offset i + suc k = omega arith in
         let is : get_or words (offset i + k + 1) 0 ≡ renamed (forward h l) (word h (survivor + suc k)) =
         ap (λ m. get_or words m 0) next ∙ word_there (suc k) (omega (arith, less, some_slots)) ∙ renamed_slot (forward h l) h (object_at h survivor) (suc k) (omega arith) (omega (arith, less)) in
-        omega (arith, is, slot_named h set l valid can room survivor (suc k) (get_or-In l i 0 in_list) (omega arith) (omega (arith, less)))
+        omega (arith, is, slot_named h set l valid can room survivor (suc k) (Contains-get_or l i 0 in_list) (omega arith) (omega (arith, less)))
 
   -- there are no more free regions than regions
   pub need_most : need h l ≤ h.geometry.n
@@ -240,7 +241,7 @@ module _ (h : Heap) (set l : List ℕ) (valid : IsValid h) (can : CanPlace h set
 
   -- a region of to-space is one of the heap's
   pub region_below : (t : ℕ) → t < need h l → get_or (free_regions h) t 0 < h.geometry.n
-  region_below t there = (is_free_region h (get_or (free_regions h) t 0) (get_or-In (free_regions h) t 0 (omega (arith, there, room)))).1
+  region_below t there = (is_free_region h (get_or (free_regions h) t 0) (Contains-get_or (free_regions h) t 0 (omega (arith, there, room)))).1
 
   -- the words of a region end within those of to-space, which are few
   pub region_ends : (t : ℕ) → t < need h l → (t * h.geometry.w + h.geometry.w ≤ length (to_space_words h l)) × (t * h.geometry.w + h.geometry.w ≤ most_words)
@@ -280,127 +281,110 @@ pub record AreSlotsAt (h : Heap) (p : Plan) (i place : ℕ) (words : List ℕ) (
   pub lower : (b : ℕ) → b ≤ i → All (λ x. x.0 ≤ place) (copied_between h p.survivors b i)
   pub more : (b : ℕ) → b ≤ i → copied_between h p.survivors b i ++ filled_slots words at place ≡ copied_between h p.survivors b (i + 1)
 
--- a plan's places and runs
-module _ (h : Heap) (p : Plan) (made : IsPlanOf h p) where
-  pub places_are : p.places ≡ places h p.survivors
-  places_are = ap (λ (q : Plan). q.places) made.plan
+-- the survivors of a run of the plan
 
-  pub runs_are : p.runs ≡ runs h p.survivors
-  runs_are = ap (λ (q : Plan). q.runs) made.plan
+module _ (h : Heap) (p : Plan) (made : IsPlanOf h p) (valid : IsValid h) (u : Run) (one : Contains p.runs u) where
+  can : CanPlace h p.set p.survivors
+  can = made.placeable
 
-  pub runs_count : length p.runs ≡ need h p.survivors
-  runs_count = ap length runs_are ∙ length-map-range_with_len (run_at h p.survivors) 0 (need h p.survivors)
+  room : need h p.survivors ≤ length (free_regions h)
+  room = made.room
 
-  pub run_is : (t : ℕ) (d : Run) → t < need h p.survivors → get_or p.runs t d ≡ run_at h p.survivors t
-  run_is t d lt = ap (λ us. get_or us t d) runs_are ∙ get_or-map-range_with_len (run_at h p.survivors) 0 (need h p.survivors) t t d lt (omega arith)
+  there : one.0 < need h p.survivors
+  there = omega (arith, one.1, runs_count h p made)
 
-  -- ---- the survivors of a run of the plan
+  is : u ≡ run_at h p.survivors one.0
+  is = sym one.2 ∙ run_is h p made one.0 u there
 
-  module _ (valid : IsValid h) (u : Run) (one : Contains p.runs u) where
-    can : CanPlace h p.set p.survivors
-    can = made.placeable
+  -- the run's region is one of the heap's
+  pub run_region : u.region < h.geometry.n
+  run_region = let e : u.region ≡ get_or (free_regions h) one.0 0 = ap (λ (v : Run). v.region) is in omega (arith, e, region_below h p.set p.survivors valid can room one.0 there)
 
-    room : need h p.survivors ≤ length (free_regions h)
-    room = made.room
+  -- the run doesn't end before it begins
+  pub run_order : u.from ≤ u.to
+  run_order =
+      let a : u.from ≡ laid_before h p.survivors one.0 = ap (λ (v : Run). v.from) is in
+      let b : u.to ≡ laid_before h p.survivors (one.0 + 1) = ap (λ (v : Run). v.to) is in
+      omega (arith, a, b, laid_before-more h p.survivors (w_positive h valid) (can_lay h p.set p.survivors valid can) room one.0 there)
 
-    there : one.0 < need h p.survivors
-    there = omega (arith, one.1, runs_count)
+  module _ (i : ℕ) (low : u.from ≤ i) (high : i < u.to) where
+    from : laid_before h p.survivors one.0 ≤ i
+    from = let e : u.from ≡ laid_before h p.survivors one.0 = ap (λ (v : Run). v.from) is in omega (arith, e, low)
 
-    is : u ≡ run_at h p.survivors one.0
-    is = sym one.2 ∙ run_is one.0 u there
+    to : i < laid_before h p.survivors (one.0 + 1)
+    to = let e : u.to ≡ laid_before h p.survivors (one.0 + 1) = ap (λ (v : Run). v.to) is in omega (arith, e, high)
 
-    -- the run's region is one of the heap's
-    pub run_region : u.region < h.geometry.n
-    run_region = let e : u.region ≡ get_or (free_regions h) one.0 0 = ap (λ (v : Run). v.region) is in omega (arith, e, region_below h p.set p.survivors valid can room one.0 there)
+    listed : i < length p.survivors
+    listed = in_list h p.set p.survivors valid can room one.0 there i from to
 
-    -- the run doesn't end before it begins
-    pub run_order : u.from ≤ u.to
-    run_order =
-        let a : u.from ≡ laid_before h p.survivors one.0 = ap (λ (v : Run). v.from) is in
-        let b : u.to ≡ laid_before h p.survivors (one.0 + 1) = ap (λ (v : Run). v.to) is in
-        let pos : 0 < h.geometry.w = omega (arith, valid.limits.w_least) in
-        omega (arith, a, b, laid_before-more h p.survivors pos (can_lay h p.set p.survivors valid can) room one.0 there)
+    -- a heap has few words, so few survivors
+    pub index_small : i < most_words
+    index_small = omega (arith, listed, (can_lay h p.set p.survivors valid can).few)
 
-    module _ (i : ℕ) (low : u.from ≤ i) (high : i < u.to) where
-      from : laid_before h p.survivors one.0 ≤ i
-      from = let e : u.from ≡ laid_before h p.survivors one.0 = ap (λ (v : Run). v.from) is in omega (arith, e, low)
+    -- there is a place for each survivor
+    pub in_places : i < length p.places
+    in_places =
+        omega (arith, listed, ap length (places_of_plan h p made), count_places h p.survivors (w_positive h valid) (can_lay h p.set p.survivors valid can) room)
 
-      to : i < laid_before h p.survivors (one.0 + 1)
-      to = let e : u.to ≡ laid_before h p.survivors (one.0 + 1) = ap (λ (v : Run). v.to) is in omega (arith, e, high)
+    module _ (place : ℕ) (place_is : place ≡ get_or p.places i 0) where
+      stands : place ≡ u.region * h.geometry.w + offset h p.set p.survivors valid can room i
+      stands =
+          place_is ∙ ap (λ xs. get_or xs i 0) (places_of_plan h p made) ∙ place_there h p.set p.survivors valid can room one.0 there i from to
+          ∙ ap (λ (v : Run). v.region * h.geometry.w + offset h p.set p.survivors valid can room i) (sym is)
 
-      listed : i < length p.survivors
-      listed = in_list h p.set p.survivors valid can room one.0 there i from to
+      -- a place isn't below its region
+      pub not_below : u.region * h.geometry.w ≤ place
+      not_below = omega (arith, stands)
 
-      -- a heap has few words, so few survivors
-      pub index_small : i < most_words
-      index_small = omega (arith, listed, (can_lay h p.set p.survivors valid can).few)
+      module _ (words : List ℕ) (at : ℕ) (words_are : words ≡ placed_words h p.survivors u.region) (at_is : at ≡ place - u.region * h.geometry.w) where
+        at_offset : at ≡ offset h p.set p.survivors valid can room i
+        at_offset = omega (arith, at_is, stands)
 
-      -- there is a place for each survivor
-      pub in_places : i < length p.places
-      in_places =
-          let pos : 0 < h.geometry.w = omega (arith, valid.limits.w_least) in
-          omega (arith, listed, ap length places_are, count_places h p.survivors pos (can_lay h p.set p.survivors valid can) room)
+        words_there : words ≡ placed_words h p.survivors (get_or (free_regions h) one.0 0)
+        words_there = words_are ∙ ap (λ (v : Run). placed_words h p.survivors v.region) is
 
-      module _ (place : ℕ) (place_is : place ≡ get_or p.places i 0) where
-        stands : place ≡ u.region * h.geometry.w + offset h p.set p.survivors valid can room i
-        stands =
-            place_is ∙ ap (λ xs. get_or xs i 0) places_are ∙ place_there h p.set p.survivors valid can room one.0 there i from to
-            ∙ ap (λ (v : Run). v.region * h.geometry.w + offset h p.set p.survivors valid can room i) (sym is)
+        refs_are : slice_index words at % 2 ^ 32 ≡ (object_at h (get_or p.survivors i 0)).refs
+        refs_are = (λ j. slice_index (words_there j) (at_offset j) % 2 ^ 32) ∙ refs_there h p.set p.survivors valid can room one.0 there i from to
 
-        -- a place isn't below its region
-        pub not_below : u.region * h.geometry.w ≤ place
-        not_below = omega (arith, stands)
+        -- the slots stand among the words
+        slots_within : at + slice_index words at % 2 ^ 32 < length words
+        slots_within =
+            let count = ap length words_are ∙ length-placed_words h p.survivors u.region in
+            omega (arith, at_offset, refs_are, count, some_slots h p.set p.survivors valid can room one.0 there i from to, ends_within h p.set p.survivors valid can room one.0 there i from to)
 
-        module _ (words : List ℕ) (at : ℕ) (words_are : words ≡ placed_words h p.survivors u.region) (at_is : at ≡ place - u.region * h.geometry.w) where
-          at_offset : at ≡ offset h p.set p.survivors valid can room i
-          at_offset = omega (arith, at_is, stands)
+        -- and at addresses of the heap
+        slots_inside : place + slice_index words at % 2 ^ 32 < h.geometry.n * h.geometry.w
+        slots_inside =
+            let goes = place_is ∙ ap (λ xs. get_or xs i 0) (places_of_plan h p made) ∙ sym (forward_at h p.set p.survivors valid can room i listed) in
+            let ends = place_within h p.set p.survivors valid can room (get_or p.survivors i 0) (Contains-get_or p.survivors i 0 listed) in
+            let some = some_slots h p.set p.survivors valid can room one.0 there i from to in
+            omega (arith, refs_are, goes, ends, some)
 
-          words_there : words ≡ placed_words h p.survivors (get_or (free_regions h) one.0 0)
-          words_there = words_are ∙ ap (λ (v : Run). placed_words h p.survivors v.region) is
+        slots_below : place + slice_index words at % 2 ^ 32 < 2 ^ 64
+        slots_below = omega (arith, slots_inside, valid.limits.words_most)
 
-          refs_are : slice_index words at % 2 ^ 32 ≡ (object_at h (get_or p.survivors i 0)).refs
-          refs_are = (λ j. slice_index (words_there j) (at_offset j) % 2 ^ 32) ∙ refs_there h p.set p.survivors valid can room one.0 there i from to
+        -- what they name is there
+        slots_named : (k : ℕ) → k < slice_index words at % 2 ^ 32 → slice_index words (at + k + 1) ≤ h.geometry.n * h.geometry.w
+        slots_named k less =
+            let is : slice_index words (at + k + 1) ≡ slice_index (placed_words h p.survivors (get_or (free_regions h) one.0 0))
+            (offset h p.set p.survivors valid can room i + k + 1) = λ j. slice_index (words_there j) (at_offset j + k + 1) in
+            omega (arith, is, named_there h p.set p.survivors valid can room one.0 there i from to k (omega (arith, less, refs_are)))
 
-          -- the slots stand among the words
-          slots_within : at + slice_index words at % 2 ^ 32 < length words
-          slots_within =
-              let count = ap length words_are ∙ length-placed_words h p.survivors u.region in
-              omega (arith, at_offset, refs_are, count, some_slots h p.set p.survivors valid can room one.0 there i from to, ends_within h p.set p.survivors valid can room one.0 there i from to)
+        -- the slots of the survivors before this one stand below it
+        slots_lower : (b : ℕ) → b ≤ i → All (λ x. x.0 ≤ place) (copied_between h p.survivors b i)
+        slots_lower b le =
+            let goes : forward h p.survivors (get_or p.survivors i 0) ≡ place = forward_at h p.set p.survivors valid can room i listed ∙ sym (place_is ∙ ap (λ xs. get_or xs i 0) (places_of_plan h p made)) in
+            let all = subst (λ q. All (λ x. x.0 ≤ q) (first_copied h p.survivors i)) goes (slots_before h p.set p.survivors valid can room i listed) in
+            λ k d lt.
+            let x : ℕ × ℕ = get_or (copied_between h p.survivors b i) k d in
+            all_in (λ (z : ℕ × ℕ). z.0 ≤ place) (first_copied h p.survivors i) x all (between_first h p.survivors b i x le (Contains-get_or (copied_between h p.survivors b i) k d lt))
 
-          -- and at addresses of the heap
-          slots_inside : place + slice_index words at % 2 ^ 32 < h.geometry.n * h.geometry.w
-          slots_inside =
-              let goes = place_is ∙ ap (λ xs. get_or xs i 0) places_are ∙ sym (forward_at h p.set p.survivors valid can room i listed) in
-              let ends = place_within h p.set p.survivors valid can room (get_or p.survivors i 0) (get_or-In p.survivors i 0 listed) in
-              let some = some_slots h p.set p.survivors valid can room one.0 there i from to in
-              omega (arith, refs_are, goes, ends, some)
+        -- one survivor more
+        slots_more : (b : ℕ) → b ≤ i → copied_between h p.survivors b i ++ filled_slots words at place ≡ copied_between h p.survivors b (i + 1)
+        slots_more b le =
+            let goes : place ≡ get_or (places h p.survivors) i 0 = place_is ∙ ap (λ xs. get_or xs i 0) (places_of_plan h p made) in
+            (λ j. copied_between h p.survivors b i ++ filled_slots (words_there j) (at_offset j) (goes j))
+            ∙ run_more h p.set p.survivors valid can room one.0 there i from to b le
 
-          slots_below : place + slice_index words at % 2 ^ 32 < 2 ^ 64
-          slots_below = omega (arith, slots_inside, valid.limits.words_most)
-
-          -- what they name is there
-          slots_named : (k : ℕ) → k < slice_index words at % 2 ^ 32 → slice_index words (at + k + 1) ≤ h.geometry.n * h.geometry.w
-          slots_named k less =
-              let is : slice_index words (at + k + 1) ≡ slice_index (placed_words h p.survivors (get_or (free_regions h) one.0 0))
-              (offset h p.set p.survivors valid can room i + k + 1) = λ j. slice_index (words_there j) (at_offset j + k + 1) in
-              omega (arith, is, named_there h p.set p.survivors valid can room one.0 there i from to k (omega (arith, less, refs_are)))
-
-          -- the slots of the survivors before this one stand below it
-          slots_lower : (b : ℕ) → b ≤ i → All (λ x. x.0 ≤ place) (copied_between h p.survivors b i)
-          slots_lower b le =
-              let goes : forward h p.survivors (get_or p.survivors i 0) ≡ place = forward_at h p.set p.survivors valid can room i listed ∙ sym (place_is ∙ ap (λ xs. get_or xs i 0) places_are) in
-              let all = subst (λ q. All (λ x. x.0 ≤ q) (first_copied h p.survivors i)) goes (slots_before h p.set p.survivors valid can room i listed) in
-              λ k d lt.
-              let m = between_first h p.survivors b i (get_or (copied_between h p.survivors b i) k d) le (get_or-In (copied_between h p.survivors b i) k d lt) in
-              let c = Contains-from_in (first_copied h p.survivors i) (get_or (copied_between h p.survivors b i) k d) m in
-              subst (λ (z : ℕ × ℕ). z.0 ≤ place) c.2 (all c.0 (get_or (copied_between h p.survivors b i) k d) c.1)
-
-          -- one survivor more
-          slots_more : (b : ℕ) → b ≤ i → copied_between h p.survivors b i ++ filled_slots words at place ≡ copied_between h p.survivors b (i + 1)
-          slots_more b le =
-              let goes : place ≡ get_or (places h p.survivors) i 0 = place_is ∙ ap (λ xs. get_or xs i 0) places_are in
-              (λ j. copied_between h p.survivors b i ++ filled_slots (words_there j) (at_offset j) (goes j))
-              ∙ run_more h p.set p.survivors valid can room one.0 there i from to b le
-
-          pub slots_at : AreSlotsAt h p i place words at
-          slots_at = record { within = slots_within; inside = slots_inside; below = slots_below; named = slots_named; lower = slots_lower; more = slots_more }
+        pub slots_at : AreSlotsAt h p i place words at
+        slots_at = record { within = slots_within; inside = slots_inside; below = slots_below; named = slots_named; lower = slots_lower; more = slots_more }

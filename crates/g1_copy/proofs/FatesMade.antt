@@ -1,15 +1,17 @@
 -- The table of fates that is made for a plan.
-use Rattle.std.proofs.Common.{◌≡◌, ◌≢◌, ℕ, suc, ◌+◌, ◌<◌, ◌⊎◌, inl, inr, Bool, true, false, cond, ◌||◌, List, [], ◌∷◌, ◌++◌, All, AllPairs, Some, None, length, get_or, set, replicate}
+use Rattle.std.proofs.Common.{◌≡◌, ◌≢◌, ℕ, ◌+◌, ◌<◌, inl, inr, Bool, true, false, cond, ◌||◌, List, ◌++◌, All, AllPairs, Some, None, length, get_or, set, replicate, Contains}
 use Rattle.std.proofs.Common.{position, refl, sym, ◌∙◌, ap, subst, arith, eqb}
-use Rattle.std.proofs.lemmas.Bool.{cases_Bool, cases_lt, false≢true}
-use Rattle.std.proofs.lemmas.List.{get_or-replicate, get_or-set_other, get_or-set_same, length-replicate, length-set}
-use Rattle.std.proofs.lemmas.List.Folds.{list_any-append}
+use Rattle.std.proofs.lemmas.Bool.{cases_Bool, cases_lt, cases_order, false≢true}
+use Rattle.std.proofs.lemmas.List.{get_or_default, get_or-replicate, get_or-set_other, get_or-set_same, length-replicate, length-set}
+use Rattle.std.proofs.lemmas.List.Elements.{Contains-get_or}
 use Rattle.g1_layout.proofs.Conditions.{set_in_heap}
 use Rattle.g1_layout.specs.Plan.{Plan}
 use Rattle.g1_words.proofs.Firsts.{Distinct}
-use Rattle.g1_words.proofs.Indices.{get_or-In, is_free_region, taken_in}
-use Rattle.g1_words.proofs.Members.{In, has_from_in, in_from_has}
+use Rattle.g1_words.proofs.Indices.{is_free_region, taken_in}
+use Rattle.g1_words.proofs.Lists.{has_both}
+use Rattle.g1_words.proofs.Members.{has_from_contains, Contains-from_has}
 use Rattle.g1_words.proofs.NextFit.{distinct_places, free_distinct}
+use Rattle.g1_words.proofs.Sound.{w_positive}
 use Rattle.g1_words.specs.Heap.{Heap}
 use Rattle.g1_words.specs.Layout.{free_regions, need, to_space}
 use Rattle.g1_words.specs.Lists.{has}
@@ -22,16 +24,8 @@ use Rattle.g1_copy.proofs.InPlaceSlices.{Distinct-take, is_position, no_position
 
 -- numbers and lists
 
-pub eq_or : (a b : ℕ) → (a ≡ b) ⊎ ((a < b) ⊎ (b < a))
-eq_or a b = elim (cases_lt a b) [
-  | inl lt ↦ inr (inl lt)
-  | inr ge ↦ elim (cases_lt b a) [ inl lt ↦ inr (inr lt) | inr le ↦ inl (omega arith) ]
-]
-
-pub place_of : (xs : List ℕ) (x : ℕ) → In xs x → (t : ℕ) × (t < length xs) × (get_or xs t 0 ≡ x)
-place_of [] x m = absurd m
-place_of (y ∷ xs) x (inl e) = (0, omega arith, e)
-place_of (y ∷ xs) x (inr m) = let r = place_of xs x m in (suc r.0, omega (arith, r.1), r.2)
+place_of : (xs : List ℕ) (x : ℕ) → Contains xs x → (t : ℕ) × (t < length xs) × (get_or xs t 0 ≡ x)
+place_of xs x c = (c.0, c.1, get_or_default xs c.0 0 x c.1 ∙ c.2)
 
 -- the three fates
 
@@ -44,11 +38,11 @@ pub data HasFate (set to : List ℕ) (r : ℕ) : Type 0 where
 fate_at_tests : (set to : List ℕ) → Distinct to → (r : ℕ) (a b : Bool) → has set r ≡ a → has to r ≡ b → HasFate set to r
 fate_at_tests set to once r true b e f = is_freed e (λ q. cond (e q) Freed (filled_or_kept (position (λ d. eqb d r) to)))
 fate_at_tests set to once r false true e f =
-    let k = place_of to r (in_from_has to r f) in
+    let k = place_of to r (Contains-from_has to r f) in
     let p : position (λ d. eqb d r) to ≡ Some k.0 = subst (λ y. position (λ d. eqb d y) to ≡ Some k.0) k.2 (is_position to k.0 once k.1) in
     is_filled k.0 k.1 k.2 e f (λ q. cond (e q) Freed (filled_or_kept (p q)))
 fate_at_tests set to once r false false e f =
-    let p : position (λ d. eqb d r) to ≡ None = no_position to r (λ m. false≢true (sym f ∙ has_from_in to r m)) in
+    let p : position (λ d. eqb d r) to ≡ None = no_position to r (λ m. false≢true (sym f ∙ has_from_contains to r m)) in
     is_kept e f (λ q. cond (e q) Freed (filled_or_kept (p q)))
 
 pub has_fate : (set to : List ℕ) → Distinct to → (r : ℕ) → HasFate set to r
@@ -94,7 +88,7 @@ module _ (n : ℕ) (place : ℕ → ℕ) (told : ℕ → Fate) (old cur new : Li
     | inr ge ↦
         let e : n ≡ t = omega arith in
         subst (λ k. get_or new (place k) Kept ≡ told k) e replaced_here
-    | inl less ↦ elim (eq_or (place t) (place n)) [
+    | inl less ↦ elim (cases_order (place t) (place n)) [
       | inl e ↦ ap (λ k. get_or new k Kept) e ∙ replaced_here ∙ sym (agree t less e)
       | inr (inl a) ↦ replaced_off (place t) (λ e. absurd (omega (arith, e, a))) ∙ before.replaced t less
       | inr (inr a) ↦ replaced_off (place t) (λ e. absurd (omega (arith, e, a))) ∙ before.replaced t less
@@ -110,10 +104,6 @@ module _ (n : ℕ) (place : ℕ → ℕ) (told : ℕ → Fate) (old cur new : Li
   }
 
 -- regions freed beside the set
-
--- a region of two lists is one of either
-pub has_both : (xs ys : List ℕ) (r : ℕ) → has (xs ++ ys) r ≡ (has xs r || has ys r)
-has_both xs ys r = list_any-append (λ y. eqb r y) xs ys
 
 -- one of them is freed
 pub fate_freed : (set freed to : List ℕ) (r : ℕ) → has freed r ≡ true → fate_of (set ++ freed) to r ≡ Freed
@@ -135,9 +125,9 @@ pub freed_beside : (h : Heap) (set freed to : List ℕ) (one two : List Fate) �
 freed_beside h set freed to one two are new = record {
   one_each = new.size ∙ are.one_each;
   each = λ r lt. elim (cases_Bool (has freed r)) [
-    | inl t ↦ let k = place_of freed r (in_from_has freed r t) in ap (fate_at two) (sym k.2) ∙ new.replaced k.0 k.1 ∙ sym (fate_freed set freed to r t)
+    | inl t ↦ let k = place_of freed r (Contains-from_has freed r t) in ap (fate_at two) (sym k.2) ∙ new.replaced k.0 k.1 ∙ sym (fate_freed set freed to r t)
     | inr e ↦
-        new.others r (λ t less g. false≢true (sym e ∙ ap (has freed) (sym g) ∙ has_from_in freed (get_or freed t 0) (get_or-In freed t 0 less)))
+        new.others r (λ t less g. false≢true (sym e ∙ ap (has freed) (sym g) ∙ has_from_contains freed (get_or freed t 0) (Contains-get_or freed t 0 less)))
         ∙ are.each r lt ∙ sym (fate_beside set freed to r e)
   ];
 }
@@ -145,9 +135,6 @@ freed_beside h set freed to one two are new = record {
 -- what a plan tells
 
 module _ (h : Heap) (chosen : List ℕ) (p : Plan) (valid : IsValid h) (pause : IsPauseOf h chosen p) where
-  w_positive : 0 < h.geometry.w
-  w_positive = let k = valid.limits.w_least in omega arith
-
   -- the regions of the set, and those of to-space, are the heap's
   pub set_below : All (λ r. r < h.geometry.n) chosen
   set_below = subst (λ xs. All (λ r. r < h.geometry.n) xs) pause.same (set_in_heap h p.set p.survivors valid pause.made.placeable)
@@ -155,14 +142,14 @@ module _ (h : Heap) (chosen : List ℕ) (p : Plan) (valid : IsValid h) (pause : 
   pub to_space_is : p.to_space ≡ to_space h p.survivors
   to_space_is = ap (λ (q : Plan). q.to_space) pause.made.plan
 
-  to_space_free : (r : ℕ) → In (to_space h p.survivors) r → r < h.geometry.n
+  to_space_free : (r : ℕ) → Contains (to_space h p.survivors) r → r < h.geometry.n
   to_space_free r m = (is_free_region h r (taken_in (need h p.survivors) (free_regions h) r m)).1
 
   pub to_space_below : (to : List ℕ) → to ≡ p.to_space → All (λ r. r < h.geometry.n) to
-  to_space_below to e k d lt = to_space_free (get_or to k d) (subst (λ xs. In xs (get_or to k d)) (e ∙ to_space_is) (get_or-In to k d lt))
+  to_space_below to e k d lt = to_space_free (get_or to k d) (subst (λ xs. Contains xs (get_or to k d)) (e ∙ to_space_is) (Contains-get_or to k d lt))
 
   pub once : Distinct (to_space h p.survivors)
-  once = Distinct-take (need h p.survivors) (free_regions h) (free_distinct h w_positive)
+  once = Distinct-take (need h p.survivors) (free_regions h) (free_distinct h (w_positive h valid))
 
   pub to_space_distinct : (to : List ℕ) → to ≡ p.to_space → AllPairs (λ r q. r ≢ q) to
   to_space_distinct to e i j d a b same = let k = distinct_places to i j d (subst Distinct (sym (e ∙ to_space_is)) once) (omega arith) b same in omega arith
@@ -172,7 +159,7 @@ module _ (h : Heap) (chosen : List ℕ) (p : Plan) (valid : IsValid h) (pause : 
       (filled : AreReplaced (length to) (λ t. get_or to t 0) (λ t. Filled t) start one)
       (freed : AreReplaced (length chosen) (λ t. get_or chosen t 0) (λ t. Freed) one two) where
     off : (xs : List ℕ) (r : ℕ) → has xs r ≡ false → (t : ℕ) → t < length xs → get_or xs t 0 ≡ r → ⊥
-    off xs r e t lt g = false≢true (sym e ∙ ap (has xs) (sym g) ∙ has_from_in xs (get_or xs t 0) (get_or-In xs t 0 lt))
+    off xs r e t lt g = false≢true (sym e ∙ ap (has xs) (sym g) ∙ has_from_contains xs (get_or xs t 0) (Contains-get_or xs t 0 lt))
 
     to_is : to ≡ to_space h p.survivors
     to_is = same ∙ to_space_is
@@ -180,7 +167,7 @@ module _ (h : Heap) (chosen : List ℕ) (p : Plan) (valid : IsValid h) (pause : 
     each_fate : (r : ℕ) → r < h.geometry.n → fate_at two r ≡ fate_of chosen (to_space h p.survivors) r
     each_fate r lt = elim (has_fate chosen (to_space h p.survivors) once r) [
       | is_freed a f ↦
-          let k = place_of chosen r (in_from_has chosen r a) in
+          let k = place_of chosen r (Contains-from_has chosen r a) in
           ap (fate_at two) (sym k.2) ∙ freed.replaced k.0 k.1 ∙ sym f
       | is_filled t less at a b f ↦
           let here : get_or to t 0 ≡ r = ap (λ xs. get_or xs t 0) to_is ∙ at in

@@ -1,6 +1,7 @@
 -- What the words of to-space are, for every plan that is taken.
 use Rattle.std.proofs.Common.{◌≡◌, ℕ, ◌+◌, ◌-◌, ◌*◌, ◌/◌, ◌%◌, ◌<◌, ◌≤◌, ◌⊎◌, inl, inr, length, get_or, map, ◌∙◌, ap, arith}
 use Rattle.std.proofs.lemmas.List.{get_or-take}
+use Rattle.g1_words.proofs.Sound.{w_positive}
 use Rattle.g1_words.specs.Heap.{Heap, object_at, start}
 use Rattle.g1_words.specs.Layout.{forward, free_regions, laid, need, places, sizes_of}
 use Rattle.g1_words.specs.Valid.{IsValid}
@@ -9,15 +10,12 @@ use Rattle.g1_layout.proofs.Conditions.{can_lay}
 use Rattle.g1_layout.proofs.Running.{fits, needed, place_is, size_is}
 use Rattle.g1_layout.specs.Placed.{CanLay}
 use Rattle.g1_layout.specs.Plan.{Plan}
-use Rattle.g1_copy.proofs.GatheringCopies.{places_of_plan}
 use Rattle.g1_copy.proofs.GatheringWords.{get_or-to_space_words, placed_word, unplaced_word}
+use Rattle.g1_copy.proofs.Plans.{places_of_plan}
 use Rattle.g1_copy.specs.Gathered.{IsGatheredAt, size_of, start_of, to_space_words}
 use Rattle.g1_copy.specs.Plans.{IsPlanOf}
 
 module _ (h : Heap) (p : Plan) (valid : IsValid h) (made : IsPlanOf h p) where
-  some : 0 < h.geometry.w
-  some = let k = valid.limits.w_least in omega arith
-
   lay : CanLay h p.survivors
   lay = can_lay h p.set p.survivors valid made.placeable
 
@@ -31,11 +29,11 @@ module _ (h : Heap) (p : Plan) (valid : IsValid h) (made : IsPlanOf h p) where
   gathered_at i lt =
       let row : ℕ = get_or (laid h.geometry.w 0 (sizes_of h p.survivors)) i 0 in
       let t : ℕ = row / h.geometry.w in
-      let there : t < need h p.survivors = needed h p.survivors some lay made.room i lt in
-      let at : get_or p.places i 0 ≡ get_or (free_regions h) t 0 * h.geometry.w + row % h.geometry.w = place_of i ∙ place_is h p.survivors some lay made.room i lt in
+      let there : t < need h p.survivors = needed h p.survivors (w_positive h valid) lay made.room i lt in
+      let at : get_or p.places i 0 ≡ get_or (free_regions h) t 0 * h.geometry.w + row % h.geometry.w = place_of i ∙ place_is h p.survivors (w_positive h valid) lay made.room i lt in
       let b : start_of h p t ≡ get_or (free_regions h) t 0 * h.geometry.w = base t there in
-      let f = fits h p.survivors some lay made.room i lt in
-      let s = size_is h p.survivors some lay made.room i lt in
+      let f = fits h p.survivors (w_positive h valid) lay made.room i lt in
+      let s = size_is h p.survivors (w_positive h valid) lay made.room i lt in
       let low : start_of h p t ≤ get_or p.places i 0 = omega (arith, at, b) in
       let high : get_or p.places i 0 + size_of h p i ≤ start_of h p t + h.geometry.w = omega (arith, at, b, f.1, s) in (
         t,

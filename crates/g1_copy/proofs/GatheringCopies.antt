@@ -1,18 +1,18 @@
 -- How a copy is written: the words of the object first, then each slot's new word.
-use Rattle.std.proofs.Common.{◌≡◌, ℕ, suc, ◌+◌, ◌*◌, ◌/◌, ◌%◌, ◌^◌, ◌<◌, ◌≤◌, ◌⊎◌, inl, inr, Bool, true, false, List, length, get_or, set, take, drop, Contains, refl, sym, ◌∙◌, ap, subst}
+use Rattle.std.proofs.Common.{◌≡◌, ℕ, suc, ◌+◌, ◌*◌, ◌/◌, ◌%◌, ◌^◌, ◌<◌, ◌≤◌, ◌⊎◌, inl, inr, true, false, List, length, get_or, set, take, drop, Contains, refl, sym, ◌∙◌, ap, subst}
 use Rattle.std.proofs.Common.{arith, div-add-mod', mod-lt}
 use Rattle.std.proofs.Math.Nat.{mul-le-mul_right}
-use Rattle.std.proofs.lemmas.Bool.{cases_lt}
+use Rattle.std.proofs.lemmas.Bool.{cases_Bool, cases_lt}
 use Rattle.std.proofs.lemmas.List.{ext_get_or, get_or-drop, get_or-take, get_or-set_same, get_or-set_other, length-set}
 use Rattle.g1_words.specs.Geometry.{most_words}
 use Rattle.g1_words.proofs.Bounds.{object_within}
 use Rattle.g1_words.proofs.Computed.{contains_has, has_contains}
 use Rattle.g1_words.proofs.Indices.{is_free_region, taken_in}
-use Rattle.g1_words.proofs.Members.{In-from_contains, Contains-from_in, in_from_has, has_from_in}
+use Rattle.g1_words.proofs.Members.{Contains-from_has, has_from_contains}
 use Rattle.g1_words.proofs.OneToOne.{moved_stays}
-use Rattle.g1_words.proofs.Sound.{sound}
+use Rattle.g1_words.proofs.Sound.{sound, w_positive}
 use Rattle.g1_words.specs.Heap.{Heap, object_at, objects, region_of, word}
-use Rattle.g1_words.specs.Layout.{forward, free_regions, moved_to, need, places, to_space}
+use Rattle.g1_words.specs.Layout.{forward, free_regions, moved_to, need, places}
 use Rattle.g1_words.specs.Lists.{has}
 use Rattle.g1_words.specs.Valid.{IsReference, IsValid}
 use Rattle.g1_words.specs.declared.object.Object.{Object}
@@ -22,6 +22,7 @@ use Rattle.g1_layout.proofs.Stretches.{within_region}
 use Rattle.g1_layout.specs.Placed.{CanPlace}
 use Rattle.g1_layout.specs.Plan.{Plan}
 use Rattle.g1_copy.specs.Plans.{IsPlanOf}
+use Rattle.g1_copy.proofs.Plans.{places_of_plan}
 
 -- the first n slots are renamed, and the other words are as they were
 pub record Renaming (f : ℕ → ℕ) (before : List ℕ) (n : ℕ) (words : List ℕ) : Type 0 where
@@ -62,10 +63,6 @@ renamed_is_copy f h o n xs ys fits whole from count slots rest =
 
 -- ---- what is known of survivors
 
-bool_cases : (b : Bool) → (b ≡ true) ⊎ (b ≡ false)
-bool_cases true = inl refl
-bool_cases false = inr refl
-
 -- an object's words are there, its slots among them, and f renames these to words
 pub record IsThere (h : Heap) (f : ℕ → ℕ) (o : Object) : Type 0 where
   pub object : Contains (objects h) o
@@ -78,17 +75,16 @@ pub record IsThere (h : Heap) (f : ℕ → ℕ) (o : Object) : Type 0 where
 module _ (h : Heap) (set l : List ℕ) (valid : IsValid h) (can : CanPlace h set l) (room : need h l ≤ length (free_regions h)) where
   -- what lies in the heap goes to a place in the heap
   pub forward_below : (a : ℕ) → a < h.geometry.n * h.geometry.w → forward h l a < h.geometry.n * h.geometry.w
-  forward_below a lt = elim (bool_cases (has l a)) [
+  forward_below a lt = elim (cases_Bool (has l a)) [
     | inl t ↦
-        let k = within_region h set l valid can room a (Contains-from_in l a (in_from_has l a t)) in
-        let free = is_free_region h (region_of h (forward h l a)) (taken_in (need h l) (free_regions h) (region_of h (forward h l a))
-        (In-from_contains (to_space h l) (region_of h (forward h l a)) k.0)) in
+        let k = within_region h set l valid can room a (Contains-from_has l a t) in
+        let free = is_free_region h (region_of h (forward h l a)) (taken_in (need h l) (free_regions h) (region_of h (forward h l a)) k.0) in
         let parts : forward h l a / h.geometry.w * h.geometry.w + forward h l a % h.geometry.w ≡ forward h l a = div-add-mod' (forward h l a) h.geometry.w in
         let below : (forward h l a / h.geometry.w + 1) * h.geometry.w ≤ h.geometry.n * h.geometry.w = mul-le-mul_right h.geometry.w (omega (arith, free.1)) in
-        let offset : forward h l a % h.geometry.w < h.geometry.w = mod-lt (forward h l a) (omega (arith, valid.limits.w_least)) in
+        let offset : forward h l a % h.geometry.w < h.geometry.w = mod-lt (forward h l a) (w_positive h valid) in
         omega (arith, parts, below, offset)
     | inr f ↦
-        let stays : forward h l a ≡ a = moved_stays l (places h l) a (λ i. let clash : true ≡ false = sym (has_from_in l a i) ∙ f in cc) in
+        let stays : forward h l a ≡ a = moved_stays l (places h l) a (λ i. let clash : true ≡ false = sym (has_from_contains l a i) ∙ f in cc) in
         omega arith
   ]
 
@@ -120,10 +116,6 @@ module _ (h : Heap) (set l : List ℕ) (valid : IsValid h) (can : CanPlace h set
         small = fits.1;
         slots = λ k some le. reference_fits (word h (o.at + k)) (valid.slots o (o.at + k) there (omega arith, omega arith));
       }
-
--- a plan has the survivors' places
-pub places_of_plan : (h : Heap) (p : Plan) → IsPlanOf h p → p.places ≡ places h p.survivors
-places_of_plan h p made = ap (λ (p : Plan). p.places) made.plan
 
 pub plan_there : (h : Heap) (p : Plan) (o : Object) → IsValid h → IsPlanOf h p → o ≡ object_at h o.at → Contains p.survivors o.at → IsThere h (moved_to p.survivors p.places) o
 plan_there h p o valid made e c =

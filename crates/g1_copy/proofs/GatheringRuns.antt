@@ -1,30 +1,27 @@
 -- How a region of to-space is filled: survivor by survivor of its run.
 use Rattle.std.proofs.Common.{◌≡◌, ℕ, ◌+◌, ◌-◌, ◌*◌, ◌/◌, ◌%◌, ◌<◌, ◌≤◌, ◌⊎◌, inl, inr, List, ◌++◌, length, get_or, map, take, drop, replicate, refl, sym, ◌∙◌, ap, subst, arith}
-use Rattle.std.proofs.Common.{length-append, length-drop}
+use Rattle.std.proofs.Common.{Contains, length-append, length-drop}
 use Rattle.std.proofs.Math.Nat.{mul-le-mul_right}
 use Rattle.std.proofs.lemmas.Bool.{cases_lt}
 use Rattle.std.proofs.lemmas.List.{ext_get_or, get_or-append_right, get_or-drop, get_or-replicate, get_or-take, get_or_append_left, length-replicate, length-take-le}
+use Rattle.std.proofs.lemmas.List.Elements.{Contains-get_or}
 use borrow.Rule.Slice.PartMut.{put_mid}
-use Rattle.std.proofs.lemmas.List.FromFn.{get_or-map-range_with_len, length-map-range_with_len}
+use Rattle.g1_words.proofs.Sound.{w_positive}
 use Rattle.g1_words.specs.Heap.{Heap, object_at, start}
 use Rattle.g1_words.specs.Layout.{forward, free_regions, laid, need, places, sizes_of}
 use Rattle.g1_words.specs.Valid.{IsValid}
 use Rattle.g1_words.specs.Copy.{renamed_words}
 use Rattle.g1_after.specs.Made.{moved_word}
 use Rattle.g1_layout.proofs.Conditions.{can_lay}
-use Rattle.g1_layout.proofs.Running.{fits, in_stretch, only_region, place_is, place_region, size_is, stretch_lies}
+use Rattle.g1_layout.proofs.Running.{count_places, fits, in_stretch, only_region, place_is, place_region, size_is, stretch_lies}
 use Rattle.g1_layout.specs.Placed.{CanPlace}
-use Rattle.g1_layout.specs.Plan.{laid_before, run_at}
-use Rattle.g1_copy.proofs.GatheringCopies.{IsThere, places_of_plan, survivor_there}
+use Rattle.g1_layout.specs.Plan.{Plan, laid_before, run_at}
+use Rattle.g1_layout.specs.declared.plan.Run.{Run}
+use Rattle.g1_copy.proofs.GatheringCopies.{IsThere, survivor_there}
 use Rattle.g1_copy.proofs.GatheringWords.{get_or-placed_words, length-placed_words, placed_word, unplaced_word}
+use Rattle.g1_copy.proofs.Plans.{places_of_plan}
 use Rattle.g1_copy.specs.Gathered.{placed_words}
 use Rattle.g1_copy.specs.Plans.{IsPlanOf}
-use Rattle.g1_layout.specs.Plan.{Plan}
-use Rattle.g1_layout.specs.declared.plan.Run.{Run}
-use Rattle.g1_words.proofs.Indices.{get_or-In}
-use Rattle.g1_words.proofs.Members.{Contains-from_in}
-use Rattle.g1_layout.proofs.Running.{count_places}
-use Rattle.std.proofs.Common.{Contains}
 
 -- ---- a part of a list written over
 
@@ -75,9 +72,6 @@ Filling-start h l r from words e = record {
 }
 
 module _ (h : Heap) (set l : List ℕ) (valid : IsValid h) (can : CanPlace h set l) (room : need h l ≤ length (free_regions h)) (t : ℕ) (there : t < need h l) where
-  positive : 0 < h.geometry.w
-  positive = let k = valid.limits.w_least in omega arith
-
   abbrev region : ℕ
   region = get_or (free_regions h) t 0
 
@@ -91,19 +85,21 @@ module _ (h : Heap) (set l : List ℕ) (valid : IsValid h) (can : CanPlace h set
   place_parts : (k : ℕ) → k < length l → (q : ℕ) × (q ≡ place k / h.geometry.w) × (q * h.geometry.w ≤ place k) × (place k + width k ≤ q * h.geometry.w + h.geometry.w) × (0 < width k)
   place_parts k lt =
       let lay = can_lay h set l valid can in
+      let pos = w_positive h valid in
       let row : ℕ = get_or (laid h.geometry.w 0 (sizes_of h l)) k 0 in
-      let at : place k ≡ get_or (free_regions h) (row / h.geometry.w) 0 * h.geometry.w + row % h.geometry.w = place_is h l positive lay room k lt in
-      let f = fits h l positive lay room k lt in
-      let s = size_is h l positive lay room k lt in
-      (get_or (free_regions h) (row / h.geometry.w) 0, sym (place_region h l positive lay room k lt), omega arith, omega (arith, f.1), omega (arith, f.0))
+      let at : place k ≡ get_or (free_regions h) (row / h.geometry.w) 0 * h.geometry.w + row % h.geometry.w = place_is h l pos lay room k lt in
+      let f = fits h l pos lay room k lt in
+      let s = size_is h l pos lay room k lt in
+      (get_or (free_regions h) (row / h.geometry.w) 0, sym (place_region h l pos lay room k lt), omega arith, omega (arith, f.1), omega (arith, f.0))
 
   -- a survivor of the run stands in its region
   pub run_member : (k : ℕ) → laid_before h l t ≤ k → k < laid_before h l (t + 1) → (k < length l) × (start h region ≤ place k) × (place k + width k ≤ start h region + h.geometry.w) × (0 < width k)
   run_member k ge less =
       let lay = can_lay h set l valid can in
-      let s = stretch_lies h l positive lay room t there k ge less in
+      let pos = w_positive h valid in
+      let s = stretch_lies h l pos lay room t there k ge less in
       let p = place_parts k s.0 in
-      let here : place k / h.geometry.w ≡ region = place_region h l positive lay room k s.0 ∙ ap (λ q. get_or (free_regions h) q 0) s.1 in
+      let here : place k / h.geometry.w ≡ region = place_region h l pos lay room k s.0 ∙ ap (λ q. get_or (free_regions h) q 0) s.1 in
       let same : p.0 * h.geometry.w ≡ region * h.geometry.w = ap (λ q. q * h.geometry.w) (p.1 ∙ here) in
       (s.0, omega (arith, same, p.2), omega (arith, same, p.3), p.4)
 
@@ -111,6 +107,7 @@ module _ (h : Heap) (set l : List ℕ) (valid : IsValid h) (can : CanPlace h set
   pub run_other : (k m : ℕ) → k < length l → (k < laid_before h l t) ⊎ (laid_before h l (t + 1) ≤ k) → m < h.geometry.w → IsOff h l k (start h region + m)
   run_other k m lt off less =
       let lay = can_lay h set l valid can in
+      let pos = w_positive h valid in
       let p = place_parts k lt in
       elim (cases_lt p.0 region) [
         | inl low ↦ let b : (p.0 + 1) * h.geometry.w ≤ region * h.geometry.w = mul-le-mul_right h.geometry.w (omega arith) in inr (omega (arith, p.3))
@@ -118,7 +115,7 @@ module _ (h : Heap) (set l : List ℕ) (valid : IsValid h) (can : CanPlace h set
           | inl high ↦ let b : (region + 1) * h.geometry.w ≤ p.0 * h.geometry.w = mul-le-mul_right h.geometry.w (omega arith) in inl (omega (arith, p.2))
           | inr le ↦
               let same : p.0 ≡ region = omega arith in
-              let i = in_stretch h l positive lay room t there k lt (only_region h l positive lay room k t lt there (sym p.1 ∙ same)) in
+              let i = in_stretch h l pos lay room t there k lt (only_region h l pos lay room k t lt there (sym p.1 ∙ same)) in
               absurd (elim off [ inl before ↦ omega (arith, i.0) | inr after ↦ omega (arith, i.1) ])
         ]
       ]
@@ -201,11 +198,10 @@ module _ (h : Heap) (p : Plan) (valid : IsValid h) (made : IsPlanOf h p) (u : Ru
       let m = run_member h p.set l valid made.placeable made.room t run.1 i (omega arith) (omega arith) in
       let at : get_or p.places i 0 ≡ get_or (places h l) i 0 = ap (λ ps. get_or ps i 0) (places_of_plan h p made) in
       let lay = can_lay h p.set l valid made.placeable in
-      let w = valid.limits.w_least in
-      let one : Contains l (get_or l i 0) = Contains-from_in l (get_or l i 0) (get_or-In l i 0 m.0) in
+      let one : Contains l (get_or l i 0) = Contains-get_or l i 0 m.0 in
       record {
         index = m.0;
-        one_each = ap length (places_of_plan h p made) ∙ count_places h l (omega arith) lay made.room;
+        one_each = ap length (places_of_plan h p made) ∙ count_places h l (w_positive h valid) lay made.room;
         survivor = one;
         object = survivor_there h p.set l valid made.placeable made.room (object_at h (get_or l i 0)) refl one;
         low = omega (arith, m.1, at, base);
@@ -235,12 +231,3 @@ module _ (h : Heap) (p : Plan) (valid : IsValid h) (made : IsPlanOf h p) (u : Ru
       Filling-end h p.set l valid made.placeable made.room t run.1 i words (omega arith)
       (subst (λ n. Filling h l (get_or (free_regions h) t 0) n i words) from (subst (λ r. Filling h l r u.from i words) region f))
       ∙ ap (placed_words h l) (sym region)
-
--- ---- the runs of a plan
-
-module _ (h : Heap) (p : Plan) (made : IsPlanOf h p) where
-  pub count_runs : length p.runs ≡ need h p.survivors
-  count_runs = ap (λ (p : Plan). length p.runs) made.plan ∙ length-map-range_with_len (run_at h p.survivors) 0 (need h p.survivors)
-
-  pub run_read : (t : ℕ) (d : Run) → t < need h p.survivors → get_or p.runs t d ≡ run_at h p.survivors t
-  run_read t d lt = ap (λ (p : Plan). get_or p.runs t d) made.plan ∙ get_or-map-range_with_len (run_at h p.survivors) 0 (need h p.survivors) t t d lt (omega arith)

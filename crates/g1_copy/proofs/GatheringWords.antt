@@ -1,23 +1,24 @@
 -- The words of to-space: those of the survivor that takes them, and 0 where none does.
-use Rattle.std.proofs.Common.{◌≡◌, ◌≢◌, ℕ, zero, suc, ◌+◌, ◌-◌, ◌*◌, ◌<◌, ◌≤◌, ◌⊎◌, inl, inr, Bool, true, false, cond, ◌&&◌, List, [], ◌∷◌, length, get_or, map, flat_map, take, zip}
-use Rattle.std.proofs.Common.{AllPairs, refl, sym, ◌∙◌, ap, subst, arith, leb, ltb, leb-true, ltb-true, le-leb, lt-ltb, eqb, eq-eqb, ne_eqb, length-append}
+use Rattle.std.proofs.Common.{◌≡◌, ℕ, zero, suc, ◌+◌, ◌-◌, ◌*◌, ◌<◌, ◌≤◌, ◌⊎◌, inl, inr, Bool, true, false, cond, ◌&&◌, List, [], ◌∷◌, length, get_or, map, flat_map, take, zip, Contains}
+use Rattle.std.proofs.Common.{refl, sym, ◌∙◌, ap, subst, arith, leb, ltb, leb-true, ltb-true, le-leb, lt-ltb, length-append}
 use Rattle.std.proofs.lemmas.Bool.{cases_lt}
 use Rattle.std.proofs.Math.Nat.{suc-mul, zero-mul}
 use Rattle.std.proofs.lemmas.List.{get_or_default, get_or-take, length-take-le}
 use Rattle.std.proofs.lemmas.List.Concat.{get_or-flat_map}
 use Rattle.std.proofs.lemmas.List.FromFn.{get_or-map-range_with_len, length-map-range_with_len}
 use Rattle.std.proofs.lemmas.Slice.Zip.{get_or-zip, length-zip}
-use Rattle.g1_words.proofs.Indices.{get_or-In}
-use Rattle.g1_words.proofs.Members.{In, Contains-from_in, In-map, and_true, map_cases}
+use Rattle.std.proofs.lemmas.List.Elements.{Contains-get_or}
+use Rattle.g1_words.proofs.Members.{Contains-first, Contains-later, Contains-map, and_true, map_cases, none_contains}
+use Rattle.g1_words.proofs.Sound.{w_positive}
 use Rattle.g1_words.specs.Heap.{Heap, object_at, start}
-use Rattle.g1_words.specs.Layout.{forward, free_regions, moved_to, need, places, sizes_of, to_space}
+use Rattle.g1_words.specs.Layout.{forward, free_regions, need, places, sizes_of, to_space}
 use Rattle.g1_words.specs.Valid.{IsValid}
 use Rattle.g1_words.specs.declared.object.Object.{Object}
 use Rattle.g1_words.specs.Copy.{renamed_words}
 use Rattle.g1_after.specs.Made.{moved_word}
 use Rattle.g1_layout.proofs.Conditions.{can_lay}
 use Rattle.g1_layout.proofs.Running.{count_places, count_sizes, size_is}
-use Rattle.g1_layout.proofs.Stretches.{places_rise}
+use Rattle.g1_layout.proofs.Stretches.{forward_at, places_rise}
 use Rattle.g1_layout.specs.Placed.{CanPlace}
 use Rattle.g1_copy.specs.Gathered.{placed_words, to_space_words}
 
@@ -28,15 +29,15 @@ abbrev pub Takes : (ℕ → ℕ) → Object → ℕ → Type 0
 Takes f o q = (f o.at ≤ q) × (q < f o.at + o.size)
 
 module _ (f : ℕ → ℕ) (h : Heap) (q : ℕ) where
-  hit_at : (p o : Object) (os : List Object) (b : Bool) → (leb (f p.at) q && ltb q (f p.at + p.size)) ≡ b → In (p ∷ os) o → Takes f o q → (Takes f p q → p ≡ o)
-      → (In os o → moved_word f h os q ≡ get_or (renamed_words f h o) (q - f o.at) 0)
+  hit_at : (p o : Object) (os : List Object) (b : Bool) → (leb (f p.at) q && ltb q (f p.at + p.size)) ≡ b → Contains (p ∷ os) o → Takes f o q → (Takes f p q → p ≡ o)
+      → (Contains os o → moved_word f h os q ≡ get_or (renamed_words f h o) (q - f o.at) 0)
       → cond b (get_or (renamed_words f h p) (q - f p.at) 0) (moved_word f h os q) ≡ get_or (renamed_words f h o) (q - f o.at) 0
   hit_at p o os true e i t one rest =
       let both = and_true (leb (f p.at) q) (ltb q (f p.at + p.size)) e in
       let same : p ≡ o = one (leb-true (f p.at) q both.0, ltb-true q (f p.at + p.size) both.1) in
       λ k. get_or (renamed_words f h (same k)) (q - f (same k).at) 0
-  hit_at p o os false e (inr i) t one rest = rest i
-  hit_at p o os false e (inl same) t one rest =
+  hit_at p o os false e (suc k, b, eq) t one rest = rest (k, omega (arith, b), eq)
+  hit_at p o os false e (zero, lt, same) t one rest =
       let low : f p.at ≤ q = subst (λ (x : Object). f x.at ≤ q) (sym same) t.0 in
       let high : q < f p.at + p.size = subst (λ (x : Object). q < f x.at + x.size) (sym same) t.1 in
       let a : leb (f p.at) q ≡ true = le-leb (f p.at) q low in
@@ -45,11 +46,11 @@ module _ (f : ℕ → ℕ) (h : Heap) (q : ℕ) where
       cc
 
   -- a word that one object takes, and no other
-  pub moved_word_hit : (os : List Object) (o : Object) → In os o → Takes f o q → ((p : Object) → In os p → Takes f p q → p ≡ o)
+  pub moved_word_hit : (os : List Object) (o : Object) → Contains os o → Takes f o q → ((p : Object) → Contains os p → Takes f p q → p ≡ o)
       → moved_word f h os q ≡ get_or (renamed_words f h o) (q - f o.at) 0
-  moved_word_hit [] o i t one = absurd i
+  moved_word_hit [] o i t one = absurd (none_contains o i)
   moved_word_hit (p ∷ os) o i t one =
-      hit_at p o os (leb (f p.at) q && ltb q (f p.at + p.size)) refl i t (one p (inl refl)) (λ j. moved_word_hit os o j t (λ x k. one x (inr k)))
+      hit_at p o os (leb (f p.at) q && ltb q (f p.at + p.size)) refl i t (one p (Contains-first p os)) (λ j. moved_word_hit os o j t (λ x k. one x (Contains-later p os x k)))
 
   miss_at : (p : Object) (os : List Object) (b : Bool) → (leb (f p.at) q && ltb q (f p.at + p.size)) ≡ b → (Takes f p q → ⊥) → moved_word f h os q ≡ 0
       → cond b (get_or (renamed_words f h p) (q - f p.at) 0) (moved_word f h os q) ≡ 0
@@ -59,26 +60,14 @@ module _ (f : ℕ → ℕ) (h : Heap) (q : ℕ) where
   miss_at p os false e off rest = rest
 
   -- a word that no object takes
-  pub moved_word_miss : (os : List Object) → ((p : Object) → In os p → Takes f p q → ⊥) → moved_word f h os q ≡ 0
+  pub moved_word_miss : (os : List Object) → ((p : Object) → Contains os p → Takes f p q → ⊥) → moved_word f h os q ≡ 0
   moved_word_miss [] off = refl
   moved_word_miss (p ∷ os) off =
-      miss_at p os (leb (f p.at) q && ltb q (f p.at + p.size)) refl (off p (inl refl)) (moved_word_miss os (λ x k. off x (inr k)))
+      miss_at p os (leb (f p.at) q && ltb q (f p.at + p.size)) refl (off p (Contains-first p os)) (moved_word_miss os (λ x k. off x (Contains-later p os x k)))
 
 -- ---- the survivors by their index
 
--- the place of the k-th survivor
-moved_at : (l ps : List ℕ) (k : ℕ) → k < length l → length ps ≡ length l → AllPairs (λ a b. a ≢ b) l → moved_to l ps (get_or l k 0) ≡ get_or ps k 0
-moved_at [] ps k lt e d = absurd (omega arith)
-moved_at (x ∷ l) [] k lt e d = absurd (omega arith)
-moved_at (x ∷ l) (p ∷ ps) zero lt e d = let q : eqb x x ≡ true = eq-eqb x x refl in λ t. cond (q t) p (moved_to l ps x)
-moved_at (x ∷ l) (p ∷ ps) (suc k) lt e d =
-    let q : eqb x (get_or l k 0) ≡ false = ne_eqb x (get_or l k 0) (d 0 (suc k) 0 (omega arith) (omega arith)) in
-    (λ t. cond (q t) p (moved_to l ps (get_or l k 0))) ∙ moved_at l ps k (omega arith) (omega arith) (λ i j z less len. d (suc i) (suc j) z (omega arith) (omega arith))
-
 module _ (h : Heap) (set l : List ℕ) (valid : IsValid h) (can : CanPlace h set l) (room : need h l ≤ length (free_regions h)) where
-  positive : 0 < h.geometry.w
-  positive = let k = valid.limits.w_least in omega arith
-
   abbrev pub survivor : ℕ → ℕ
   survivor i = get_or l i 0
 
@@ -88,20 +77,17 @@ module _ (h : Heap) (set l : List ℕ) (valid : IsValid h) (can : CanPlace h set
   abbrev pub width : ℕ → ℕ
   width i = (object_at h (get_or l i 0)).size
 
-  pub forward_at : (i : ℕ) → i < length l → forward h l (survivor i) ≡ place i
-  forward_at i lt = moved_at l (places h l) i lt (count_places h l positive (can_lay h set l valid can) room) can.distinct
-
   -- each survivor ends before the next one's place
   pub places_apart : (i j : ℕ) → i < j → j < length l → place i + width i ≤ place j
   places_apart i j less lt =
       let lay = can_lay h set l valid can in
-      let a = count_places h l positive lay room in
-      let b = count_sizes h l positive lay room in
+      let a = count_places h l (w_positive h valid) lay room in
+      let b = count_sizes h l (w_positive h valid) lay room in
       let n = length-zip (places h l) (sizes_of h l) in
       let p = places_rise h set l valid can room i j (0, 0) less (omega arith) in
       let x = get_or-zip (places h l) (sizes_of h l) i (0, 0) (omega arith) (omega arith) in
       let y = get_or-zip (places h l) (sizes_of h l) j (0, 0) (omega arith) (omega arith) in
-      let s : get_or (sizes_of h l) i 0 ≡ width i = size_is h l positive lay room i (omega arith) in
+      let s : get_or (sizes_of h l) i 0 ≡ width i = size_is h l (w_positive h valid) lay room i (omega arith) in
       let first : (get_or (zip (places h l) (sizes_of h l)) i (0, 0)).0 + (get_or (zip (places h l) (sizes_of h l)) i (0, 0)).1 ≡ place i + width i =
       (λ t. (x t).0 + (x t).1) ∙ ap (λ z. place i + z) s in
       let second : (get_or (zip (places h l) (sizes_of h l)) j (0, 0)).0 ≡ place j = λ t. (y t).0 in
@@ -118,15 +104,15 @@ module _ (h : Heap) (set l : List ℕ) (valid : IsValid h) (can : CanPlace h set
   ]
 
   -- a survivor by its index
-  by_index : (p : Object) → In (map (object_at h) l) p → (i : ℕ) × (i < length l) × (object_at h (survivor i) ≡ p)
+  by_index : (p : Object) → Contains (map (object_at h) l) p → (i : ℕ) × (i < length l) × (object_at h (survivor i) ≡ p)
   by_index p k =
       let m = map_cases (object_at h) l p k in
-      let c = Contains-from_in l m.0 m.1 in
+      let c = m.1 in
       (c.0, c.1, ap (object_at h) (sym (get_or_default l c.0 m.0 0 c.1) ∙ c.2) ∙ m.2)
 
   takes_by_index : (p : Object) (i q : ℕ) → i < length l → object_at h (survivor i) ≡ p → Takes (forward h l) p q → (place i ≤ q) × (q < place i + width i)
   takes_by_index p i q lt e t =
-      let to = forward_at i lt in
+      let to = forward_at h set l valid can room i lt in
       let x : Takes (forward h l) (object_at h (survivor i)) q = subst (λ o. Takes (forward h l) o q) (sym e) t in
       (omega (arith, x.0), omega (arith, x.1))
 
@@ -135,8 +121,8 @@ module _ (h : Heap) (set l : List ℕ) (valid : IsValid h) (can : CanPlace h set
       → moved_word (forward h l) h (map (object_at h) l) (place i + k) ≡ get_or (renamed_words (forward h l) h (object_at h (survivor i))) k 0
   placed_word i k lt less =
       let o : Object = object_at h (survivor i) in
-      let to = forward_at i lt in
-      let here : In (map (object_at h) l) o = In-map (object_at h) l (survivor i) (get_or-In l i 0 lt) in
+      let to = forward_at h set l valid can room i lt in
+      let here : Contains (map (object_at h) l) o = Contains-map (object_at h) l (survivor i) (Contains-get_or l i 0 lt) in
       let index : place i + k - forward h l (survivor i) ≡ k = omega arith in
       moved_word_hit (forward h l) h (place i + k) (map (object_at h) l) o here (omega arith, omega arith)
       (λ p m t.

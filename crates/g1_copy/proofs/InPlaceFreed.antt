@@ -1,5 +1,5 @@
 -- The words that a commit writes in place where further regions are cleared.
-use Rattle.std.proofs.Common.{◌≡◌, ℕ, ◌+◌, ◌*◌, ◌/◌, ◌<◌, ◌≤◌, inl, inr, cond, List, ◌++◌, length, get_or, replicate, flat_map, sym, ◌∙◌, ap, arith}
+use Rattle.std.proofs.Common.{◌≡◌, ℕ, ◌+◌, ◌*◌, ◌/◌, ◌<◌, inl, inr, cond, List, ◌++◌, length, get_or, replicate, flat_map, sym, ◌∙◌, ap, arith}
 use Rattle.std.specs.List.{range_with_len}
 use Rattle.std.proofs.lemmas.Bool.{cases_Bool}
 use Rattle.std.proofs.lemmas.Nat.{div-mul-add}
@@ -7,24 +7,22 @@ use Rattle.std.proofs.Math.Nat.{mul-div_left}
 use Rattle.std.proofs.lemmas.List.{ext_get_or, get_or-replicate, length-replicate}
 use Rattle.std.proofs.lemmas.List.FromFn.{get_or-map-range_with_len, length-map-range_with_len}
 use Rattle.g1_words.specs.Heap.{word}
-use Rattle.g1_words.specs.Layout.{free_regions, need, to_space}
+use Rattle.g1_words.specs.Layout.{to_space}
 use Rattle.g1_words.specs.Lists.{has}
-use Rattle.g1_words.specs.Survivors.{AllOrdinary, Survivors, in_set}
-use Rattle.g1_words.proofs.Shapes.{IsBuilt}
-use Rattle.g1_words.proofs.Standing.{w_pos}
+use Rattle.g1_words.specs.Survivors.{in_set}
 use Rattle.g1_image.specs.Image.{Image}
 use Rattle.g1_after.specs.Made.{image_moved, image_paused}
 use Rattle.g1_after.specs.Unnamed.{unnamed_regions}
-use Rattle.g1_after.proofs.Existence.{made_is_moved}
 use Rattle.g1_work.proofs.Slices.{get_or-slice_of, length-slice_of, next_slice, slices_from}
 use Rattle.g1_work.specs.Regions.{slice_of}
 use Rattle.g1_copy.specs.Gathered.{to_space_words}
 use Rattle.g1_copy.specs.Patches.{all_patches}
 use Rattle.g1_copy.specs.Slices.{by_fate, slice_after, words_after}
 use Rattle.g1_copy.proofs.FatesMade.{fate_beside, fate_freed}
+use Rattle.g1_copy.proofs.Ground.{Ground}
 use Rattle.g1_copy.proofs.InPlace.{each_slice}
 
-module _ (i : Image) (set l : List ℕ) (valid : IsBuilt i.heap) (ordinary : AllOrdinary i.heap set) (survivors : Survivors i.heap set l) (room : need i.heap l ≤ length (free_regions i.heap)) where
+module _ (i : Image) (set l : List ℕ) (g : Ground i set l) where
   abbrev j : Image
   j = image_moved i set l
 
@@ -49,7 +47,7 @@ module _ (i : Image) (set l : List ℕ) (valid : IsBuilt i.heap) (ordinary : All
   words_size = length-map-range_with_len new_word 0 (n * w)
 
   moved_size : length j.heap.words ≡ n * w
-  moved_size = (made_is_moved i set l valid ordinary survivors room).size
+  moved_size = g.moved.size
 
   -- a word of region r
   word_there : (r m : ℕ) → r < n → m < w → get_or words (r * w + m) 0 ≡ cond (has freed r) 0 (word j.heap (r * w + m))
@@ -79,13 +77,13 @@ module _ (i : Image) (set l : List ℕ) (valid : IsBuilt i.heap) (ordinary : All
         (λ m less.
         let below : m < w = omega (arith, less, slice_size r lt) in
         get_or-slice_of w r m words below ∙ word_there r m lt below ∙ ap (λ b. cond b 0 (word j.heap (r * w + m))) e ∙ sym (get_or-slice_of w r m j.heap.words below))
-        ∙ each_slice i set l valid ordinary survivors room r lt
+        ∙ each_slice i set l g r lt
         ∙ ap (λ x. by_fate w (to_space_words i.heap l) (all_patches i.heap set l) r x (slice_of w r i.heap.words)) (sym (fate_beside set freed (to_space i.heap l) r e))
   ]
 
   -- the words afterwards are what the commit writes
   pub words_paused : words_after w (set ++ freed) (to_space i.heap l) (to_space_words i.heap l) (all_patches i.heap set l) i.heap.words ≡ words
   words_paused =
-      let count : length i.heap.words / w ≡ n = ap (λ y. y / w) valid.word_count ∙ mul-div_left n (w_pos i.heap valid) in
+      let count : length i.heap.words / w ≡ n = ap (λ y. y / w) g.built.word_count ∙ mul-div_left n g.sound.w_positive in
       ap (λ y. flat_map (after (set ++ freed)) (range_with_len 0 y)) count
       ∙ sym (slices_from (after (set ++ freed)) w n 0 words words_size (λ k lt. let z : 0 + k ≡ k = omega arith in each_left k lt ∙ ap (after (set ++ freed)) (sym z)))

@@ -1,14 +1,15 @@
 -- What patches leave in a slice, where in a list a number stands, and lists that are put together of slices.
-use Rattle.std.proofs.Common.{◌≡◌, ℕ, zero, suc, ◌+◌, ◌-◌, ◌*◌, ◌<◌, ◌≤◌, ◌⊎◌, inl, inr, Bool, true, false, cond, not, List, [], ◌∷◌, ◌++◌, Some, None, length, get_or, take, drop, set}
+use Rattle.std.proofs.Common.{◌≡◌, ℕ, zero, suc, ◌+◌, ◌-◌, ◌*◌, ◌<◌, ◌≤◌, ◌⊎◌, inl, inr, Bool, true, false, cond, not, List, [], ◌∷◌, ◌++◌, Some, None, length, get_or, take, drop, set, Contains}
 use Rattle.std.proofs.Common.{position, flat_map, refl, sym, ◌∙◌, ap, subst, arith, leb, ltb, leb-true, le-leb, lt-ltb, le-ltb, eqb, eq-eqb, ne_eqb, length-drop, length-append, length-take}
 use Rattle.std.specs.List.{position_or_len}
 use Rattle.std.proofs.lemmas.Bool.{cases_lt, false≢true}
 use Rattle.std.proofs.Math.Nat.{zero-mul, suc-mul}
 use Rattle.std.proofs.Math.Seq.{drop-append_seam, take-append_seam}
 use Rattle.std.proofs.lemmas.List.{drop_more, get_or_default, set_past, get_or-take, get_or-drop, get_or-set_same, get_or-set_other, length-set, length-take-le, take-append-drop, drop-drop}
+use Rattle.std.proofs.lemmas.List.Elements.{Contains-get_or}
 use Rattle.g1_words.proofs.Firsts.{Distinct}
-use Rattle.g1_words.proofs.Indices.{get_or-In, taken_in}
-use Rattle.g1_words.proofs.Members.{In}
+use Rattle.g1_words.proofs.Indices.{taken_in}
+use Rattle.g1_words.proofs.Members.{Contains-later, none_contains}
 use Rattle.g1_work.proofs.Slices.{slice_next}
 use Rattle.g1_work.specs.Regions.{slice_of}
 use Rattle.g1_copy.specs.Patches.{AreBefore}
@@ -21,15 +22,15 @@ position_found [] t d lt = absurd (omega arith)
 position_found (x ∷ xs) zero d lt = let e : eqb x x ≡ true = eq-eqb x x refl in λ q. cond (not (e q)) (1 + position_or_len (λ d. eqb d x) xs) 0
 position_found (x ∷ xs) (suc t) d lt =
     let y : ℕ = get_or xs t 0 in
-    let e : eqb x y ≡ false = ne_eqb x y (λ g. d.0 (subst (λ z. In xs z) (sym g) (get_or-In xs t 0 (omega arith)))) in
+    let e : eqb x y ≡ false = ne_eqb x y (λ g. d.0 (subst (λ z. Contains xs z) (sym g) (Contains-get_or xs t 0 (omega arith)))) in
     let k = position_found xs t d.1 (omega arith) in
     (λ q. cond (not (e q)) (1 + position_or_len (λ d. eqb d y) xs) 0) ∙ omega arith
 
-pub position_missed : (xs : List ℕ) (r : ℕ) → (In xs r → ⊥) → position_or_len (λ d. eqb d r) xs ≡ length xs
+pub position_missed : (xs : List ℕ) (r : ℕ) → (Contains xs r → ⊥) → position_or_len (λ d. eqb d r) xs ≡ length xs
 position_missed [] r f = refl
 position_missed (x ∷ xs) r f =
-    let e : eqb x r ≡ false = ne_eqb x r (λ g. f (inl g)) in
-    let k = position_missed xs r (λ m. f (inr m)) in
+    let e : eqb x r ≡ false = ne_eqb x r (λ g. f (zero, omega arith, g)) in
+    let k = position_missed xs r (λ m. f (Contains-later x xs r m)) in
     (λ q. cond (not (e q)) (1 + position_or_len (λ d. eqb d r) xs) 0) ∙ omega arith
 
 pub is_position : (xs : List ℕ) (t : ℕ) → Distinct xs → t < length xs → position (λ d. eqb d (get_or xs t 0)) xs ≡ Some t
@@ -38,7 +39,7 @@ is_position xs t d lt =
     let b : ltb t (length xs) ≡ true = lt-ltb t (length xs) lt in
     (λ q. cond (ltb (e q) (length xs)) (Some (e q)) None) ∙ (λ q. cond (b q) (Some t) None)
 
-pub no_position : (xs : List ℕ) (r : ℕ) → (In xs r → ⊥) → position (λ d. eqb d r) xs ≡ None
+pub no_position : (xs : List ℕ) (r : ℕ) → (Contains xs r → ⊥) → position (λ d. eqb d r) xs ≡ None
 no_position xs r f =
     let e = position_missed xs r f in
     let b : ltb (length xs) (length xs) ≡ false = le-ltb (length xs) (length xs) (omega arith) in
@@ -47,14 +48,14 @@ no_position xs r f =
 -- patches
 
 pub patched_at : (p v base k x : ℕ) (xs : List ℕ) (ps : List (ℕ × ℕ)) (b : Bool) → leb base p ≡ b → k < length xs → (p ≡ base + k → v ≡ x)
-    → (get_or xs k 0 ≡ x) ⊎ In ((p, v) ∷ ps) (base + k, x)
-    → (get_or (cond b (set xs (p - base) v) xs) k 0 ≡ x) ⊎ In ps (base + k, x)
-patched_at p v base k x xs ps b e lt f (inr (inr m)) = inr m
-patched_at p v base k x xs ps true e lt f (inr (inl m)) =
+    → (get_or xs k 0 ≡ x) ⊎ Contains ((p, v) ∷ ps) (base + k, x)
+    → (get_or (cond b (set xs (p - base) v) xs) k 0 ≡ x) ⊎ Contains ps (base + k, x)
+patched_at p v base k x xs ps b e lt f (inr (suc j, less, m)) = inr (j, omega (arith, less), m)
+patched_at p v base k x xs ps true e lt f (inr (zero, less, m)) =
     let a : p ≡ base + k = ap (λ (z : ℕ × ℕ). z.0) m in
     let c : p - base ≡ k = omega arith in
     inl ((λ q. get_or (set xs (c q) v) k 0) ∙ get_or-set_same xs k v 0 lt ∙ f a)
-patched_at p v base k x xs ps false e lt f (inr (inl m)) =
+patched_at p v base k x xs ps false e lt f (inr (zero, less, m)) =
     let a : p ≡ base + k = ap (λ (z : ℕ × ℕ). z.0) m in
     absurd (false≢true (sym e ∙ le-leb base p (omega arith)))
 patched_at p v base k x xs ps false e lt f (inl g) = inl g
@@ -77,14 +78,14 @@ length-patched [] base xs = refl
 length-patched (x ∷ ps) base xs = length-patched ps base (cond (leb base x.0) (set xs (x.0 - base) x.1) xs) ∙ length_at x.0 x.1 base xs (leb base x.0)
 
 -- the word at k: where each patch there writes x, and there is one or x stands there
-pub patched_is : (ps : List (ℕ × ℕ)) (base k x : ℕ) (xs : List ℕ) → k < length xs → ((v : ℕ) → In ps (base + k, v) → v ≡ x) →
-    (get_or xs k 0 ≡ x) ⊎ In ps (base + k, x) → get_or (patched ps base xs) k 0 ≡ x
+pub patched_is : (ps : List (ℕ × ℕ)) (base k x : ℕ) (xs : List ℕ) → k < length xs → ((v : ℕ) → Contains ps (base + k, v) → v ≡ x) →
+    (get_or xs k 0 ≡ x) ⊎ Contains ps (base + k, x) → get_or (patched ps base xs) k 0 ≡ x
 patched_is [] base k x xs lt f (inl e) = e
-patched_is [] base k x xs lt f (inr m) = absurd m
+patched_is [] base k x xs lt f (inr m) = absurd (none_contains (base + k, x) m)
 patched_is (y ∷ ps) base k x xs lt f d =
     let l = length_at y.0 y.1 base xs (leb base y.0) in
-    patched_is ps base k x (cond (leb base y.0) (set xs (y.0 - base) y.1) xs) (omega arith) (λ v m. f v (inr m))
-    (patched_at y.0 y.1 base k x xs ps (leb base y.0) refl lt (λ e. f y.1 (inl (λ q. (e q, y.1)))) d)
+    patched_is ps base k x (cond (leb base y.0) (set xs (y.0 - base) y.1) xs) (omega arith) (λ v m. f v (Contains-later y ps (base + k, v) m))
+    (patched_at y.0 y.1 base k x xs ps (leb base y.0) refl lt (λ e. f y.1 (zero, omega arith, λ q. (e q, y.1))) d)
 
 -- patches that are written one after another
 pub patched-append : (ps qs : List (ℕ × ℕ)) (base : ℕ) (xs : List ℕ) → patched (ps ++ qs) base xs ≡ patched qs base (patched ps base xs)

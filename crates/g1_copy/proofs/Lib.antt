@@ -1,3 +1,6 @@
+pub mod Lists
+pub mod Plans
+pub mod Ground
 pub mod LeadingCards
 pub mod Moves
 pub mod OnCards

@@ -1,5 +1,5 @@
 -- The cards of slots that lead into each region, slot by slot.
-use Rattle.std.proofs.Common.{◌≡◌, ◌≢◌, ◌≤◌, ◌<◌, ℕ, zero, suc, ◌+◌, ◌-◌, ◌*◌, ◌/◌, Bool, true, false, not, cond, ◌&&◌, ◌||◌, List, [], ◌∷◌, ◌++◌, map, filter, replicate, length, get_or}
+use Rattle.std.proofs.Common.{◌≡◌, ◌≢◌, ◌≤◌, ◌<◌, ℕ, zero, suc, ◌+◌, ◌-◌, ◌*◌, ◌/◌, Bool, true, false, not, ◌&&◌, ◌||◌, List, [], ◌∷◌, ◌++◌, map, filter, replicate, length, get_or, Contains}
 use Rattle.std.proofs.Common.{set, take, All, inl, inr, arith, refl, sym, ap, subst, ◌∙◌, eqb, eqb-true, eq-eqb, ne_eqb}
 use Rattle.std.specs.List.{range_with_len}
 use Rattle.std.specs.List.Sorted.{IsStrictlyIncreasing}
@@ -8,29 +8,22 @@ use Rattle.std.proofs.lemmas.List.Folds.{list_any-append}
 use Rattle.std.proofs.lemmas.List.Kept.{AllPairs-from_increasing}
 use Rattle.std.proofs.lemmas.List.FromFn.{get_or-map-range_with_len}
 use Rattle.std.proofs.Math.Nat.{le-div_iff_mul-le, div-mul-le_self, div-lt_iff_lt-mul}
+use Rattle.std.proofs.lemmas.List.Elements.{Contains-get_or}
 use Rattle.g1_words.specs.Valid.{IsValid}
 use Rattle.g1_words.proofs.Bounds.{card_below, cards_in_region}
 use Rattle.g1_words.specs.Heap.{Heap, card_of, region_of}
-use Rattle.g1_words.proofs.Indices.{get_or-In, range_bounds}
-use Rattle.g1_words.proofs.Members.{In, Contains-from_in, any_member, and_true, or_true, filter_member}
+use Rattle.g1_words.proofs.Indices.{range_bounds}
+use Rattle.g1_words.proofs.Lists.{all_in, filter_same_in, none_passes}
+use Rattle.g1_words.proofs.Members.{any_member, and_true, or_true, filter_member}
+use Rattle.g1_words.proofs.Sound.{k_positive, w_positive}
 use Rattle.g1_image.specs.Cards.{cards_where, leads_into}
 use Rattle.g1_layout.proofs.Lists.{filter_more_no, filter_more_yes}
 use Rattle.g1_rem.specs.Entering.{with_card}
 use Rattle.g1_copy.specs.Links.{cards_by_region, is_linked, link}
+-- as crates above import it
+pub use Rattle.g1_words.proofs.Lists.{none_passes as none_pass}
 
 -- ---- lists
-
--- two tests that agree on the members of a list filter it alike
-pub same_filter : (p q : ℕ → Bool) (xs : List ℕ) → ((x : ℕ) → In xs x → p x ≡ q x) → filter p xs ≡ filter q xs
-same_filter p q [] same = refl
-same_filter p q (x ∷ xs) same = ap (λ b. cond b (x ∷ filter p xs) (filter p xs)) (same x (inl refl)) ∙ ap (λ ys. cond (q x) (x ∷ ys) ys) (same_filter p q xs (λ y i. same y (inr i)))
-
--- a test that no member passes
-pub none_pass : (p : ℕ → Bool) (xs : List ℕ) → ((x : ℕ) → In xs x → p x ≡ false) → filter p xs ≡ []
-none_pass p xs f = same_filter p (λ x. false) xs f ∙ all_out xs where
-  all_out : (ys : List ℕ) → filter (λ x. false) ys ≡ []
-  all_out [] = refl
-  all_out (y ∷ ys) = all_out ys
 
 -- one element of a table written anew
 table_set : (f g : ℕ → List ℕ) (a n i : ℕ) (y : List ℕ) → i < n → y ≡ g (a + i) → ((r : ℕ) → r ≢ a + i → f r ≡ g r) → set (map f (range_with_len a n)) i y ≡ map g (range_with_len a n)
@@ -94,7 +87,7 @@ pub cards_below : (test : ℕ → Bool) (c : ℕ) → All (λ d. d < c) (filter 
 cards_below test c = λ k d lt. omega (
   arith,
   range_bounds 0 c (get_or (filter test (range_with_len 0 c)) k d)
-      (filter_member test (range_with_len 0 c) (get_or (filter test (range_with_len 0 c)) k d) (get_or-In (filter test (range_with_len 0 c)) k d lt)).0,
+      (filter_member test (range_with_len 0 c) (get_or (filter test (range_with_len 0 c)) k d) (Contains-get_or (filter test (range_with_len 0 c)) k d lt)).0,
 )
 
 -- ---- one slot more
@@ -131,7 +124,7 @@ module _ (h : Heap) (before : List (ℕ × ℕ)) (p x : ℕ) where
   -- a slot that leads into its own region adds no card
   pub stays : region_of h (x - 1) ≡ region_of h p → cards_by_region h before ≡ cards_by_region h after
   stays e = table_same (λ r. cards_where h (is_linked h before r)) (λ r. cards_where h (is_linked h after r)) 0 h.geometry.n
-      (λ r. same_filter (is_linked h before r) (is_linked h after r) (range_with_len 0 (h.geometry.n * h.geometry.w / h.geometry.k))
+      (λ r. filter_same_in (is_linked h before r) (is_linked h after r) (range_with_len 0 (h.geometry.n * h.geometry.w / h.geometry.k))
       (λ c i. unlinked r c (ap (λ b. b && eqb (card_of h p) c) (leads_nowhere e r))))
 
   module _ (below : All (λ y. y.0 ≤ p) before) (some : 0 < h.geometry.k) where
@@ -141,13 +134,10 @@ module _ (h : Heap) (before : List (ℕ × ℕ)) (p x : ℕ) where
         let m = any_member (λ y. leads_into h r (link y) && eqb (card_of h y.0) c) before e in
         let y : ℕ × ℕ = m.0 in
         let same : card_of h y.0 ≡ c = eqb-true (card_of h y.0) c (and_true (leads_into h r (link y)) (eqb (card_of h y.0) c) m.2).1 in
-        let le : y.0 ≤ p = in_all before y below m.1 in
+        let le : y.0 ≤ p = all_in (λ (z : ℕ × ℕ). z.0 ≤ p) before y below m.1 in
         let f = div-mul-le_self y.0 h.geometry.k in
         let g : card_of h y.0 ≤ card_of h p = (le-div_iff_mul-le some).1 (omega (arith, le, f)) in
         omega (arith, same, g)
-      where
-        in_all : (ys : List (ℕ × ℕ)) (y : ℕ × ℕ) → All (λ z. z.0 ≤ p) ys → In ys y → y.0 ≤ p
-        in_all ys y f i = let c = Contains-from_in ys y i in subst (λ (z : ℕ × ℕ). z.0 ≤ p) c.2 (f c.0 y c.1)
 
     module _ (inside : card_of h p < h.geometry.n * h.geometry.w / h.geometry.k) where
       abbrev so_far : ℕ → List ℕ
@@ -163,14 +153,14 @@ module _ (h : Heap) (before : List (ℕ × ℕ)) (p x : ℕ) where
           let now : is_linked h after r c ≡ true = linked_more r c ∙ ap (λ b. is_linked h before r c || (b && eqb c c)) leads
           ∙ ap (λ b. is_linked h before r c || b) (eq-eqb c c refl) ∙ or_true_right (is_linked h before r c) in
           cards_up_to h (is_linked h after r) c inside most
-          ∙ ap (λ ys. with_card ys c (is_linked h after r c)) (same_filter (is_linked h after r) (is_linked h before r) (range_with_len 0 c) (λ d i. sym (unlinked r d (lower d i))))
+          ∙ ap (λ ys. with_card ys c (is_linked h after r c)) (filter_same_in (is_linked h after r) (is_linked h before r) (range_with_len 0 c) (λ d i. sym (unlinked r d (lower d i))))
           ∙ ap (with_card (so_far r) c) now
         where
           or_true_right : (b : Bool) → (b || true) ≡ true
           or_true_right true = refl
           or_true_right false = refl
 
-          lower : (d : ℕ) → In (range_with_len 0 (card_of h p)) d → (leads_into h r (link (p, x)) && eqb (card_of h p) d) ≡ false
+          lower : (d : ℕ) → Contains (range_with_len 0 (card_of h p)) d → (leads_into h r (link (p, x)) && eqb (card_of h p) d) ≡ false
           lower d i =
               let b = range_bounds 0 (card_of h p) d i in
               let e : eqb (card_of h p) d ≡ false = ne_eqb (card_of h p) d (λ s. omega (arith, s, b.1)) in
@@ -195,7 +185,7 @@ module _ (h : Heap) (before : List (ℕ × ℕ)) (p x : ℕ) where
           ap (λ b. b && not (eqb (region_of h p) t)) (eq-eqb t t refl) ∙ ap not (ne_eqb (region_of h p) t (λ s. apart (sym s))) in
           table_set (λ r. cards_where h (is_linked h before r)) (λ r. cards_where h (is_linked h after r)) 0 h.geometry.n t items lt (e
           ∙ sym (list_after t leads) ∙ ap (λ z. cards_where h (is_linked h after z)) (here t))
-          (λ r d. same_filter (is_linked h before r) (is_linked h after r) (range_with_len 0 (h.geometry.n * h.geometry.w / h.geometry.k))
+          (λ r d. filter_same_in (is_linked h before r) (is_linked h after r) (range_with_len 0 (h.geometry.n * h.geometry.w / h.geometry.k))
           (λ c i. unlinked r c (ap (λ b. b && eqb (card_of h p) c) (leads_elsewhere r (λ s. d (s ∙ here (region_of h (x - 1))))))))
         where
           here : (z : ℕ) → z ≡ 0 + z
@@ -204,7 +194,7 @@ module _ (h : Heap) (before : List (ℕ × ℕ)) (p x : ℕ) where
 -- before the first slot the lists are empty
 pub linked_none : (h : Heap) → replicate h.geometry.n [] ≡ cards_by_region h []
 linked_none h = table_none 0 h.geometry.n ∙ table_same none_at (λ r. cards_where h (is_linked h [] r)) 0 h.geometry.n
-    (λ r. sym (none_pass (is_linked h [] r) (range_with_len 0 (h.geometry.n * h.geometry.w / h.geometry.k)) (λ c i. refl)))
+    (λ r. sym (none_passes (is_linked h [] r) (range_with_len 0 (h.geometry.n * h.geometry.w / h.geometry.k)) (λ c i. refl)))
 
 -- the list of a region
 pub list_of : (h : Heap) (xs : List (ℕ × ℕ)) (r : ℕ) → r < h.geometry.n → get_or (cards_by_region h xs) r [] ≡ cards_where h (is_linked h xs r)
@@ -214,13 +204,12 @@ list_of h xs r lt = get_or-map-range_with_len (λ r. cards_where h (is_linked h 
 card_inside : (h : Heap) (p : ℕ) → IsValid h → p < h.geometry.n * h.geometry.w → card_of h p < h.geometry.n * h.geometry.w / h.geometry.k
 card_inside h p valid lt =
     let m = cards_in_region h.geometry.w h.geometry.k h.geometry.n valid.limits in
-    card_below h.geometry.w h.geometry.k m.0 h.geometry.n p (omega (arith, valid.limits.k_least)) m.1 lt
+    card_below h.geometry.w h.geometry.k m.0 h.geometry.n p (k_positive h valid) m.1 lt
 
 -- the region of what a word names
 pub target_region : (h : Heap) (x : ℕ) → IsValid h → 0 < x → x ≤ h.geometry.n * h.geometry.w → region_of h (x - 1) < h.geometry.n
 target_region h x valid some le =
-    let pos : 0 < h.geometry.w = omega (arith, valid.limits.w_least) in
-    (div-lt_iff_lt-mul pos).1 (omega (arith, some, le))
+    (div-lt_iff_lt-mul (w_positive h valid)).1 (omega (arith, some, le))
 
 -- the lists after a slot that leads into another region, as they are written
 pub pushed_at : (h : Heap) (before : List (ℕ × ℕ)) (p x r card : ℕ) (lists : List (List ℕ)) (old new : List ℕ) → IsValid h → p < h.geometry.n * h.geometry.w → 0 < x → x ≤ h.geometry.n * h.geometry.w
@@ -230,7 +219,7 @@ pub pushed_at : (h : Heap) (before : List (ℕ × ℕ)) (p x r card : ℕ) (list
 pushed_at h before p x r card lists old new valid here some le er ec apart below e o push =
     let t : ℕ = region_of h (x - 1) in
     let lt : t < h.geometry.n = target_region h x valid some le in
-    let k : 0 < h.geometry.k = omega (arith, valid.limits.k_least) in
+    let k = k_positive h valid in
     let inside = card_inside h p valid here in
     let first : List ℕ = filter (is_linked h before t) (range_with_len 0 (card_of h p)) in
     let there : Bool = is_linked h before t (card_of h p) in

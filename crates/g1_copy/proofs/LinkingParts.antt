@@ -1,5 +1,5 @@
 -- The cards of copied slots, listed part by part of the runs.
-use Rattle.std.proofs.Common.{◌≡◌, ◌≤◌, ◌<◌, ℕ, zero, suc, ◌+◌, ◌-◌, ◌*◌, ◌/◌, ◌%◌, Bool, true, false, cond, ◌||◌, ◌&&◌, inl, inr, List, [], ◌∷◌, ◌++◌, map, filter, flat_map}
+use Rattle.std.proofs.Common.{◌≡◌, ◌≤◌, ◌<◌, ℕ, zero, suc, ◌+◌, ◌-◌, ◌*◌, ◌/◌, ◌%◌, Bool, true, false, cond, ◌||◌, ◌&&◌, inl, inr, List, [], ◌∷◌, ◌++◌, map, filter, flat_map, Contains}
 use Rattle.std.proofs.Common.{length, get_or, take, drop, set, min, replicate, arith, refl, sym, ap, subst, ◌∙◌, eqb, eqb-true, div-add-mod'}
 use Rattle.std.specs.List.{range_with_len}
 use Rattle.std.proofs.lemmas.Bool.{cases_lt}
@@ -8,26 +8,26 @@ use Rattle.std.proofs.lemmas.List.Folds.{list_any-append}
 use Rattle.std.proofs.lemmas.List.FromFn.{get_or-map-range_with_len}
 use Rattle.std.proofs.Math.Nat.{le-div_iff_mul-le, div-lt_iff_lt-mul, mul-le-mul_right}
 use Rattle.std.proofs.Math.Seq.{take-length}
-use Rattle.g1_words.specs.Heap.{Heap, card_of, is_free, kind, region_of, regions}
+use Rattle.std.proofs.lemmas.List.Elements.{Contains-get_or}
+use Rattle.g1_words.specs.Heap.{Heap, card_of, region_of}
 use Rattle.g1_words.specs.Layout.{forward, free_regions, laid, need, sizes_of}
 use Rattle.g1_words.specs.Valid.{IsValid}
 use Rattle.g1_words.proofs.Bounds.{cards_in_region}
-use Rattle.g1_words.proofs.Indices.{get_or-In, range_bounds}
-use Rattle.g1_words.proofs.Members.{In, Contains-from_in, and_true, any_member, flat_map_cases}
-use Rattle.g1_words.proofs.Ordered.{pairs_from_ordered}
-use Rattle.g1_words.proofs.Rising.{Ordered-filter, Ordered-range}
+use Rattle.g1_words.proofs.Indices.{range_bounds}
+use Rattle.g1_words.proofs.Lists.{filter_same_in, none_passes}
+use Rattle.g1_words.proofs.Members.{and_true, any_member, flat_map_cases}
+use Rattle.g1_words.proofs.Sound.{k_positive, w_positive}
 use Rattle.g1_image.specs.Cards.{cards_where, leads_into}
 use Rattle.g1_layout.proofs.Conditions.{can_lay}
 use Rattle.g1_layout.proofs.Running.{after_lies, before_lies, count_row, laid_before-more, needed, place_region, rises}
-use Rattle.g1_layout.proofs.Stretches.{laid_all, laid_none, within_region}
+use Rattle.g1_layout.proofs.Stretches.{forward_at, free_rises, laid_all, laid_none, within_region}
 use Rattle.g1_layout.specs.Placed.{CanPlace}
 use Rattle.g1_layout.specs.Plan.{Plan, laid_before}
 use Rattle.g1_copy.specs.Links.{cards_by_region, copied_between, copied_slots, is_linked, link, moved_slots, part_cards, runs_before}
 use Rattle.g1_copy.specs.Plans.{IsPlanOf}
 use Rattle.g1_copy.proofs.CopiedSlots.{moved_slot, survivor_slots}
-use Rattle.g1_copy.proofs.CopiedWords.{first_between, first_copied, runs_count}
-use Rattle.g1_copy.proofs.GatheringWords.{forward_at}
-use Rattle.g1_copy.proofs.LinkingCards.{none_pass, same_filter}
+use Rattle.g1_copy.proofs.CopiedWords.{first_between, first_copied}
+use Rattle.g1_copy.proofs.Plans.{runs_count}
 
 -- ---- two tests over a range
 
@@ -40,8 +40,8 @@ module _ (p q : ℕ → Bool) (apart : (c d : ℕ) → p c ≡ true → q d ≡ 
   split_filter a zero = refl
   split_filter a (suc n) = head (split_filter (a + 1) n) (p a) (q a) refl refl where
     none : q a ≡ true → filter p (range_with_len (a + 1) n) ≡ []
-    none e = none_pass p (range_with_len (a + 1) n) (λ c i. never c i (p c) refl) where
-      never : (c : ℕ) → In (range_with_len (a + 1) n) c → (b : Bool) → p c ≡ b → b ≡ false
+    none e = none_passes p (range_with_len (a + 1) n) (λ c i. never c i (p c) refl) where
+      never : (c : ℕ) → Contains (range_with_len (a + 1) n) c → (b : Bool) → p c ≡ b → b ≡ false
       never c i true f = let less = apart c a f e in absurd (omega (arith, less, range_bounds (a + 1) n c i))
       never c i false f = refl
 
@@ -59,8 +59,8 @@ module _ (p q : ℕ → Bool) (apart : (c d : ℕ) → p c ≡ true → q d ≡ 
 
 -- ---- the lists of two batches of slots
 
-module _ (h : Heap) (xs ys : List (ℕ × ℕ)) (apart : (x y : ℕ × ℕ) → In xs x → In ys y → card_of h x.0 < card_of h y.0) where
-  linked_by : (zs : List (ℕ × ℕ)) (r c : ℕ) → is_linked h zs r c ≡ true → (z : ℕ × ℕ) × (In zs z × (card_of h z.0 ≡ c))
+module _ (h : Heap) (xs ys : List (ℕ × ℕ)) (apart : (x y : ℕ × ℕ) → Contains xs x → Contains ys y → card_of h x.0 < card_of h y.0) where
+  linked_by : (zs : List (ℕ × ℕ)) (r c : ℕ) → is_linked h zs r c ≡ true → (z : ℕ × ℕ) × (Contains zs z × (card_of h z.0 ≡ c))
   linked_by zs r c e =
       let m = any_member (λ z. leads_into h r (link z) && eqb (card_of h z.0) c) zs e in
       (m.0, (m.1, eqb-true (card_of h m.0.0) c (and_true (leads_into h r (link m.0)) (eqb (card_of h m.0.0) c) m.2).1))
@@ -75,7 +75,7 @@ module _ (h : Heap) (xs ys : List (ℕ × ℕ)) (apart : (x y : ℕ × ℕ) → 
   pub row_joined : (r : ℕ) → cards_where h (is_linked h (xs ++ ys) r) ≡ cards_where h (is_linked h xs r) ++ cards_where h (is_linked h ys r)
   row_joined r =
       let count : ℕ = h.geometry.n * h.geometry.w / h.geometry.k in
-      same_filter (is_linked h (xs ++ ys) r) (λ c. is_linked h xs r c || is_linked h ys r c) (range_with_len 0 count)
+      filter_same_in (is_linked h (xs ++ ys) r) (λ c. is_linked h xs r c || is_linked h ys r c) (range_with_len 0 count)
       (λ c i. list_any-append (λ z. leads_into h r (link z) && eqb (card_of h z.0) c) xs ys)
       ∙ split_filter (is_linked h xs r) (is_linked h ys r) (cards_apart r) 0 count
 
@@ -120,61 +120,54 @@ module _ (old initial more : List (List ℕ)) (r : ℕ) (item : List ℕ) (lt : 
 -- ---- where the slots of a part stand
 
 module _ (h : Heap) (set l : List ℕ) (valid : IsValid h) (can : CanPlace h set l) (room : need h l ≤ length (free_regions h)) where
-  positive : 0 < h.geometry.w
-  positive = omega (arith, valid.limits.w_least)
-
   -- the region of to-space that the k-th survivor goes to, by number
   abbrev number : ℕ → ℕ
   number k = get_or (laid h.geometry.w 0 (sizes_of h l)) k 0 / h.geometry.w
 
-  free_rise : (i j : ℕ) → i < j → j < length (free_regions h) → get_or (free_regions h) i 0 < get_or (free_regions h) j 0
-  free_rise i j less lt = pairs_from_ordered (λ x y. x < y) (free_regions h) (Ordered-filter (λ x y. x < y) (λ r. is_free (kind h r)) (regions h) (Ordered-range 0 h.geometry.n)) i j 0 less lt
-
   -- a slot of a survivor stands in the region that the survivor goes to
-  slot_region : (k : ℕ) (x : ℕ × ℕ) → k < length l → In (moved_slots h l (get_or l k 0)) x → region_of h x.0 ≡ get_or (free_regions h) (number k) 0
+  slot_region : (k : ℕ) (x : ℕ × ℕ) → k < length l → Contains (moved_slots h l (get_or l k 0)) x → region_of h x.0 ≡ get_or (free_regions h) (number k) 0
   slot_region k x lt i =
       let a : ℕ = get_or l k 0 in
-      let there = get_or-In l k 0 lt in
+      let there = Contains-get_or l k 0 lt in
       let s = moved_slot h set l valid can room a x i in
       let at : forward h l a + s.offset ≡ x.0 = ap (λ (z : ℕ × ℕ). z.0) s.is in
-      let fits = (within_region h set l valid can room a (Contains-from_in l a there)).1 in
+      let fits = (within_region h set l valid can room a there).1 in
       let slots = survivor_slots h set l valid can room a there in
       let parts : forward h l a / h.geometry.w * h.geometry.w + forward h l a % h.geometry.w ≡ forward h l a = div-add-mod' (forward h l a) h.geometry.w in
-      let low : forward h l a / h.geometry.w ≤ x.0 / h.geometry.w = (le-div_iff_mul-le positive).1 (omega (arith, parts, at)) in
-      let high : x.0 / h.geometry.w < forward h l a / h.geometry.w + 1 = (div-lt_iff_lt-mul positive).1 (omega (arith, parts, at, fits, slots, s.last)) in
+      let low : forward h l a / h.geometry.w ≤ x.0 / h.geometry.w = (le-div_iff_mul-le (w_positive h valid)).1 (omega (arith, parts, at)) in
+      let high : x.0 / h.geometry.w < forward h l a / h.geometry.w + 1 = (div-lt_iff_lt-mul (w_positive h valid)).1 (omega (arith, parts, at, fits, slots, s.last)) in
       let same : x.0 / h.geometry.w ≡ forward h l a / h.geometry.w = omega (arith, low, high) in
-      same ∙ ap (λ p. p / h.geometry.w) (forward_at h set l valid can room k lt) ∙ place_region h l positive (can_lay h set l valid can) room k lt
+      same ∙ ap (λ p. p / h.geometry.w) (forward_at h set l valid can room k lt) ∙ place_region h l (w_positive h valid) (can_lay h set l valid can) room k lt
 
   -- of slots in two regions, the one in the lower region has the lower card
   cards_rise : (p q : ℕ) → region_of h p < region_of h q → card_of h p < card_of h q
   cards_rise p q less =
-      let some : 0 < h.geometry.k = omega (arith, valid.limits.k_least) in
       let m = cards_in_region h.geometry.w h.geometry.k h.geometry.n valid.limits in
       let one : (p / h.geometry.w + 1) * h.geometry.w ≤ q / h.geometry.w * h.geometry.w = mul-le-mul_right h.geometry.w (omega (arith, less)) in
-      let below : p < (p / h.geometry.w + 1) * h.geometry.w = (div-lt_iff_lt-mul positive).0 (omega arith) in
-      let above : q / h.geometry.w * h.geometry.w ≤ q = (le-div_iff_mul-le positive).0 (omega arith) in
+      let below : p < (p / h.geometry.w + 1) * h.geometry.w = (div-lt_iff_lt-mul (w_positive h valid)).0 (omega arith) in
+      let above : q / h.geometry.w * h.geometry.w ≤ q = (le-div_iff_mul-le (w_positive h valid)).0 (omega arith) in
       let cards : (p / h.geometry.w + 1) * h.geometry.w ≡ (p / h.geometry.w + 1) * m.0 * h.geometry.k = ap (λ w. (p / h.geometry.w + 1) * w) m.1 ∙ omega arith in
-      let first : p / h.geometry.k < (p / h.geometry.w + 1) * m.0 = (div-lt_iff_lt-mul some).1 (omega (arith, below, cards)) in
-      let second : (p / h.geometry.w + 1) * m.0 ≤ q / h.geometry.k = (le-div_iff_mul-le some).1 (omega (arith, one, above, cards)) in
+      let first : p / h.geometry.k < (p / h.geometry.w + 1) * m.0 = (div-lt_iff_lt-mul (k_positive h valid)).1 (omega (arith, below, cards)) in
+      let second : (p / h.geometry.w + 1) * m.0 ≤ q / h.geometry.k = (le-div_iff_mul-le (k_positive h valid)).1 (omega (arith, one, above, cards)) in
       omega (arith, first, second)
 
   -- no card of the survivors before a run has a slot of those behind
-  pub parts_apart : (t j : ℕ) → (x y : ℕ × ℕ) → In (first_copied h l (laid_before h l t)) x → In (copied_between h l (laid_before h l t) j) y → card_of h x.0 < card_of h y.0
+  pub parts_apart : (t j : ℕ) → (x y : ℕ × ℕ) → Contains (first_copied h l (laid_before h l t)) x → Contains (copied_between h l (laid_before h l t) j) y → card_of h x.0 < card_of h y.0
   parts_apart t j x y i k =
       let lay = can_lay h set l valid can in
       let row = laid h.geometry.w 0 (sizes_of h l) in
-      let count = count_row h l positive lay room in
-      let order = rises h l positive lay room in
+      let count = count_row h l (w_positive h valid) lay room in
+      let order = rises h l (w_positive h valid) lay room in
       let from : ℕ = laid_before h l t in
       let a = flat_map_cases (moved_slots h l) (take from l) x i in
-      let ca = Contains-from_in (take from l) a.0 a.1 in
+      let ca = a.1 in
       let na : ℕ = ca.0 in
       let la = length-take from l in
       let in_first : na < from = omega (arith, ca.1, la) in
       let in_list : na < length l = omega (arith, ca.1, la) in
       let is_a : get_or l na 0 ≡ a.0 = get_or_default l na 0 a.0 in_list ∙ sym (get_or-take from l na a.0 in_first) ∙ ca.2 in
       let b = flat_map_cases (moved_slots h l) (take (j - from) (drop from l)) y k in
-      let cb = Contains-from_in (take (j - from) (drop from l)) b.0 b.1 in
+      let cb = b.1 in
       let lb = length-take (j - from) (drop from l) in
       let ld = length-drop from l in
       let nb : ℕ = from + cb.0 in
@@ -183,10 +176,10 @@ module _ (h : Heap) (set l : List ℕ) (valid : IsValid h) (can : CanPlace h set
       sym (get_or-drop from l cb.0 0) ∙ get_or_default (drop from l) cb.0 0 b.0 (omega (arith, b_list, ld)) ∙ sym (get_or-take (j - from) (drop from l) cb.0 b.0 (omega (arith, cb.1, lb))) ∙ cb.2 in
       let before : number na < t = before_lies h.geometry.w t row na order in_first in
       let behind : t ≤ number nb = after_lies h.geometry.w t row nb order (omega (arith, b_list, count)) (omega arith) in
-      let rx = slot_region na x in_list (subst (λ z. In (moved_slots h l z) x) (sym is_a) a.2) in
-      let ry = slot_region nb y b_list (subst (λ z. In (moved_slots h l z) y) (sym is_b) b.2) in
-      let last = needed h l positive lay room nb b_list in
-      let up = free_rise (number na) (number nb) (omega (arith, before, behind)) (omega (arith, last, room)) in
+      let rx = slot_region na x in_list (subst (λ z. Contains (moved_slots h l z) x) (sym is_a) a.2) in
+      let ry = slot_region nb y b_list (subst (λ z. Contains (moved_slots h l z) y) (sym is_b) b.2) in
+      let last = needed h l (w_positive h valid) lay room nb b_list in
+      let up = free_rises h (number na) (number nb) (omega (arith, before, behind)) (omega (arith, last, room)) in
       cards_rise x.0 y.0 (omega (arith, rx, ry, up))
 
   -- no run begins before the one in front of it
@@ -194,7 +187,7 @@ module _ (h : Heap) (set l : List ℕ) (valid : IsValid h) (can : CanPlace h set
   laid_rise t zero le = let e : t + 0 ≡ t = omega arith in omega (arith, ap (laid_before h l) e)
   laid_rise t (suc m) le =
       let next : t + suc m ≡ t + m + 1 = omega arith in
-      omega (arith, laid_rise t m (omega (arith, le)), laid_before-more h l positive (can_lay h set l valid can) room (t + m) (omega (arith, le)), ap (laid_before h l) next)
+      omega (arith, laid_rise t m (omega (arith, le)), laid_before-more h l (w_positive h valid) (can_lay h set l valid can) room (t + m) (omega (arith, le)), ap (laid_before h l) next)
 
 -- ---- the parts of a plan's runs
 

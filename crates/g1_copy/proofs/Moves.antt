@@ -1,5 +1,5 @@
 -- Survivors move, and nothing else does: what a slot's word is patched to.
-use Rattle.std.proofs.Common.{◌≡◌, ◌≢◌, ℕ, zero, suc, ◌+◌, ◌-◌, ◌*◌, ◌<◌, ◌≤◌, Bool, true, false, cond, List, [], ◌∷◌, length, slice_index, map, filter, Contains, All, arith, refl, sym, ap}
+use Rattle.std.proofs.Common.{◌≡◌, ◌≢◌, ℕ, zero, suc, ◌+◌, ◌-◌, ◌*◌, ◌<◌, ◌≤◌, Bool, true, false, cond, List, [], ◌∷◌, length, slice_index, map, filter, Contains, arith, refl, sym, ap}
 use Rattle.std.proofs.Common.{subst, ◌∙◌}
 use Rattle.std.proofs.Math.Nat.{div-lt_iff_lt-mul}
 use Rattle.g1_words.specs.declared.region.Kind.TheVariants.{Free, Ordinary}
@@ -9,27 +9,25 @@ use Rattle.g1_words.specs.Lists.{has}
 use Rattle.g1_words.specs.References.{named}
 use Rattle.g1_words.specs.Valid.{IsValid}
 use Rattle.g1_words.proofs.Indices.{is_free_region, taken_in, not_has}
-use Rattle.g1_words.proofs.Members.{In, In-from_contains, Contains-from_in, has_from_in, in_from_has}
+use Rattle.g1_words.proofs.Lists.{all_in}
+use Rattle.g1_words.proofs.Members.{has_from_contains, Contains-from_has}
 use Rattle.g1_words.proofs.OneToOne.{moved_stays}
+use Rattle.g1_words.proofs.Sound.{w_positive}
 use Rattle.g1_layout.specs.Placed.{CanPlace}
 use Rattle.g1_layout.specs.Plan.{Plan}
 use Rattle.g1_layout.proofs.Stretches.{within_region}
 use Rattle.g1_copy.specs.Plans.{IsPlanOf}
 use Rattle.g1_copy.specs.Patches.{patch, patch_at}
 
--- what all members are, one is
-pub all_in : (P : ℕ → Type 0) (xs : List ℕ) (x : ℕ) → All P xs → In xs x → P x
-all_in P xs x f i = let c = Contains-from_in xs x i in subst P c.2 (f c.0 x c.1)
-
 module _ (h : Heap) (set l : List ℕ) (valid : IsValid h) (can : CanPlace h set l) (room : need h l ≤ length (free_regions h)) where
   -- a survivor goes into a free region
-  place_free : (a : ℕ) → In l a → (kind h (region_of h (forward h l a)) ≡ Free) × (region_of h (forward h l a) < h.geometry.n)
+  place_free : (a : ℕ) → Contains l a → (kind h (region_of h (forward h l a)) ≡ Free) × (region_of h (forward h l a) < h.geometry.n)
   place_free a i =
-      let there = (within_region h set l valid can room a (Contains-from_in l a i)).0 in
-      is_free_region h (region_of h (forward h l a)) (taken_in (need h l) (free_regions h) (region_of h (forward h l a)) (In-from_contains _ (region_of h (forward h l a)) there))
+      let there = (within_region h set l valid can room a i).0 in
+      is_free_region h (region_of h (forward h l a)) (taken_in (need h l) (free_regions h) (region_of h (forward h l a)) there)
 
   -- so it moves
-  survivor_moves : (a : ℕ) → In l a → forward h l a ≢ a
+  survivor_moves : (a : ℕ) → Contains l a → forward h l a ≢ a
   survivor_moves a i e =
       let here : kind h (region_of h a) ≡ Free = subst (λ x. kind h (region_of h x) ≡ Free) e (place_free a i).0 in
       let home : kind h (region_of h a) ≡ Ordinary = can.ordinary (region_of h a) (all_in (λ x. Contains set (region_of h x)) l a can.in_set i) in
@@ -37,8 +35,8 @@ module _ (h : Heap) (set l : List ℕ) (valid : IsValid h) (can : CanPlace h set
       cc
 
   -- its place is one of the heap's words
-  pub place_in_heap : (a : ℕ) → In l a → forward h l a < h.geometry.n * h.geometry.w
-  place_in_heap a i = (div-lt_iff_lt-mul (let e = valid.limits.w_least in omega (arith, e))).0 (place_free a i).1
+  pub place_in_heap : (a : ℕ) → Contains l a → forward h l a < h.geometry.n * h.geometry.w
+  place_in_heap a i = (div-lt_iff_lt-mul (w_positive h valid)).0 (place_free a i).1
 
 -- the patch of a slot that names an address
 patch_named : (h : Heap) (l : List ℕ) (p a : ℕ) (b : Bool) → word h p ≡ suc a → has l a ≡ b → patch_at h l p ≡ cond b ((p, suc (forward h l a)) ∷ []) []
@@ -78,7 +76,7 @@ module _ (h : Heap) (plan : Plan) (valid : IsValid h) (made : IsPlanOf h plan) (
     where
       by : (b : Bool) → has plan.survivors (x - 1) ≡ b → has plan.survivors (x - 1) ≡ true
       by true e = e
-      by false e = absurd (differ (told ∙ moved_stays plan.survivors _ (x - 1) (λ i. let t = has_from_in plan.survivors (x - 1) i in let clash : true ≡ false = sym t ∙ e in cc)))
+      by false e = absurd (differ (told ∙ moved_stays plan.survivors _ (x - 1) (λ i. let t = has_from_contains plan.survivors (x - 1) i in let clash : true ≡ false = sym t ∙ e in cc)))
 
   -- where it moves, its slot is patched
   pub patch_moved : place ≢ x - 1 → patch_at h plan.survivors p ≡ (p, place + 1) ∷ []
@@ -90,7 +88,7 @@ module _ (h : Heap) (plan : Plan) (valid : IsValid h) (made : IsPlanOf h plan) (
   pub place_below : place ≢ x - 1 → place < h.geometry.n * h.geometry.w
   place_below differ =
       subst (λ z. z < h.geometry.n * h.geometry.w) (sym told)
-      (place_in_heap h plan.set plan.survivors valid made.placeable made.room (x - 1) (in_from_has plan.survivors (x - 1) (moved_is differ)))
+      (place_in_heap h plan.set plan.survivors valid made.placeable made.room (x - 1) (Contains-from_has plan.survivors (x - 1) (moved_is differ)))
 
   -- where it stays, it isn't
   pub patch_still : place ≡ x - 1 → patch_at h plan.survivors p ≡ []

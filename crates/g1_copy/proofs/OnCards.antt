@@ -1,6 +1,6 @@
 -- The patches of the slots on rising cards are those of all slots that lie on the cards.
-use Rattle.std.proofs.Common.{◌≡◌, ◌≤◌, ◌<◌, ℕ, zero, suc, ◌+◌, ◌*◌, inl, Bool, true, false, cond, ◌&&◌, List, [], ◌∷◌, ◌++◌, map, filter, flat_map, length, arith, refl, sym, ap, ◌∙◌, eqb}
-use Rattle.std.proofs.Common.{eqb-true, eq-eqb, append_assoc, append-nil, take}
+use Rattle.std.proofs.Common.{◌≡◌, ◌≤◌, ◌<◌, ℕ, zero, suc, ◌+◌, ◌*◌, Bool, true, false, cond, ◌&&◌, List, [], ◌∷◌, ◌++◌, map, filter, flat_map, arith, refl, sym, ap, ◌∙◌, eqb, Contains}
+use Rattle.std.proofs.Common.{eqb-true, eq-eqb, append_assoc, append-nil}
 use Rattle.std.specs.List.Sorted.{IsStrictlyIncreasing}
 use Rattle.std.proofs.Math.Nat.{mul-le-mul_right}
 use Rattle.std.proofs.lemmas.Grind.{flat_map-append}
@@ -8,7 +8,8 @@ use Rattle.g1_words.specs.Heap.{Heap, card_of, objects, word}
 use Rattle.g1_words.specs.Lists.{has}
 use Rattle.g1_words.specs.References.{Ref, named, refs_at}
 use Rattle.g1_words.specs.Valid.{IsValid}
-use Rattle.g1_words.proofs.Members.{In, In-filter, filter_member, In-flat_map, flat_map_cases, has_from_in, in_from_has}
+use Rattle.g1_words.proofs.Lists.{flat_of_flat}
+use Rattle.g1_words.proofs.Members.{Contains-filter, filter_member, Contains-flat_map, flat_map_cases, has_from_contains, Contains-from_has}
 use Rattle.g1_rem.specs.Slots.{all_slots, slots_on}
 use Rattle.g1_rem.proofs.Bare.{flat_twice}
 use Rattle.g1_rem.proofs.Card.{all_rise, card_there}
@@ -57,13 +58,13 @@ module _ (h : Heap) (l cards : List ℕ) where
 -- ---- card by card
 
 -- a higher bound, where no member is below it
-Rises-from : (lo m : ℕ) (xs : List ℕ) → Rises lo xs → ((x : ℕ) → In xs x → m ≤ x) → Rises m xs
+Rises-from : (lo m : ℕ) (xs : List ℕ) → Rises lo xs → ((x : ℕ) → Contains xs x → m ≤ x) → Rises m xs
 Rises-from lo m [] r f = tt
-Rises-from lo m (x ∷ xs) r f = (f x (inl refl), r.1)
+Rises-from lo m (x ∷ xs) r f = (f x (zero, omega arith, refl), r.1)
 
 module _ (h : Heap) (valid : IsValid h) where
   -- the slots on a card are among its words
-  on_there : (c p : ℕ) → In (slots_on h c) p → (c * h.geometry.k ≤ p) × (p < c * h.geometry.k + h.geometry.k)
+  on_there : (c p : ℕ) → Contains (slots_on h c) p → (c * h.geometry.k ≤ p) × (p < c * h.geometry.k + h.geometry.k)
   on_there c p i =
       let m = filter_member (λ p. eqb (card_of h p) c) (all_slots h) p i in
       card_there h valid c (c * h.geometry.k) (c * h.geometry.k + h.geometry.k) refl refl p (eqb-true (card_of h p) c m.1)
@@ -88,23 +89,18 @@ module _ (h : Heap) (valid : IsValid h) where
       (cards_slots_rise 0 cards (increasing-Rises cards 0 rising (λ lt. omega arith)))
       (λ p i.
       let m = filter_member (λ p. has cards (card_of h p)) (all_slots h) p i in
-      In-flat_map (slots_on h) cards (card_of h p) p (in_from_has cards (card_of h p) m.1)
-      (In-filter (λ q. eqb (card_of h q) (card_of h p)) (all_slots h) p m.0 (eq-eqb (card_of h p) (card_of h p) refl)))
+      Contains-flat_map (slots_on h) cards (card_of h p) p (Contains-from_has cards (card_of h p) m.1)
+      (Contains-filter (λ q. eqb (card_of h q) (card_of h p)) (all_slots h) p m.0 (eq-eqb (card_of h p) (card_of h p) refl)))
       (λ p i.
       let m = flat_map_cases (slots_on h) cards p i in
       let t = filter_member (λ q. eqb (card_of h q) m.0) (all_slots h) p m.2 in
       let e : card_of h p ≡ m.0 = eqb-true (card_of h p) m.0 t.1 in
-      In-filter (λ p. has cards (card_of h p)) (all_slots h) p t.0 (ap (has cards) e ∙ has_from_in cards m.0 m.1))
-
--- lists of lists of lists
-flat_map-flat : (f : ℕ → List (ℕ × ℕ)) (g : ℕ → List ℕ) (xs : List ℕ) → flat_map f (flat_map g xs) ≡ flat_map (λ x. flat_map f (g x)) xs
-flat_map-flat f g [] = refl
-flat_map-flat f g (x ∷ xs) = flat_map-append f (g x) (flat_map g xs) ∙ ap (λ z. flat_map f (g x) ++ z) (flat_map-flat f g xs)
+      Contains-filter (λ p. has cards (card_of h p)) (all_slots h) p t.0 (ap (has cards) e ∙ has_from_contains cards m.0 m.1))
 
 -- so the patches of the cards, card by card, are those of the slots on them
 pub patches_by_cards : (h : Heap) (l cards : List ℕ) → IsValid h → IsStrictlyIncreasing cards → flat_map (λ c. patches_at h l (slots_on h c)) cards ≡ patches_on h l cards
 patches_by_cards h l cards valid rising =
-    sym (flat_map-flat (patch_at h l) (slots_on h) cards)
+    flat_of_flat (patch_at h l) (slots_on h) cards
     ∙ ap (flat_map (patch_at h l)) (sym (slots_on_cards h valid cards rising))
     ∙ sym (by_slots h l cards (all_slots h))
     ∙ ap (λ es. map (patch h l) (filter (λ e. has cards (card_of h e.slot) && has l e.target) es)) (sym (flat_twice h (objects h)))
@@ -114,10 +110,3 @@ pub pushed_more : {A B : Type 0} (f : A → List B) (start out more : List B) (x
 pushed_more f start out more xs x e m =
     m ∙ ap (λ z. z ++ f x) e ∙ append_assoc start (flat_map f xs) (f x)
     ∙ ap (λ z. start ++ z) (ap (λ z. flat_map f xs ++ z) (sym (append-nil (f x))) ∙ sym (flat_map-append f xs (x ∷ [])))
-
--- all of a list
-pub take_whole : {A : Type 0} (xs : List A) (n : ℕ) → length xs ≤ n → take n xs ≡ xs
-take_whole [] zero le = refl
-take_whole [] (suc n) le = refl
-take_whole (x ∷ xs) zero le = absurd (omega (arith, le))
-take_whole (x ∷ xs) (suc n) le = ap (λ ys. x ∷ ys) (take_whole xs n (omega (arith, le)))

@@ -1,11 +1,12 @@
 -- What is made ready for a pause is what its commit needs.
-use Rattle.std.proofs.Common.{◌≡◌, ℕ, ◌*◌, ◌<◌, inl, inr, not, ◌&&◌, List, [], ◌++◌, All, length, map, flat_map, get_or, refl, sym, ◌∙◌, ap, subst, arith}
+use Rattle.std.proofs.Common.{◌≡◌, ℕ, ◌*◌, ◌<◌, inl, inr, not, ◌&&◌, List, [], ◌++◌, All, length, map, flat_map, get_or, refl, sym, ◌∙◌, ap, subst, arith, Contains}
 use Rattle.std.proofs.lemmas.Bool.{cases_lt}
 use Rattle.std.specs.List.{list_any, range_with_len}
 use Rattle.std.specs.List.Sorted.{IsStrictlyIncreasing}
 use Rattle.std.proofs.lemmas.List.{length-map}
 use Rattle.std.proofs.lemmas.List.FromFn.{length-map-range_with_len}
 use Rattle.std.specs.Prelude.{slice_index_or}
+use Rattle.std.proofs.lemmas.List.Elements.{Contains-get_or}
 use Rattle.g1_image.proofs.Covers.{cards_rise}
 use Rattle.g1_image.specs.Cards.{Covered, IsTracked, refined}
 use Rattle.g1_words.specs.Copy.{renamed}
@@ -17,16 +18,15 @@ use Rattle.g1_layout.specs.Plan.{Plan}
 use Rattle.g1_layout.specs.declared.plan.Run.{Run}
 use Rattle.g1_rem.specs.Starts.{card_count}
 use Rattle.g1_words.proofs.Computed.{range_below}
-use Rattle.g1_words.proofs.Indices.{get_or-In}
-use Rattle.g1_words.proofs.Members.{In, filter_member}
+use Rattle.g1_words.proofs.Members.{filter_member}
 use Rattle.g1_words.specs.Heap.{Heap, region, region_of, regions}
-use Rattle.g1_words.specs.Layout.{HasRoom, forward, to_space}
+use Rattle.g1_words.specs.Layout.{forward, to_space}
 use Rattle.g1_words.specs.Lists.{has}
-use Rattle.g1_words.specs.Survivors.{AllOrdinary, in_set}
+use Rattle.g1_words.specs.Survivors.{in_set}
 use Rattle.g1_rem.specs.EntryCards.{cards_into}
 use Rattle.g1_copy.specs.Gathered.{to_space_words}
 use Rattle.g1_copy.specs.Laws.{RefinedFindPatches}
-use Rattle.g1_copy.specs.Patches.{AreFirsts, all_patches, patches_on}
+use Rattle.g1_copy.specs.Patches.{AreFirsts, all_patches, patches_by_card, patches_on}
 use Rattle.g1_copy.specs.Plans.{IsPauseOf}
 use Rattle.g1_words.specs.declared.region.Region.{Region}
 use Rattle.g1_copy.specs.Fates.{AreFates, AreReplaced, fate_at, region_by_fate}
@@ -36,6 +36,8 @@ use Rattle.g1_copy.specs.Unnamed.{humongous_regions}
 use Rattle.g1_copy.specs.declared.fates.Fate.{Fate}
 use Rattle.g1_copy.specs.declared.fates.Fate.TheVariants.{Freed}
 use Rattle.g1_copy.proofs.FatesMade.{freed_beside}
+use Rattle.g1_copy.proofs.Ground.{room_of}
+use Rattle.g1_copy.proofs.OnCards.{patches_by_cards}
 use Rattle.g1_copy.proofs.PreparedRegions.{regions_by_fates}
 use Rattle.g1_copy.proofs.RememberedLeft.{sets_left, sets_stay}
 use Rattle.g1_copy.proofs.RememberedPaused.{outer_rise}
@@ -43,11 +45,11 @@ use Rattle.g1_copy.proofs.UnnamedRegions.{firsts_below, freed_below, freed_are}
 
 -- the cards that lead into a set rise, are the heap's, and lie outside it
 module _ (h : Heap) (remembered : List (List ℕ)) (set cards : List ℕ) (is : cards ≡ cards_into h remembered set) where
-  pub into_rise : IsStrictlyIncreasing cards
+  into_rise : IsStrictlyIncreasing cards
   into_rise = subst IsStrictlyIncreasing (sym is) (cards_rise h (λ c. list_any (λ r. has (slice_index_or remembered r []) c) set && not (in_set h set (c * h.geometry.k))))
 
-  card_is : (k d : ℕ) → k < length cards → In (cards_into h remembered set) (get_or cards k d)
-  card_is k d lt = subst (λ xs. In xs (get_or cards k d)) is (get_or-In cards k d lt)
+  card_is : (k d : ℕ) → k < length cards → Contains (cards_into h remembered set) (get_or cards k d)
+  card_is k d lt = subst (λ xs. Contains xs (get_or cards k d)) is (Contains-get_or cards k d lt)
 
   pub into_there : All (λ c. c < card_count h) cards
   into_there k d lt =
@@ -57,19 +59,14 @@ module _ (h : Heap) (remembered : List (List ℕ)) (set cards : List ℕ) (is : 
       omega arith
 
 module _ (i : Image) (set : List ℕ) (p : Plan) (pause : IsPauseOf i.heap set p) where
-  ordinary : AllOrdinary i.heap set
-  ordinary = subst (AllOrdinary i.heap) pause.same pause.made.placeable.ordinary
-
-  pub has_room : HasRoom i.heap set p.survivors
-  has_room = record { ordinary = ordinary; survivors = pause.survivors; room = pause.made.room }
-
   -- the patches on these cards are all that there are
   pub all_found : (h : Heap) (remembered : List (List ℕ)) (cards : List ℕ) (ps : List (ℕ × ℕ)) → RefinedFindPatches → IsImage i → Covered i →
       h ≡ i.heap → remembered ≡ map (refined i) (regions i.heap) → cards ≡ cards_into h remembered set
-      → ps ≡ patches_on h p.survivors cards → ps ≡ all_patches i.heap set p.survivors
+      → ps ≡ patches_by_card h p.survivors cards → ps ≡ all_patches i.heap set p.survivors
   all_found h remembered cards ps law image covered he se ce pe =
       let same : cards ≡ cards_into i.heap (map (refined i) (regions i.heap)) set = ce ∙ (λ q. cards_into (he q) (se q) set) in
-      pe ∙ (λ q. patches_on (he q) p.survivors (same q)) ∙ law i set p.survivors image covered (subst IsStrictlyIncreasing pause.same pause.made.placeable.rising) ordinary pause.survivors
+      pe ∙ ap (λ x. patches_by_card x p.survivors cards) he ∙ patches_by_cards i.heap p.survivors cards image.heap (into_rise h remembered set cards ce)
+      ∙ ap (patches_on i.heap p.survivors) same ∙ law i set p.survivors image covered (subst IsStrictlyIncreasing pause.same pause.made.placeable.rising) (room_of i.heap set p pause).ordinary pause.survivors
 
   -- they are those of the plan's own set
   pub own_patches : (ps : List (ℕ × ℕ)) → ps ≡ all_patches i.heap set p.survivors → ps ≡ all_patches i.heap p.set p.survivors
@@ -94,11 +91,11 @@ module _ (i : Image) (set : List ℕ) (p : Plan) (pause : IsPauseOf i.heap set p
     module _ (h : Heap) (he : h ≡ i.heap) (firsts : List ℕ) (found : firsts ≡ map (λ o. region_of i.heap o.at) (unnamed (heap_moved i.heap p.set p.survivors))) where
       -- they are the heap's
       pub firsts_there : All (λ r. r < h.geometry.n) firsts
-      firsts_there = subst (λ y. All (λ r. r < y.geometry.n) firsts) (sym he) (firsts_below i set p.survivors tracked has_room firsts (own_firsts firsts found))
+      firsts_there = subst (λ y. All (λ r. r < y.geometry.n) firsts) (sym he) (firsts_below i set p.survivors tracked (room_of i.heap set p pause) firsts (own_firsts firsts found))
 
       -- their runs are what is freed
       pub regions_freed : (runs : List ℕ) → runs ≡ flat_map (humongous_regions h) firsts → runs ≡ freed
-      regions_freed runs e = e ∙ ap (λ y. flat_map (humongous_regions y) firsts) he ∙ freed_are i set p.survivors tracked has_room firsts (own_firsts firsts found)
+      regions_freed runs e = e ∙ ap (λ y. flat_map (humongous_regions y) firsts) he ∙ freed_are i set p.survivors tracked (room_of i.heap set p pause) firsts (own_firsts firsts found)
 
     -- what is freed has a place in the table of fates
     pub runs_there : (runs : List ℕ) (count : ℕ) → runs ≡ freed → count ≡ i.heap.geometry.n → All (λ r. r < count) runs
@@ -128,10 +125,10 @@ module _ (i : Image) (set : List ℕ) (p : Plan) (pause : IsPauseOf i.heap set p
         let was : old ≡ map (remembered_moved i set p.survivors (heap_moved i.heap set p.survivors)) (regions i.heap) =
         before ∙ ap (λ s. map (remembered_moved i s p.survivors (heap_moved i.heap s p.survivors)) (regions i.heap)) pause.same in
         elim (cases_lt 0 (length runs)) [
-          | inl lt ↦ sets_left i set p.survivors tracked has_room fates are old new was (subst (λ y. AreLeft y fates old new) he (some lt))
+          | inl lt ↦ sets_left i set p.survivors tracked (room_of i.heap set p pause) fates are old new was (subst (λ y. AreLeft y fates old new) he (some lt))
           | inr ge ↦
               let zero : length freed ≡ 0 = omega (arith, ge, ap length e) in
-              none (omega arith) ∙ was ∙ sets_stay i set p.survivors tracked has_room zero
+              none (omega arith) ∙ was ∙ sets_stay i set p.survivors tracked (room_of i.heap set p pause) zero
         ]
 
     -- what is prepared is made for the pause
@@ -141,7 +138,7 @@ module _ (i : Image) (set : List ℕ) (p : Plan) (pause : IsPauseOf i.heap set p
         → x.roots ≡ map (renamed (forward h p.survivors)) h.roots → x.remembered ≡ (image_paused i set p.survivors).remembered
         → x.humongous ≡ map (λ o. region_of i.heap o.at) (unnamed (heap_moved i.heap p.set p.survivors)) → IsMadeFor x i set p.survivors
     made_for x h he fates gathered patches firsts table roots remembered humongous = record {
-      room = has_room;
+      room = room_of i.heap set p pause;
       fates = fates;
       gathered = gathered ∙ ap (λ y. to_space_words y p.survivors) he;
       patches = patches;

@@ -1,21 +1,22 @@
 -- Lists of cards put together, region by region.
-use Rattle.std.proofs.Common.{◌≡◌, ℕ, zero, suc, ◌+◌, ◌*◌, ◌/◌, ◌<◌, ◌≤◌, inl, inr, Bool, true, false, cond, not, ◌&&◌, ◌||◌, List, [], ◌∷◌, length, get_or, map, filter, All}
+use Rattle.std.proofs.Common.{◌≡◌, ℕ, zero, suc, ◌+◌, ◌*◌, ◌/◌, ◌<◌, ◌≤◌, inl, inr, Bool, true, cond, not, ◌&&◌, ◌||◌, List, [], ◌∷◌, length, get_or, map, filter, All, Contains}
 use Rattle.std.proofs.Common.{refl, sym, ◌∙◌, ap, subst, arith}
 use Rattle.std.specs.Prelude.{Result, Ok, Err, IfOk}
 use Rattle.std.specs.Global.{Vec}
 use Rattle.std.specs.List.{range_with_len, AllZip}
 use Rattle.std.specs.List.Sorted.{IsStrictlyIncreasing}
 use Rattle.std.proofs.Math.Bool.{or-false}
+use Rattle.std.proofs.lemmas.Bool.{or_right}
 use Rattle.std.proofs.Math.Nat.{div-lt_iff_lt-mul, div-mul-le_self, mul-le-mul_right}
 use Rattle.std.proofs.lemmas.List.{ext_get_or, get_or-map}
 use Rattle.std.proofs.lemmas.List.FromFn.{get_or-map-range_with_len, length-map-range_with_len}
+use Rattle.std.proofs.lemmas.List.Elements.{Contains-get_or}
 use Rattle.g1_words.specs.declared.fault.Fault.{Fault}
 use Rattle.g1_words.specs.Heap.{Heap, regions}
 use Rattle.g1_words.specs.Lists.{has}
-use Rattle.g1_words.specs.Survivors.{AllOrdinary, Survivors}
 use Rattle.g1_words.specs.Layout.{free_regions, need, to_space}
-use Rattle.g1_words.proofs.Members.{In, In-filter, filter_member, in_from_has, has_from_in, or_true}
-use Rattle.g1_words.proofs.Indices.{get_or-In, range_bounds}
+use Rattle.g1_words.proofs.Members.{Contains-filter, filter_member, Contains-from_has, has_from_contains, or_true}
+use Rattle.g1_words.proofs.Indices.{range_bounds}
 use Rattle.g1_words.proofs.Shapes.{IsBuilt}
 use Rattle.g1_words.proofs.Standing.{card_positive, width_positive}
 use Rattle.g1_image.specs.Image.{Image, region_of_card, card_in}
@@ -31,28 +32,15 @@ use Rattle.g1_copy.specs.Fates.{AreFates, fate_at, fate_of}
 use Rattle.g1_copy.specs.Remembered.{is_kept_fate, stays, IsJoined, cards_at, AreSources, AreJoined}
 use Rattle.g1_copy.specs.declared.fates.Fate.{Fate}
 use Rattle.g1_copy.specs.declared.fates.Fate.TheVariants.{Freed, Filled, Kept}
-use Rattle.g1_words.proofs.Firsts.{Distinct}
+use Rattle.g1_words.proofs.Firsts.{Distinct, filter_twice}
+use Rattle.g1_words.proofs.Lists.{filter_same_in}
 use Rattle.g1_words.proofs.NextFit.{free_distinct}
 use Rattle.g1_copy.proofs.FatesMade.{HasFate, is_freed, is_filled, is_kept, has_fate}
+use Rattle.g1_copy.proofs.Ground.{Ground}
 use Rattle.g1_copy.proofs.InPlaceSlices.{Distinct-take}
 use Rattle.g1_copy.proofs.RememberedLinks.{to_space_cards, copied_cards}
 
 -- ---- cards that pass tests
-
--- a filter by two tests that agree on the members
-filter_same : (p q : ℕ → Bool) (xs : List ℕ) → ((x : ℕ) → In xs x → p x ≡ q x) → filter p xs ≡ filter q xs
-filter_same p q [] g = refl
-filter_same p q (x ∷ xs) g = let rest = filter_same p q xs (λ y k. g y (inr k)) in λ t. cond (g x (inl refl) t) (x ∷ rest t) (rest t)
-
--- a filter after a filter
-filter_twice : (p q : ℕ → Bool) (xs : List ℕ) → filter q (filter p xs) ≡ filter (λ x. p x && q x) xs
-filter_twice p q [] = refl
-filter_twice p q (x ∷ xs) =
-    let rest = filter_twice p q xs in
-    elim (p x) as (λ b. filter q (cond b (x ∷ filter p xs) (filter p xs)) ≡ cond (b && q x) (x ∷ filter (λ x. p x && q x) xs) (filter (λ x. p x && q x) xs)) [
-      | true ↦ (λ t. cond (q x) (x ∷ rest t) (rest t))
-      | false ↦ rest
-    ]
 
 -- a rising list merged with an empty one is that list
 pub merged_none : (xs : List ℕ) → IsStrictlyIncreasing xs → IsMerged xs [] xs
@@ -64,20 +52,16 @@ merged_where h p q zs m =
     let n : ℕ = h.geometry.n * h.geometry.w / h.geometry.k in
     Rises-one 0 0 zs (cards_where h (λ c. p c || q c)) (increasing-Rises zs 0 m.rising (λ lt. omega arith))
     (Rises-filter (λ c. p c || q c) 0 (range_with_len 0 n) (Rises-range 0 n))
-    (λ c k. elim (or_true (has (cards_where h p) c) (has (cards_where h q) c) (sym (m.members c) ∙ has_from_in zs c k)) [
-      | inl e ↦ let a = filter_member p (range_with_len 0 n) c (in_from_has (cards_where h p) c e) in In-filter (λ c. p c || q c) (range_with_len 0 n) c a.0 (ap (λ b. b || q c) a.1)
-      | inr e ↦ let a = filter_member q (range_with_len 0 n) c (in_from_has (cards_where h q) c e) in In-filter (λ c. p c || q c) (range_with_len 0 n) c a.0 (right (p c) (q c) a.1)
+    (λ c k. elim (or_true (has (cards_where h p) c) (has (cards_where h q) c) (sym (m.members c) ∙ has_from_contains zs c k)) [
+      | inl e ↦ let a = filter_member p (range_with_len 0 n) c (Contains-from_has (cards_where h p) c e) in Contains-filter (λ c. p c || q c) (range_with_len 0 n) c a.0 (ap (λ b. b || q c) a.1)
+      | inr e ↦ let a = filter_member q (range_with_len 0 n) c (Contains-from_has (cards_where h q) c e) in Contains-filter (λ c. p c || q c) (range_with_len 0 n) c a.0 (or_right (p c) (q c) a.1)
     ])
     (λ c k.
     let a = filter_member (λ c. p c || q c) (range_with_len 0 n) c k in
-    in_from_has zs c (m.members c ∙ elim (or_true (p c) (q c) a.1) [
-      | inl e ↦ ap (λ b. b || has (cards_where h q) c) (has_from_in (cards_where h p) c (In-filter p (range_with_len 0 n) c a.0 e))
-      | inr e ↦ right (has (cards_where h p) c) (has (cards_where h q) c) (has_from_in (cards_where h q) c (In-filter q (range_with_len 0 n) c a.0 e))
+    Contains-from_has zs c (m.members c ∙ elim (or_true (p c) (q c) a.1) [
+      | inl e ↦ ap (λ b. b || has (cards_where h q) c) (has_from_contains (cards_where h p) c (Contains-filter p (range_with_len 0 n) c a.0 e))
+      | inr e ↦ or_right (has (cards_where h p) c) (has (cards_where h q) c) (has_from_contains (cards_where h q) c (Contains-filter q (range_with_len 0 n) c a.0 e))
     ]))
-  where
-    right : (a b : Bool) → b ≡ true → (a || b) ≡ true
-    right true b e = refl
-    right false b e = e
 
 -- a card lies in one of the regions
 pub card_there : (h : Heap) → IsBuilt h → (c : ℕ) → c < h.geometry.n * h.geometry.w / h.geometry.k → region_of_card h c < h.geometry.n
@@ -88,7 +72,7 @@ card_there h valid c lt =
     (div-lt_iff_lt-mul (width_positive h.geometry.w h.geometry.k h.geometry.n valid.limits)).1 (omega arith)
 
 -- the cards that pass a test lie in the heap's regions
-pub where_there : (h : Heap) → IsBuilt h → (test : ℕ → Bool) (c : ℕ) → In (cards_where h test) c → region_of_card h c < h.geometry.n
+pub where_there : (h : Heap) → IsBuilt h → (test : ℕ → Bool) (c : ℕ) → Contains (cards_where h test) c → region_of_card h c < h.geometry.n
 where_there h valid test c k =
     let m = filter_member test (range_with_len 0 (h.geometry.n * h.geometry.w / h.geometry.k)) c k in
     let b = range_bounds 0 (h.geometry.n * h.geometry.w / h.geometry.k) c m.0 in
@@ -96,8 +80,7 @@ where_there h valid test c k =
 
 -- ---- one region's set
 
-module _ (i : Image) (set l : List ℕ) (valid : IsBuilt i.heap) (ordinary : AllOrdinary i.heap set) (survivors : Survivors i.heap set l)
-    (room : need i.heap l ≤ length (free_regions i.heap)) (fates : List Fate) (are : AreFates i.heap set (to_space i.heap l) fates) where
+module _ (i : Image) (set l : List ℕ) (g : Ground i set l) (fates : List Fate) (are : AreFates i.heap set (to_space i.heap l) fates) where
   abbrev P : ℕ → ℕ → Bool
   P r c = is_linked i.heap (all_patches i.heap set l) r c
 
@@ -108,7 +91,7 @@ module _ (i : Image) (set l : List ℕ) (valid : IsBuilt i.heap) (ordinary : All
   after = heap_moved i.heap set l
 
   once : Distinct (to_space i.heap l)
-  once = Distinct-take (need i.heap l) (free_regions i.heap) (free_distinct i.heap (width_positive i.heap.geometry.w i.heap.geometry.k i.heap.geometry.n valid.limits))
+  once = Distinct-take (need i.heap l) (free_regions i.heap) (free_distinct i.heap g.sound.w_positive)
 
   the_fate : (r : ℕ) → HasFate set (to_space i.heap l) r
   the_fate r = has_fate set (to_space i.heap l) once r
@@ -126,19 +109,19 @@ module _ (i : Image) (set l : List ℕ) (valid : IsBuilt i.heap) (ordinary : All
 
   kept_are : (r : ℕ) → filter (stays i.heap fates) (refined i r) ≡ cards_where i.heap (λ c. is_refined i r c && not (card_in i.heap set c))
   kept_are r =
-      filter_same (stays i.heap fates) (λ c. not (card_in i.heap set c)) (refined i r) (λ c k. stays_is c (where_there i.heap valid (is_refined i r) c k))
-      ∙ filter_twice (is_refined i r) (λ c. not (card_in i.heap set c)) (range_with_len 0 (i.heap.geometry.n * i.heap.geometry.w / i.heap.geometry.k))
+      filter_same_in (stays i.heap fates) (λ c. not (card_in i.heap set c)) (refined i r) (λ c k. stays_is c (where_there i.heap g.built (is_refined i r) c k))
+      ∙ filter_twice (λ c. not (card_in i.heap set c)) (is_refined i r) (range_with_len 0 (i.heap.geometry.n * i.heap.geometry.w / i.heap.geometry.k))
 
   abbrev other : ℕ → ℕ → Bool
   other r c = (is_refined i r c && not (card_in i.heap set c)) || (card_in i.heap (to_space i.heap l) c && is_exact after r c)
 
   filled_set : (r : ℕ) (zs : List ℕ) → has (to_space i.heap l) r ≡ true → IsMerged (cards_where i.heap (P r)) (cards_where i.heap (C r)) zs → zs ≡ cards_where i.heap (is_exact after r)
-  filled_set r zs to m = merged_where i.heap (P r) (C r) zs m ∙ (λ t. cards_where i.heap (λ c. sym (to_space_cards i set l valid ordinary survivors room r c to) t))
+  filled_set r zs to m = merged_where i.heap (P r) (C r) zs m ∙ (λ t. cards_where i.heap (λ c. sym (to_space_cards i set l g r c to) t))
 
   kept_set : (r : ℕ) (zs : List ℕ) → IsMerged (filter (stays i.heap fates) (refined i r)) (cards_where i.heap (C r)) zs → zs ≡ cards_where i.heap (other r)
   kept_set r zs m =
       merged_where i.heap (λ c. is_refined i r c && not (card_in i.heap set c)) (C r) zs (subst (λ xs. IsMerged xs (cards_where i.heap (C r)) zs) (kept_are r) m)
-      ∙ (λ t. cards_where i.heap (λ c. (is_refined i r c && not (card_in i.heap set c)) || sym (copied_cards i set l valid ordinary survivors room r c) t))
+      ∙ (λ t. cards_where i.heap (λ c. (is_refined i r c && not (card_in i.heap set c)) || sym (copied_cards i set l g r c) t))
 
   -- what is joined is the set after the pause
   pub remembered_moved_is : (r : ℕ) (zs : List ℕ) → r < i.heap.geometry.n →
@@ -172,7 +155,7 @@ module _ (i : Image) (set l : List ℕ) (valid : IsBuilt i.heap) (ordinary : All
       outer_count = ap length the_outer ∙ length-map-range_with_len (λ r. cards_where i.heap (P r)) 0 i.heap.geometry.n;
       inner_count = ap length the_inner ∙ length-map-range_with_len (λ r. cards_where i.heap (C r)) 0 i.heap.geometry.n;
       there = λ r lt. subst (All (λ c. region_of_card i.heap c < i.heap.geometry.n)) (sym (remembered_at r lt))
-          (λ k d lt'. where_there i.heap valid (is_refined i r) (get_or (refined i r) k d) (get_or-In (refined i r) k d lt'));
+          (λ k d lt'. where_there i.heap g.built (is_refined i r) (get_or (refined i r) k d) (Contains-get_or (refined i r) k d lt'));
       remembered_rise = λ r lt. subst IsStrictlyIncreasing (sym (remembered_at r lt)) (cards_rise i.heap (is_refined i r));
       outer_rise = λ r lt. subst IsStrictlyIncreasing (sym (outer_at r lt)) (cards_rise i.heap (P r));
       inner_rise = λ r lt. subst IsStrictlyIncreasing (sym (inner_at r lt)) (cards_rise i.heap (C r));
@@ -198,8 +181,6 @@ module _ (i : Image) (set l : List ℕ) (valid : IsBuilt i.heap) (ordinary : All
 -- a list that was read from its vector
 pub read_at : (xs : List (Vec ℕ)) (r : ℕ) (v : Vec ℕ) → r < length xs → v ≡ get_or xs r v → v.items ≡ cards_at (map (λ s. s.items) xs) r
 read_at xs r v lt e = ap (λ s. s.items) e ∙ sym (get_or-map (λ s. s.items) xs r v [] lt)
-
--- ---- region by region
 
 -- ---- the sets of all regions
 

@@ -1,5 +1,5 @@
 -- Remembered sets without the cards of freed regions, region by region.
-use Rattle.std.proofs.Common.{◌≡◌, ℕ, ◌+◌, ◌<◌, ◌≤◌, ◌⊎◌, inl, inr, true, false, cond, not, ◌&&◌, ◌||◌, List, [], ◌∷◌, ◌++◌, length, get_or, map, filter, set, refl, sym, ◌∙◌, ap, subst, arith}
+use Rattle.std.proofs.Common.{◌≡◌, ℕ, ◌+◌, ◌<◌, ◌≤◌, ◌⊎◌, inl, inr, true, false, cond, not, ◌&&◌, ◌||◌, List, [], ◌∷◌, ◌++◌, length, get_or, map, filter, set, refl, sym, ◌∙◌, ap, subst, arith, Contains}
 use Rattle.std.proofs.Math.Nat.{div-lt_iff_lt-mul}
 use Rattle.std.proofs.lemmas.Bool.{cases_Bool, cases_lt, false≢true}
 use Rattle.std.proofs.lemmas.List.{ext_get_or, get_or-set_other, get_or-set_same, length-set}
@@ -9,30 +9,23 @@ use Rattle.g1_words.specs.Layout.{HasRoom, free_regions, need, to_space}
 use Rattle.g1_words.specs.Lists.{has}
 use Rattle.g1_words.proofs.Firsts.{Distinct}
 use Rattle.g1_words.proofs.Indices.{range_bounds}
-use Rattle.g1_words.proofs.Members.{In}
+use Rattle.g1_words.proofs.Lists.{filter_same_in}
 use Rattle.g1_words.proofs.NextFit.{free_distinct}
-use Rattle.g1_words.proofs.Shapes.{IsBuilt, built}
-use Rattle.g1_words.proofs.Standing.{w_pos}
 use Rattle.g1_image.specs.Cards.{IsTracked, cards_where, exact, is_exact, is_refined}
 use Rattle.g1_image.specs.Image.{Image, IsUsedCard, region_of_card, remembered_of, card_in}
 use Rattle.g1_after.specs.Made.{heap_moved, image_moved, image_paused}
 use Rattle.g1_after.specs.Moved.{remembered_moved}
 use Rattle.g1_after.specs.Unnamed.{unnamed_regions}
-use Rattle.g1_after.proofs.Existence.{made_is_moved}
 use Rattle.g1_after.proofs.ValidMoved.{set_shape}
-use Rattle.g1_rem.proofs.EntryCards.{filter_same_in}
 use Rattle.g1_copy.specs.Fates.{AreFates, fate_at, fate_of}
 use Rattle.g1_copy.specs.Remembered.{AreLeft, cards_at, is_kept_fate, left, stays}
 use Rattle.g1_copy.specs.declared.fates.Fate.{Fate}
 use Rattle.g1_copy.specs.declared.fates.Fate.TheVariants.{Freed}
 use Rattle.g1_copy.proofs.FatesMade.{fate_beside, fate_freed, has_fate, is_filled, is_freed, is_kept}
+use Rattle.g1_copy.proofs.Ground.{Ground, ground}
 use Rattle.g1_copy.proofs.InPlaceSlices.{Distinct-take}
+use Rattle.g1_copy.proofs.Lists.{map_same_in}
 use Rattle.g1_copy.proofs.UnnamedFirsts.{cards_used, set_is}
-
--- lists that are told alike
-map_same_in : (f g : ℕ → List ℕ) (xs : List ℕ) → ((x : ℕ) → In xs x → f x ≡ g x) → map f xs ≡ map g xs
-map_same_in f g [] e = refl
-map_same_in f g (x ∷ xs) e = λ q. e x (inl refl) q ∷ map_same_in f g xs (λ y k. e y (inr k)) q
 
 -- the sets of the regions below k are what is left of them, and all others are as they were
 pub record LeftTo (h : Heap) (fates : List Fate) (k : ℕ) (old new : List (List ℕ)) : Type 0 where
@@ -75,31 +68,30 @@ module _ (i : Image) (set l : List ℕ) (tracked : IsTracked i) (a : HasRoom i.h
   abbrev freed : List ℕ
   freed = unnamed_regions (heap_moved i.heap set l)
 
-  valid : IsBuilt i.heap
-  valid = built i.heap tracked.image.heap
+  abbrev g : Ground i set l
+  g = ground i set l tracked.image.heap a
 
   once : Distinct (to_space i.heap l)
-  once = Distinct-take (need i.heap l) (free_regions i.heap) (free_distinct i.heap (w_pos i.heap valid))
+  once = Distinct-take (need i.heap l) (free_regions i.heap) (free_distinct i.heap g.sound.w_positive)
 
   -- a card of these sets lies in no region of the set
-  off_set : (r c : ℕ) → r < i.heap.geometry.n → In (remembered_of (image_moved i set l) r) c → has set (region_of_card i.heap c) ≡ false
+  off_set : (r c : ℕ) → r < i.heap.geometry.n → Contains (remembered_of (image_moved i set l) r) c → has set (region_of_card i.heap c) ≡ false
   off_set r c lt k =
       let used = cards_used i set l tracked a r c lt k in
       elim (cases_Bool (has set (region_of_card i.heap c))) [
         | inr e ↦ e
-        | inl t ↦ absurd (used.used (set_shape i set l (image_moved i set l) valid a.ordinary a.survivors a.room
-            (made_is_moved i set l valid a.ordinary a.survivors a.room) (region_of_card i.heap c) (there c used) t).0)
+        | inl t ↦ absurd (used.used (set_shape i set l (image_moved i set l) g.built a g.moved (region_of_card i.heap c) (there c used) t).0)
       ]
     where
       there : (c : ℕ) → IsUsedCard after c → region_of_card i.heap c < i.heap.geometry.n
-      there c used = (div-lt_iff_lt-mul (w_pos i.heap valid)).1 used.in_heap
+      there c used = (div-lt_iff_lt-mul g.sound.w_positive).1 used.in_heap
 
   module _ (fates : List Fate) (are : AreFates i.heap (set ++ freed) (to_space i.heap l) fates) where
     -- such a card stays unless it lies in a region that is freed beside the set
-    card_stays : (r c : ℕ) → r < i.heap.geometry.n → In (remembered_of (image_moved i set l) r) c → stays i.heap fates c ≡ not (card_in after freed c)
+    card_stays : (r c : ℕ) → r < i.heap.geometry.n → Contains (remembered_of (image_moved i set l) r) c → stays i.heap fates c ≡ not (card_in after freed c)
     card_stays r c lt k =
         let q : ℕ = region_of_card i.heap c in
-        let lies : region_of_card i.heap c < i.heap.geometry.n = (div-lt_iff_lt-mul (w_pos i.heap valid)).1 (cards_used i set l tracked a r c lt k).in_heap in
+        let lies : region_of_card i.heap c < i.heap.geometry.n = (div-lt_iff_lt-mul g.sound.w_positive).1 (cards_used i set l tracked a r c lt k).in_heap in
         elim (cases_Bool (has freed (region_of_card i.heap c))) [
           | inl t ↦ ap is_kept_fate (are.each q lies ∙ fate_freed set freed (to_space i.heap l) q t) ∙ ap not (sym t)
           | inr e ↦ ap is_kept_fate (are.each q lies ∙ fate_beside set freed (to_space i.heap l) q e) ∙ kept q (off_set r c lt k) ∙ ap not (sym e)

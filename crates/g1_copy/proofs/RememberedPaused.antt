@@ -1,10 +1,11 @@
 -- The sets that are put together in a pause, from its plan.
-use Rattle.std.proofs.Common.{◌≡◌, ℕ, suc, ◌+◌, ◌*◌, ◌<◌, ◌≤◌, List, length, get_or, map, filter, not, ◌&&◌, All, sym, ◌∙◌, ap, subst, arith}
+use Rattle.std.proofs.Common.{◌≡◌, ℕ, suc, ◌+◌, ◌*◌, ◌<◌, ◌≤◌, List, length, get_or, map, filter, not, ◌&&◌, All, sym, ◌∙◌, ap, subst, arith, Contains}
 use Rattle.std.specs.Prelude.{Result, Ok, Err, IfOk}
 use Rattle.std.specs.Global.{Vec}
 use Rattle.std.specs.List.Sorted.{IsStrictlyIncreasing}
+use Rattle.std.proofs.lemmas.List.Elements.{Contains-get_or}
 use Rattle.g1_words.specs.declared.fault.Fault.{Fault}
-use Rattle.g1_words.specs.Heap.{Heap, object_at, objects, regions}
+use Rattle.g1_words.specs.Heap.{Heap, object_at, regions}
 use Rattle.g1_words.specs.Lists.{has}
 use Rattle.g1_words.specs.References.{Ref, refs}
 use Rattle.g1_words.specs.Survivors.{in_set}
@@ -12,11 +13,9 @@ use Rattle.g1_words.specs.Layout.{forward, free_regions, need, to_space}
 use Rattle.g1_words.specs.Valid.{IsValid}
 use Rattle.g1_words.proofs.Bounds.{object_within}
 use Rattle.g1_words.proofs.Computed.{contains_has}
-use Rattle.g1_words.proofs.Indices.{get_or-In}
-use Rattle.g1_words.proofs.Members.{In, Contains-from_in, filter_member, map_cases}
+use Rattle.g1_words.proofs.Members.{filter_member, map_cases}
 use Rattle.g1_words.proofs.Ordered.{pairs_from_ordered}
 use Rattle.g1_words.proofs.Rising.{Ordered-filter, Ordered-map, refs_ordered}
-use Rattle.g1_words.proofs.Shapes.{built}
 use Rattle.g1_words.proofs.Sound.{sound}
 use Rattle.g1_image.specs.Image.{Image, IsImage}
 use Rattle.g1_image.specs.Cards.{refined}
@@ -31,6 +30,7 @@ use Rattle.g1_copy.specs.Fates.{AreFates}
 use Rattle.g1_copy.specs.Remembered.{AreSources, AreJoined}
 use Rattle.g1_copy.specs.declared.fates.Fate.{Fate}
 use Rattle.g1_copy.proofs.CopiedSlots.{forward_below}
+use Rattle.g1_copy.proofs.Ground.{Ground, ground, room_of}
 use Rattle.g1_copy.proofs.RememberedLinks.{owner_of}
 use Rattle.g1_copy.proofs.RememberedJoined.{are_sources, remembered_moved_are}
 
@@ -53,23 +53,23 @@ module _ (h : Heap) (set l : List ℕ) (valid : IsValid h) (can : CanPlace h set
       (Ordered-filter (λ (e f : Ref). e.slot < f.slot) (λ e. not (in_set h set e.slot) && has l e.target) (refs h) (refs_ordered h valid))))
       k (k + 1) 0 (omega arith) lt
 
-  patch_there : (x : ℕ × ℕ) → In (all_patches h set l) x → (x.0 < h.geometry.n * h.geometry.w) × (0 < x.1) × (x.1 ≤ h.geometry.n * h.geometry.w)
+  patch_there : (x : ℕ × ℕ) → Contains (all_patches h set l) x → (x.0 < h.geometry.n * h.geometry.w) × (0 < x.1) × (x.1 ≤ h.geometry.n * h.geometry.w)
   patch_there x k =
       let p = map_cases (patch h l) (filter (λ e. not (in_set h set e.slot) && has l e.target) (refs h)) x k in
       let e : Ref = p.0 in
-      let here : In (refs h) e = (filter_member (λ (e : Ref). not (in_set h set e.slot) && has l e.target) (refs h) e p.1).0 in
+      let here : Contains (refs h) e = (filter_member (λ (e : Ref). not (in_set h set e.slot) && has l e.target) (refs h) e p.1).0 in
       let o = owner_of h e here in
-      let c = Contains-from_in (objects h) o.owner o.stands in
+      let c = o.stands in
       let fits = (sound h valid).slots_fit o.owner c in
       let ends = object_within h valid o.owner (contains_has h o.owner valid.shaped c) in
-      let goes = forward_below h set l valid can room (object_at h e.target) (contains_has h (object_at h e.target) valid.shaped ((sound h valid).slot_named e (Contains-from_in (refs h) e here))) in
+      let goes = forward_below h set l valid can room (object_at h e.target) (contains_has h (object_at h e.target) valid.shaped ((sound h valid).slot_named e here)) in
       let slot : e.slot ≡ x.0 = ap (λ (y : ℕ × ℕ). y.0) p.2 in
       let word : suc (forward h l e.target) ≡ x.1 = ap (λ (y : ℕ × ℕ). y.1) p.2 in
       (omega (arith, fits, ends, slot, o.at, o.within), omega (arith, word), omega (arith, word, goes))
 
   -- they lie in the heap, and name addresses of it
   pub patches_there : AreThere h (all_patches h set l)
-  patches_there = λ k d lt. patch_there (get_or (all_patches h set l) k d) (get_or-In (all_patches h set l) k d lt)
+  patches_there = λ k d lt. patch_there (get_or (all_patches h set l) k d) (Contains-get_or (all_patches h set l) k d lt)
 
 -- ---- what the plan tells
 
@@ -79,6 +79,9 @@ module _ (i : Image) (set : List ℕ) (p : Plan) (image : IsImage i) (pause : Is
 
   pub can : CanPlace i.heap set l
   can = subst (λ s. CanPlace i.heap s l) pause.same pause.made.placeable
+
+  abbrev g : Ground i set l
+  g = ground i set l image.heap (room_of i.heap set p pause)
 
   pub outer_rise : IsStrictlyIncreasing (map (λ x. x.0) (all_patches i.heap set l))
   outer_rise = patches_rise i.heap set l image.heap can pause.made.room
@@ -97,10 +100,10 @@ module _ (i : Image) (set : List ℕ) (p : Plan) (image : IsImage i) (pause : Is
 
     pub paused_sources : AreSources h fates remembered outer inner
     paused_sources = subst (λ x. AreSources x fates remembered outer inner) (sym heap)
-        (are_sources i set l (built i.heap image.heap) can.ordinary pause.survivors pause.made.room fates are remembered outer inner the_remembered outer_are inner_are)
+        (are_sources i set l g fates are remembered outer inner the_remembered outer_are inner_are)
 
     paused_news : (news : List (List ℕ)) → AreJoined h fates remembered outer inner news → news ≡ map (remembered_moved i set l (heap_moved i.heap set l)) (regions i.heap)
-    paused_news news m = remembered_moved_are i set l (built i.heap image.heap) can.ordinary pause.survivors pause.made.room fates are remembered outer inner the_remembered outer_are inner_are news
+    paused_news news m = remembered_moved_are i set l g fates are remembered outer inner the_remembered outer_are inner_are news
         (subst (λ x. AreJoined x fates remembered outer inner news) heap m)
 
     -- the sets after the pause

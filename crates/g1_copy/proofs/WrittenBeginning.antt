@@ -1,5 +1,5 @@
 -- A commit that writes the beginning of the words writes them all, if nothing is filled or patched behind it.
-use Rattle.std.proofs.Common.{◌≡◌, ℕ, ◌+◌, ◌-◌, ◌*◌, ◌/◌, ◌<◌, ◌≤◌, ◌⊎◌, ◌==◌, ◌||◌, inl, inr, false, cond, List, ◌++◌, length, max, take, drop, replicate, flat_map, refl, sym, ◌∙◌, ap, subst, arith}
+use Rattle.std.proofs.Common.{◌≡◌, ℕ, ◌+◌, ◌-◌, ◌*◌, ◌/◌, ◌<◌, ◌≤◌, ◌⊎◌, ◌||◌, inl, inr, false, cond, List, ◌++◌, length, max, take, drop, replicate, flat_map, refl, sym, ◌∙◌, ap, subst, arith}
 use Rattle.std.proofs.Common.{length-append}
 use Rattle.std.specs.Prelude.{slice_index, slice_index_or}
 use Rattle.std.specs.List.{range_with_len}
@@ -7,7 +7,6 @@ use Rattle.std.specs.Int.{div_ceil}
 use Rattle.std.proofs.Math.Nat.{mul-div_left, add-mul, mul-le-mul_right}
 use Rattle.std.proofs.lemmas.Bool.{cases_Bool, cases_lt, false≢true}
 use Rattle.std.proofs.lemmas.List.{drop-replicate, take-replicate, length-replicate}
-use Rattle.std.proofs.lemmas.List.Folds.{list_any-append}
 use Rattle.std.proofs.lemmas.Grind.{div_ceil_times}
 use Rattle.std.proofs.lemmas.List.FromFn.{get_or-map-range_with_len, length-map-range_with_len}
 use Rattle.g1_words.specs.Heap.{free_region, region, region_with}
@@ -18,7 +17,9 @@ use Rattle.g1_words.specs.Words.{AreLaid}
 use Rattle.g1_words.specs.declared.region.Region.{Region}
 use Rattle.g1_words.specs.declared.region.Kind.TheVariants.{Ordinary}
 use Rattle.g1_words.proofs.Firsts.{Distinct}
+use Rattle.g1_words.proofs.Lists.{has_both}
 use Rattle.g1_words.proofs.NextFit.{free_distinct}
+use Rattle.g1_words.proofs.Sound.{w_positive}
 use Rattle.g1_image.specs.Image.{Image}
 use Rattle.g1_after.specs.Made.{heap_moved}
 use Rattle.g1_after.specs.Moved.{new_region}
@@ -49,11 +50,8 @@ module _ (p : Prepared) (i : Image) (set l : List ℕ) (valid : IsValid i.heap) 
   abbrev n : ℕ
   n = i.heap.geometry.n
 
-  w_positive : 0 < w
-  w_positive = let k = valid.limits.w_least in omega arith
-
   count : length i.heap.words / w ≡ n
-  count = ap (λ y. y / w) valid.word_count ∙ mul-div_left n w_positive
+  count = ap (λ y. y / w) valid.word_count ∙ mul-div_left n (w_positive i.heap valid)
 
   fated : (r : ℕ) → r < n → r < length p.fates
   fated r lt = omega (arith, lt, made.fates.one_each)
@@ -78,7 +76,7 @@ module _ (p : Prepared) (i : Image) (set l : List ℕ) (valid : IsValid i.heap) 
 
     pub front_writable : EverySlice (IsWritable w p.fates p.gathered p.patches p.firsts) w xs
     front_writable r lt =
-        let slices : length xs / w ≡ m = ap (λ y. y / w) long ∙ mul-div_left m w_positive in
+        let slices : length xs / w ≡ m = ap (λ y. y / w) long ∙ mul-div_left m (w_positive i.heap valid) in
         let low : r < m = subst (λ k. r < k) slices lt in
         subst (IsWritable w p.fates p.gathered p.patches p.firsts r) (front r low) (all_writable p i set l valid made r (omega (arith, low, few, count)))
 
@@ -109,7 +107,7 @@ module _ (p : Prepared) (i : Image) (set l : List ℕ) (valid : IsValid i.heap) 
     pub written_all : (ws : List ℕ) → length ws ≡ length xs → ((r : ℕ) → r < length xs / w → slice_of w r ws ≡ by_fate w p.gathered p.patches r (fate_at p.fates r) (slice_of w r xs))
         → ws ++ replicate zeros 0 ≡ written p w i.heap.words
     written_all ws size each =
-        let slices : length xs / w ≡ m = ap (λ y. y / w) long ∙ mul-div_left m w_positive in
+        let slices : length xs / w ≡ m = ap (λ y. y / w) long ∙ mul-div_left m (w_positive i.heap valid) in
         let all : length (ws ++ replicate zeros 0) ≡ n * w =
         length-append ws (replicate zeros 0) ∙ omega (arith, size, ap length whole, length-append xs (replicate zeros 0), valid.word_count) in
         let f : ℕ → List ℕ = λ r. by_fate w p.gathered p.patches r (fate_at p.fates r) (slice_of w r i.heap.words) in
@@ -132,8 +130,8 @@ module _ (p : Prepared) (i : Image) (set l : List ℕ) (valid : IsValid i.heap) 
   -- a region behind is not of to-space
   not_filled : (r : ℕ) → m ≤ r → r < n → has set r ≡ false → has dead r ≡ false → has to r ≡ false
   not_filled r le lt a b =
-      let both : has (set ++ dead) r ≡ false = list_any-append (λ y. r == y) set dead ∙ (λ q. a q || b q) in
-      let once : Distinct to = Distinct-take (need i.heap l) (free_regions i.heap) (free_distinct i.heap w_positive) in
+      let both : has (set ++ dead) r ≡ false = has_both set dead r ∙ (λ q. a q || b q) in
+      let once : Distinct to = Distinct-take (need i.heap l) (free_regions i.heap) (free_distinct i.heap (w_positive i.heap valid)) in
       elim (has_fate (set ++ dead) to once r) [
         | is_freed h f ↦ absurd (false≢true (sym both ∙ h))
         | is_filled t less at x y f ↦ absurd ((unwritten r le (fated r lt)).filled t (made.fates.each r lt ∙ f))

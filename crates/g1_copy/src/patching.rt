@@ -172,7 +172,7 @@ pub fn patches(
     Ok(patches_by(rt, alloc, &moves, cards, MOST_WORKERS)?)
 }
 
-/// As `patches`, with this many workers at most. One if it is 0.
+/// As `patches_alone`, by this many workers at most. One if it is 0.
 pub(crate) fn patches_by(
     rt: &(impl Threads + Sync),
     alloc: Global,
@@ -180,12 +180,9 @@ pub(crate) fn patches_by(
     cards: &[u32],
     workers: u64,
 ) -> Result<Vec<(u64, u64)>, AllocError>
-    requires rising { IsStrictlyIncreasing cards.now }
-    requires there { All (λ c. c < card_count moves.now.heap) cards.now }
-    ensures { IfOk result (λ v. v.items ≡ patches_on moves.now.heap moves.now.plan.survivors cards.now) }
+    requires { All (λ c. c < card_count moves.now.heap) cards.now }
+    ensures { IfOk result (λ v. v.items ≡ patches_by_card moves.now.heap moves.now.plan.survivors cards.now) }
 {
-    let moving = moves.moving;
-    g1_words::laws::valid(moving.heap);
     match threads_for(workers, cards.len(), SCANNED_CARDS_A_THREAD) {
         1 => patches_alone(alloc, moves, cards),
         threads => patches_by_threads(rt, alloc, moves, cards, threads),
@@ -194,12 +191,12 @@ pub(crate) fn patches_by(
 
 /// Makes the patches of the slots that lead into the set: puts the word after the pause in place of each
 /// slot's word.
-pub(crate) fn rename_slots(heap: &Heap, plan: &Plan, slots: &mut Vec<(u64, u64)>)
-    requires plan { IsPauseOf heap.now plan.now.set plan.now }
-    requires leads { AreLeads heap.now plan.now.set plan.now.survivors slots.old.items }
-    ensures { slots.new.items ≡ all_patches heap.now plan.now.set plan.now.survivors }
+pub(crate) fn rename_slots(moving: &Moving<'_>, slots: &mut Vec<(u64, u64)>)
+    requires plan { IsPauseOf moving.now.heap moving.now.plan.set moving.now.plan }
+    requires leads { AreLeads moving.now.heap moving.now.plan.set moving.now.plan.survivors slots.old.items }
+    ensures { slots.new.items ≡ all_patches moving.now.heap moving.now.plan.set moving.now.plan.survivors }
 {
-    g1_words::laws::valid(heap);
+    let plan = moving.plan;
     for index in 0..slots.len() {
         let slot = slots[index];
         slots[index] = (slot.0, rename_reference(plan, slot.1));

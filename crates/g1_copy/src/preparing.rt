@@ -244,11 +244,12 @@ fn new_regions(
 }
 
 /// The roots after the pause.
-fn new_roots(alloc: Global, heap: &Heap, plan: &Plan) -> Result<Vec<u64>, AllocError>
-    requires { IsPauseOf heap.now plan.now.set plan.now }
-    ensures { IfOk result (λ v. v.items ≡ map (renamed (forward heap.now plan.now.survivors)) heap.now.roots) }
+fn new_roots(alloc: Global, moving: &Moving<'_>) -> Result<Vec<u64>, AllocError>
+    requires { IsPauseOf moving.now.heap moving.now.plan.set moving.now.plan }
+    ensures { IfOk result (λ v. v.items ≡ map (renamed (forward moving.now.heap moving.now.plan.survivors)) moving.now.heap.roots) }
 {
-    g1_words::laws::valid(heap);
+    let heap = moving.heap;
+    let plan = moving.plan;
     let mut roots = Vec::with_capacity(alloc, heap.roots().len())?;
     for root in heap.roots() {
         roots.push(rename_reference(plan, *root))?;
@@ -327,6 +328,22 @@ pub struct Basis<'a> {
     pub cards: &'a [u32],
 }
 
+/// What a pause is prepared on, without the cards.
+fn pausing_on<'a>(basis: &Basis<'a>) -> Pausing<'a>
+    requires starts { IsStartsOf basis.now.tracked.now.heap basis.now.starts.now }
+    requires remembered { map (λ s. s.items) basis.now.remembered.now ≡ map (refined basis.now.tracked.now) (regions basis.now.tracked.now.heap) }
+    requires plan { IsPauseOf basis.now.tracked.now.heap basis.now.set.now basis.now.plan.now }
+    ensures { result ≡ record { image = basis.now.tracked.now; set = basis.now.set.now; plan = basis.now.plan.now } }
+{
+    Pausing {
+        tracked: basis.tracked,
+        starts: basis.starts,
+        remembered: basis.remembered,
+        set: basis.set,
+        plan: basis.plan,
+    }
+}
+
 /// As `prepare`, for a caller that has listed the cards that lead into the set, with this many workers
 /// at most. One if it is 0.
 ///
@@ -373,28 +390,17 @@ pub fn prepare_on(
     ensures memory { IfErr result (λ e. e ≡ Fault.Memory) }
 {
     laws::all_patches();
-    let Basis {
-        tracked,
-        starts,
-        remembered,
-        set,
-        plan,
-        cards,
-    } = *basis;
-    let heap = heap_of(tracked);
-    let moving = Moving { heap, plan };
+    let heap = heap_of(basis.tracked);
+    let moving = Moving {
+        heap,
+        plan: basis.plan,
+    };
     let moves = Moves {
         moving: &moving,
-        starts,
+        starts: basis.starts,
     };
-    let patches = patches_by(rt, alloc, &moves, cards, workers)?;
-    let pausing = Pausing {
-        tracked,
-        starts,
-        remembered,
-        set,
-        plan,
-    };
+    let patches = patches_by(rt, alloc, &moves, basis.cards, workers)?;
+    let pausing = pausing_on(basis);
     prepare_patches(rt, alloc, &pausing, patches, workers)
 }
 
@@ -445,23 +451,14 @@ pub fn prepare_by_leads(
     ensures ok { IfOk result (λ p. IsMadeFor p basis.now.tracked.now basis.now.set.now basis.now.plan.now.survivors) }
     ensures memory { IfErr result (λ e. e ≡ Fault.Memory) }
 {
-    let Basis {
-        tracked,
-        starts,
-        remembered,
-        set,
-        plan,
-        ..
-    } = *basis;
-    let mut patches = leads;
-    rename_slots(heap_of(tracked), plan, &mut patches);
-    let pausing = Pausing {
-        tracked,
-        starts,
-        remembered,
-        set,
-        plan,
+    let heap = heap_of(basis.tracked);
+    let moving = Moving {
+        heap,
+        plan: basis.plan,
     };
+    let mut patches = leads;
+    rename_slots(&moving, &mut patches);
+    let pausing = pausing_on(basis);
     prepare_patches(rt, alloc, &pausing, patches, workers)
 }
 
@@ -497,7 +494,7 @@ fn prepare_patches(
     Ok(Prepared {
         firsts: firsts(alloc, heap, &patches)?,
         regions: new_regions(alloc, heap, &fates, plan)?,
-        roots: new_roots(alloc, heap, plan)?,
+        roots: new_roots(alloc, &moving)?,
         remembered: sets,
         fates,
         gathered,

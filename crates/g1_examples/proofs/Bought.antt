@@ -1,8 +1,7 @@
 -- What budgets buy of the three regions.
-use Rattle.std.proofs.Common.{◌≡◌, ℕ, ◌+◌, ◌<◌, ◌≤◌, List, [], ◌∷◌, filter, take, Contains, inl, inr, refl}
+use Rattle.std.proofs.Common.{◌≡◌, ℕ, ◌+◌, ◌<◌, ◌≤◌, List, [], ◌∷◌, filter, take, Contains, refl, zero, suc, arith}
 use Rattle.g1_words.specs.Heap.{regions}
 use Rattle.g1_words.specs.Lists.{has}
-use Rattle.g1_words.proofs.Members.{In, In-from_contains, Contains-from_in}
 use Rattle.g1_choose.specs.Choice.{comes_before, pause_cost}
 use Rattle.g1_choose.proofs.Budget.{longest_from_walk}
 use Rattle.g1_examples.specs.Examples.{three_regions}
@@ -24,11 +23,8 @@ buys budget m set le pays stop e = record {
   rising = e;
 }
 
-two_swapped_in : (a b r : ℕ) → In (a ∷ b ∷ []) r → In (b ∷ a ∷ []) r
-two_swapped_in a b r (inl e) = inr (inl e)
-two_swapped_in a b r (inr (inl e)) = inl e
-two_swapped_in a b r (inr (inr f)) = absurd f
-
 -- a list of two has its members in either order
 pub two_swapped : (a b r : ℕ) → Contains (a ∷ b ∷ []) r → Contains (b ∷ a ∷ []) r
-two_swapped a b r k = Contains-from_in (b ∷ a ∷ []) r (two_swapped_in a b r (In-from_contains (a ∷ b ∷ []) r k))
+two_swapped a b r (zero, lt, e) = (suc zero, omega arith, e)
+two_swapped a b r (suc zero, lt, e) = (zero, omega arith, e)
+two_swapped a b r (suc (suc k), lt, e) = absurd (omega (arith, lt))

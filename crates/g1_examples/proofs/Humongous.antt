@@ -1,18 +1,17 @@
 -- A small heap with a humongous object keeps all rules.
-use Rattle.std.proofs.Common.{◌≡◌, ℕ, zero, suc, ◌+◌, ◌-◌, ◌*◌, ◌^◌, ◌<◌, ◌≤◌, inl, inr, true, ◌||◌, [], ◌∷◌, refl, sym, ap, subst, arith, lit<, lit≤, ltb, eqb, eqb-true, ltb-true, le-ltb, false}
-use Rattle.std.specs.List.{list_all, range_with_len}
+use Rattle.std.proofs.Common.{◌≡◌, ℕ, zero, suc, ◌+◌, ◌-◌, ◌*◌, ◌^◌, ◌<◌, ◌≤◌, inl, inr, true, ◌||◌, [], ◌∷◌, refl, sym, ap, subst, arith, lit<, lit≤, ltb, eqb, eqb-true, ltb-true, false, Contains}
 use Rattle.std.proofs.lemmas.Bool.{or_cases}
+use Rattle.std.proofs.lemmas.List.Elements.{All-from_recursion}
 use Rattle.g1_words.specs.declared.object.Object.{Object}
 use Rattle.g1_words.specs.declared.region.Kind.TheVariants.{Ordinary, HumongousFirst, Continuation}
 use Rattle.g1_words.specs.Heap.{top, start, word, objects, object_at}
 use Rattle.g1_words.specs.Valid.{MayBePinned, IsObject, IsFirst, HasObject, IsSlotOf, IsReference, IsWholeRun, IsShaped, IsShapedBy, IsValid}
-use Rattle.g1_words.proofs.Members.{In, In-from_contains}
 use Rattle.g1_words.proofs.Computed.{has_contains}
 use Rattle.g1_words.proofs.Lists.{all_from_in}
 use Rattle.g1_examples.specs.Examples.{humongous_owner}
 use Rattle.g1_examples.proofs.Sorted.{all_members}
-use Rattle.g1_examples.proofs.Closed.{each_member, each_below}
-use Rattle.g1_examples.proofs.Inhabited.{or_else}
+use Rattle.g1_examples.proofs.Closed.{each_below}
+use Rattle.g1_examples.proofs.Inhabited.{zero_by_test}
 
 object0 : IsObject humongous_owner.words (object_at humongous_owner 0)
 object0 = record { header = refl; refs_fit = lit< tt; size_fits = lit< tt }
@@ -44,8 +43,7 @@ shape3 = (
   lit≤ tt,
   object_at humongous_owner 48 ∷ [],
   (refl, object48, refl),
-  all_from_in (λ (o : Object). 4 * o.size ≤ 3 * 16)
-      (object_at humongous_owner 48 ∷ []) (each_member (λ (o : Object). 4 * o.size ≤ 3 * 16) (object_at humongous_owner 48 ∷ []) (lit≤ tt, tt)),
+  All-from_recursion (λ (o : Object). 4 * o.size ≤ 3 * 16) (object_at humongous_owner 48 ∷ []) (lit≤ tt, tt),
 )
 
 shaped9 : (r : ℕ) → r < 6 → IsShaped humongous_owner r
@@ -57,21 +55,13 @@ shaped9 (suc (suc (suc (suc zero)))) lt = record { by_kind = refl; current = λ 
 shaped9 (suc (suc (suc (suc (suc zero))))) lt = record { by_kind = refl; current = λ e. cc }
 shaped9 (suc (suc (suc (suc (suc (suc r)))))) lt = absurd (omega arith)
 
-zero_by_test : (r i : ℕ) → list_all (λ i. ltb i (top humongous_owner r) || eqb (word humongous_owner (start humongous_owner r + i)) 0)
-    (range_with_len 0 16) ≡ true → top humongous_owner r ≤ i → i < 16 → word humongous_owner (start humongous_owner r + i) ≡ 0
-zero_by_test r i t le lt =
-    eqb-true (word humongous_owner (start humongous_owner r + i)) 0
-    (or_else (ltb i (top humongous_owner r)) (eqb (word humongous_owner (start humongous_owner r + i)) 0) (le-ltb i (top humongous_owner r) le)
-    (subst (λ m. (ltb m (top humongous_owner r) || eqb (word humongous_owner (start humongous_owner r + m)) 0) ≡ true) (omega arith)
-    (each_below (λ i. ltb i (top humongous_owner r) || eqb (word humongous_owner (start humongous_owner r + i)) 0) 16 0 t i lt)))
-
 zero9 : (r i : ℕ) → r < 6 → top humongous_owner r ≤ i → i < 16 → word humongous_owner (start humongous_owner r + i) ≡ 0
-zero9 zero i lt le below = zero_by_test 0 i refl le below
-zero9 (suc zero) i lt le below = zero_by_test 1 i refl le below
-zero9 (suc (suc zero)) i lt le below = zero_by_test 2 i refl le below
-zero9 (suc (suc (suc zero))) i lt le below = zero_by_test 3 i refl le below
-zero9 (suc (suc (suc (suc zero)))) i lt le below = zero_by_test 4 i refl le below
-zero9 (suc (suc (suc (suc (suc zero))))) i lt le below = zero_by_test 5 i refl le below
+zero9 zero i lt le below = zero_by_test humongous_owner 0 i refl le below
+zero9 (suc zero) i lt le below = zero_by_test humongous_owner 1 i refl le below
+zero9 (suc (suc zero)) i lt le below = zero_by_test humongous_owner 2 i refl le below
+zero9 (suc (suc (suc zero))) i lt le below = zero_by_test humongous_owner 3 i refl le below
+zero9 (suc (suc (suc (suc zero)))) i lt le below = zero_by_test humongous_owner 4 i refl le below
+zero9 (suc (suc (suc (suc (suc zero))))) i lt le below = zero_by_test humongous_owner 5 i refl le below
 zero9 (suc (suc (suc (suc (suc (suc r)))))) i lt le below = absurd (omega arith)
 
 has0 : HasObject humongous_owner (object_at humongous_owner 0)
@@ -93,18 +83,18 @@ slot0 p low high = elim (or_cases (eqb (word humongous_owner p) 0) (eqb p 17) th
         subst (λ m. (eqb (word humongous_owner m) 0 || eqb m 17) ≡ true) same (each_below (λ p. eqb (word humongous_owner p) 0 || eqb p 17) 20 1 refl (p - 1) (omega arith))
 
 slots9 : (o : Object) (p : ℕ) → HasObject humongous_owner o → IsSlotOf o p → IsReference humongous_owner (word humongous_owner p)
-slots9 o p has s = of_member (In-from_contains (objects humongous_owner) o (has_contains humongous_owner o has))
+slots9 o p has s = of_member (has_contains humongous_owner o has)
   where
-    of_member : In (objects humongous_owner) o → IsReference humongous_owner (word humongous_owner p)
-    of_member (inl e) =
+    of_member : Contains (objects humongous_owner) o → IsReference humongous_owner (word humongous_owner p)
+    of_member (zero, b, e) =
         let at : 0 ≡ o.at = ap (λ (o : Object). o.at) e in
         let refs : 20 ≡ o.refs = ap (λ (o : Object). o.refs) e in
         slot0 p (omega (arith, s.0, at)) (omega (arith, s.1, at, refs))
-    of_member (inr (inl e)) =
+    of_member (suc zero, b, e) =
         let at : 48 ≡ o.at = ap (λ (o : Object). o.at) e in
         let refs : 0 ≡ o.refs = ap (λ (o : Object). o.refs) e in
         absurd (omega (arith, s.0, s.1, at, refs))
-    of_member (inr (inr i)) = absurd i
+    of_member (suc (suc k), b, e) = absurd (omega (arith, b))
 
 pins9 : (r : ℕ) → MayBePinned humongous_owner r
 pins9 zero t = absurd (let clash : false ≡ true = t in cc)
@@ -136,7 +126,7 @@ humongous_owner_is_valid = record {
   shaped = shaped9;
   pins = λ r lt. pins9 r;
   zero_above = zero9;
-  roots = all_from_in (IsReference humongous_owner) (1 ∷ []) (each_member (IsReference humongous_owner) (1 ∷ []) (inr (object_at humongous_owner 0, has0, refl), tt));
+  roots = All-from_recursion (IsReference humongous_owner) (1 ∷ []) (inr (object_at humongous_owner 0, has0, refl), tt);
   slots = slots9;
   current_in = tt;
 }

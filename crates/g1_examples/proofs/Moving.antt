@@ -12,7 +12,6 @@ use Rattle.g1_after.specs.Paused.{Paused}
 use Rattle.g1_examples.specs.Examples.{dead_owner, dead_owner_after, dead_owner_image, filled, first, head, heap16, humongous_owner, humongous_owner_after, humongous_owner_image, image}
 use Rattle.g1_examples.specs.Examples.{more, one_object, one_object_after, ordinary, shared_target, shared_target_after, shared_target_image}
 use Rattle.g1_examples.specs.Unnamed.{chain, chain_after, named_by_the_dead, own_slot, unnamed_owner}
-use Rattle.g1_words.proofs.Members.{In-from_contains}
 use Rattle.g1_words.proofs.Unique.{search_ends}
 use Rattle.g1_examples.proofs.Closed.{each_member, cleared_by_test}
 
@@ -27,7 +26,7 @@ unfolding f os
 dead_owner_moved = record {
   geometry = refl;
   size = refl;
-  copies = λ o h. each_member (IsCopy f dead_owner dead_owner_after.heap) os (refl, (refl, tt)) o (In-from_contains os o h);
+  copies = each_member (IsCopy f dead_owner dead_owner_after.heap) os (refl, (refl, tt));
   cleared = cleared_by_test dead_owner_after.heap f os refl;
   table = refl;
   roots = refl;
@@ -40,8 +39,8 @@ pub shared_target_moved : IsMoved shared_target_image (1 ∷ []) (21 ∷ 16 ∷ 
 shared_target_moved = record {
   geometry = refl;
   size = refl;
-  copies = λ o h. each_member (IsCopy (forward shared_target (21 ∷ 16 ∷ [])) shared_target shared_target_after.heap)
-      (kept shared_target (1 ∷ []) (21 ∷ 16 ∷ [])) (refl, (refl, (refl, (refl, tt)))) o (In-from_contains (kept shared_target (1 ∷ []) (21 ∷ 16 ∷ [])) o h);
+  copies = each_member (IsCopy (forward shared_target (21 ∷ 16 ∷ [])) shared_target shared_target_after.heap)
+      (kept shared_target (1 ∷ []) (21 ∷ 16 ∷ [])) (refl, (refl, (refl, (refl, tt))));
   cleared = cleared_by_test shared_target_after.heap (forward shared_target (21 ∷ 16 ∷ [])) (kept shared_target (1 ∷ []) (21 ∷ 16 ∷ [])) refl;
   table = refl;
   roots = refl;
@@ -54,8 +53,8 @@ pub humongous_moved : IsMoved humongous_owner_image (3 ∷ []) (48 ∷ []) humon
 humongous_moved = record {
   geometry = refl;
   size = refl;
-  copies = λ o h. each_member (IsCopy (forward humongous_owner (48 ∷ [])) humongous_owner humongous_owner_after.heap)
-      (kept humongous_owner (3 ∷ []) (48 ∷ [])) (refl, (refl, tt)) o (In-from_contains (kept humongous_owner (3 ∷ []) (48 ∷ [])) o h);
+  copies = each_member (IsCopy (forward humongous_owner (48 ∷ [])) humongous_owner humongous_owner_after.heap)
+      (kept humongous_owner (3 ∷ []) (48 ∷ [])) (refl, (refl, tt));
   cleared = cleared_by_test humongous_owner_after.heap (forward humongous_owner (48 ∷ [])) (kept humongous_owner (3 ∷ []) (48 ∷ [])) refl;
   table = refl;
   roots = refl;
@@ -68,8 +67,8 @@ pub one_object_moved : IsMoved one_object (1 ∷ []) (16 ∷ []) one_object_afte
 one_object_moved = record {
   geometry = refl;
   size = refl;
-  copies = λ o h. each_member (IsCopy (forward one_object.heap (16 ∷ [])) one_object.heap one_object_after.heap)
-      (kept one_object.heap (1 ∷ []) (16 ∷ [])) (refl, tt) o (In-from_contains (kept one_object.heap (1 ∷ []) (16 ∷ [])) o h);
+  copies = each_member (IsCopy (forward one_object.heap (16 ∷ [])) one_object.heap one_object_after.heap)
+      (kept one_object.heap (1 ∷ []) (16 ∷ [])) (refl, tt);
   cleared = cleared_by_test one_object_after.heap (forward one_object.heap (16 ∷ [])) (kept one_object.heap (1 ∷ []) (16 ∷ [])) refl;
   table = refl;
   roots = refl;
@@ -82,7 +81,7 @@ pub chain_stays : IsMoved chain [] [] chain
 chain_stays = record {
   geometry = refl;
   size = refl;
-  copies = λ o h. each_member (IsCopy (forward chain.heap []) chain.heap chain.heap) (kept chain.heap [] []) (refl, (refl, (refl, tt))) o (In-from_contains (kept chain.heap [] []) o h);
+  copies = each_member (IsCopy (forward chain.heap []) chain.heap chain.heap) (kept chain.heap [] []) (refl, (refl, (refl, tt)));
   cleared = cleared_by_test chain.heap (forward chain.heap []) (kept chain.heap [] []) refl;
   table = refl;
   roots = refl;
@@ -95,8 +94,8 @@ pub second_stays : IsMoved chain_after [] [] chain_after
 second_stays = record {
   geometry = refl;
   size = refl;
-  copies = λ o h. each_member (IsCopy (forward chain_after.heap []) chain_after.heap chain_after.heap) (kept chain_after.heap [] [])
-      (refl, (refl, tt)) o (In-from_contains (kept chain_after.heap [] []) o h);
+  copies = each_member (IsCopy (forward chain_after.heap []) chain_after.heap chain_after.heap) (kept chain_after.heap [] [])
+      (refl, (refl, tt));
   cleared = cleared_by_test chain_after.heap (forward chain_after.heap []) (kept chain_after.heap [] []) refl;
   table = refl;
   roots = refl;
@@ -109,7 +108,7 @@ pub own_slot_stays : IsMoved own_slot [] [] own_slot
 own_slot_stays = record {
   geometry = refl;
   size = refl;
-  copies = λ o h. each_member (IsCopy (forward own_slot.heap []) own_slot.heap own_slot.heap) (kept own_slot.heap [] []) (refl, tt) o (In-from_contains (kept own_slot.heap [] []) o h);
+  copies = each_member (IsCopy (forward own_slot.heap []) own_slot.heap own_slot.heap) (kept own_slot.heap [] []) (refl, tt);
   cleared = cleared_by_test own_slot.heap (forward own_slot.heap []) (kept own_slot.heap [] []) refl;
   table = refl;
   roots = refl;
@@ -122,8 +121,8 @@ pub dead_stays : IsMoved named_by_the_dead [] [] named_by_the_dead
 dead_stays = record {
   geometry = refl;
   size = refl;
-  copies = λ o h. each_member (IsCopy (forward named_by_the_dead.heap []) named_by_the_dead.heap named_by_the_dead.heap)
-      (kept named_by_the_dead.heap [] []) (refl, (refl, tt)) o (In-from_contains (kept named_by_the_dead.heap [] []) o h);
+  copies = each_member (IsCopy (forward named_by_the_dead.heap []) named_by_the_dead.heap named_by_the_dead.heap)
+      (kept named_by_the_dead.heap [] []) (refl, (refl, tt));
   cleared = cleared_by_test named_by_the_dead.heap (forward named_by_the_dead.heap []) (kept named_by_the_dead.heap [] []) refl;
   table = refl;
   roots = refl;
@@ -140,8 +139,8 @@ pub dead_goes : IsMoved named_by_the_dead (0 ∷ []) [] without_the_dead
 dead_goes = record {
   geometry = refl;
   size = refl;
-  copies = λ o h. each_member (IsCopy (forward named_by_the_dead.heap []) named_by_the_dead.heap without_the_dead.heap)
-      (kept named_by_the_dead.heap (0 ∷ []) []) (refl, tt) o (In-from_contains (kept named_by_the_dead.heap (0 ∷ []) []) o h);
+  copies = each_member (IsCopy (forward named_by_the_dead.heap []) named_by_the_dead.heap without_the_dead.heap)
+      (kept named_by_the_dead.heap (0 ∷ []) []) (refl, tt);
   cleared = cleared_by_test without_the_dead.heap (forward named_by_the_dead.heap []) (kept named_by_the_dead.heap (0 ∷ []) []) refl;
   table = refl;
   roots = refl;
@@ -160,8 +159,8 @@ pub copied : IsMoved unnamed_owner (3 ∷ []) (48 ∷ []) with_a_copy
 copied = record {
   geometry = refl;
   size = refl;
-  copies = λ o h. each_member (IsCopy (forward unnamed_owner.heap (48 ∷ [])) unnamed_owner.heap with_a_copy.heap)
-      (kept unnamed_owner.heap (3 ∷ []) (48 ∷ [])) (refl, (refl, tt)) o (In-from_contains (kept unnamed_owner.heap (3 ∷ []) (48 ∷ [])) o h);
+  copies = each_member (IsCopy (forward unnamed_owner.heap (48 ∷ [])) unnamed_owner.heap with_a_copy.heap)
+      (kept unnamed_owner.heap (3 ∷ []) (48 ∷ [])) (refl, (refl, tt));
   cleared = cleared_by_test with_a_copy.heap (forward unnamed_owner.heap (48 ∷ [])) (kept unnamed_owner.heap (3 ∷ []) (48 ∷ [])) refl;
   table = refl;
   roots = refl;

@@ -1,12 +1,12 @@
 -- What a search meets again, from the cards that lead into its set.
-use Rattle.std.proofs.Common.{◌≡◌, ℕ, zero, suc, ◌+◌, ◌-◌, ◌<◌, ◌≤◌, Bool, true, List, [], ◌∷◌, ◌++◌, length, filter, flat_map, slice_index, refl, sym, ◌∙◌, ap, subst, arith, append_assoc}
+use Rattle.std.proofs.Common.{◌≡◌, ℕ, zero, suc, ◌+◌, ◌-◌, ◌<◌, ◌≤◌, Bool, true, List, [], ◌∷◌, ◌++◌, length, filter, flat_map, slice_index, refl, sym, ◌∙◌, ap, subst, arith, append_assoc, Contains}
 use Rattle.std.specs.List.{range_with_len}
 use Rattle.std.proofs.lemmas.Grind.{flat_map-append}
 use Rattle.std.proofs.lemmas.List.Elements.{filter-append}
 use Rattle.g1_words.specs.Heap.{Heap}
 use Rattle.g1_words.specs.Survivors.{in_set, Survivors}
 use Rattle.g1_words.specs.Valid.{IsValid}
-use Rattle.g1_words.proofs.Members.{In, map_cases, filter_member}
+use Rattle.g1_words.proofs.Members.{map_cases, filter_member}
 use Rattle.g1_frontier.specs.Window.{AreCards, AreOutside, LeadIn}
 use Rattle.g1_explain.specs.declared.finder.Finder.{Finder}
 use Rattle.g1_explain.specs.declared.paths.Leg.{Leg}
@@ -25,9 +25,9 @@ module _ (h : Heap) (set cards found : List ℕ) (valid : IsValid h) (rising : A
   abbrev into : ℕ → Bool
   into a = in_set h set a
 
-  pub inside : (a : ℕ) → In found a → in_set h set a ≡ true
+  pub inside : (a : ℕ) → Contains found a → in_set h set a ≡ true
   inside a k =
-      let m = map_cases (λ (l : Lead). l.target) (first_leads (leads h set found)) a (subst (λ xs. In xs a) (searched h set found survivors) k) in
+      let m = map_cases (λ (l : Lead). l.target) (first_leads (leads h set found)) a (subst (λ xs. Contains xs a) (searched h set found survivors) k) in
       let t = filter_member (λ (l : Lead). in_set h set l.target) (root_leads h ++ (slot_leads h set ++ found_leads h found (length found))) m.0 (first_member (leads h set found) m.0 m.1) in
       subst (λ x. in_set h set x ≡ true) m.2 t.1
 

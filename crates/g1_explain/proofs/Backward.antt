@@ -1,13 +1,13 @@
 -- Each object is found from a root, from a slot outside, or from an object that was found before it.
-use Rattle.std.proofs.Common.{◌≡◌, ℕ, suc, ◌+◌, ◌-◌, ◌<◌, ◌≤◌, ◌⊎◌, inl, inr, true, List, [], ◌∷◌, ◌++◌, length, flat_map, slice_index, Contains, sym, ◌∙◌, ap, subst, arith, append-nil}
+use Rattle.std.proofs.Common.{◌≡◌, ℕ, suc, ◌+◌, ◌-◌, ◌<◌, ◌≤◌, ◌⊎◌, inl, inr, true, List, [], ◌++◌, length, slice_index, Contains, sym, ◌∙◌, ap, subst, arith, append-nil, refl}
 use Rattle.std.proofs.lemmas.Bool.{cases_eq, cases_lt}
+use Rattle.std.proofs.lemmas.List.Elements.{Contains-append_cases, Contains-append_left, Contains-get_or}
 use Rattle.g1_words.specs.Heap.{Heap, word, object_at, slots}
 use Rattle.g1_words.specs.Live.{Reached, seed, child}
 use Rattle.g1_words.specs.References.{Ref, refs, named, targets}
 use Rattle.g1_words.specs.Survivors.{in_set, seeds, children}
 use Rattle.g1_words.specs.Valid.{IsValid}
-use Rattle.g1_words.proofs.Indices.{get_or-In}
-use Rattle.g1_words.proofs.Members.{In, In-from_contains, Contains-from_in, In-append_left, In-append_cases, filter_member, flat_map_cases, map_cases}
+use Rattle.g1_words.proofs.Members.{filter_member, flat_map_cases, map_cases}
 use Rattle.g1_words.proofs.Ordered.{Ordered}
 use Rattle.g1_words.proofs.Sound.{named_is}
 use Rattle.g1_rem.proofs.Order.{slot_in}
@@ -44,10 +44,10 @@ module _ (h : Heap) (set cards found : List ℕ) (valid : IsValid h) (s : IsSear
   ordered : Ordered IsEarlierLead (leads h set found)
   ordered = in_order h set valid found
 
-  within : (a : ℕ) → In found a → in_set h set a ≡ true
+  within : (a : ℕ) → Contains found a → in_set h set a ≡ true
   within = inside h set cards found valid s.rising s.outside s.lead_in s.survivors
 
-  room : (e : Ref) → In (refs h) e → in_set h set e.slot ≡ Rattle.std.proofs.Common.false → in_set h set e.target ≡ true → length h.roots ≤ length h.roots
+  room : (e : Ref) → Contains (refs h) e → in_set h set e.slot ≡ Rattle.std.proofs.Common.false → in_set h set e.target ≡ true → length h.roots ≤ length h.roots
   room e i out into = omega arith
 
   -- a place before another one
@@ -57,7 +57,7 @@ module _ (h : Heap) (set cards found : List ℕ) (valid : IsValid h) (s : IsSear
     pub there : slice_index found place ≡ a
 
   -- where an object was found from one behind, references from before it lead to places before it
-  stays : (j : ℕ) → j < length found → j < before (at j) → (l : Lead) → In (leads h set found) l → before l.finder ≤ j → IsPlaced j l.target
+  stays : (j : ℕ) → j < length found → j < before (at j) → (l : Lead) → Contains (leads h set found) l → before l.finder ≤ j → IsPlaced j l.target
   stays j lt up l i le =
       let p = place_of h set found (length h.roots) is ordered within room l i in
       elim (cases_lt p.0 j) [
@@ -77,18 +77,18 @@ module _ (h : Heap) (set cards found : List ℕ) (valid : IsValid h) (s : IsSear
   -- a reference that leads to an object, from an object of this rank
   pub record IsLed (n a : ℕ) : Type 0 where
     pub lead : Lead
-    pub listed : In (leads h set found) lead
+    pub listed : Contains (leads h set found) lead
     pub from : before lead.finder ≡ n
     pub to : lead.target ≡ a
 
   seed_lead : (a : ℕ) → Contains (seeds h set) a → IsLed 0 a
   seed_lead a k =
-      let i : In (seeds h set ++ []) a = In-append_left (seeds h set) [] a (In-from_contains (seeds h set) a k) in
-      let m = map_cases (λ (l : Lead). l.target) (leads h set []) a (subst (λ xs. In xs a) (sym (lead_seeds h set [])) i) in
+      let i : Contains (seeds h set ++ []) a = Contains-append_left (seeds h set) [] a k in
+      let m = map_cases (λ (l : Lead). l.target) (leads h set []) a (subst (λ xs. Contains xs a) (sym (lead_seeds h set [])) i) in
       let t = filter_member (λ (l : Lead). in_set h set l.target) (root_leads h ++ (slot_leads h set ++ [])) m.0 m.1 in
-      let either : In (root_leads h) m.0 ⊎ In (slot_leads h set) m.0 = elim (In-append_cases (root_leads h) (slot_leads h set ++ []) m.0 t.0) [
+      let either : Contains (root_leads h) m.0 ⊎ Contains (slot_leads h set) m.0 = elim (Contains-append_cases (root_leads h) (slot_leads h set ++ []) m.0 t.0) [
         | inl x ↦ inl x
-        | inr x ↦ inr (subst (λ xs. In xs m.0) (append-nil (slot_leads h set)) x)
+        | inr x ↦ inr (subst (λ xs. Contains xs m.0) (append-nil (slot_leads h set)) x)
       ] in
       record {
         lead = m.0;
@@ -99,7 +99,7 @@ module _ (h : Heap) (set cards found : List ℕ) (valid : IsValid h) (s : IsSear
 
   child_lead : (m b a : ℕ) → m < length found → slice_index found m ≡ b → Contains (children h set b) a → IsLed (suc m) a
   child_lead m b a lt e k =
-      let t = filter_member (in_set h set) (targets h b) a (In-from_contains (children h set b) a k) in
+      let t = filter_member (in_set h set) (targets h b) a k in
       let q = flat_map_cases (λ p. named (word h p)) (slots (object_at h b)) a t.0 in
       let at_slot = slot_in (object_at h b) q.0 q.1 in
       let n : ℕ = q.0 - (b + 1) in
@@ -126,7 +126,7 @@ module _ (h : Heap) (set cards found : List ℕ) (valid : IsValid h) (s : IsSear
   backward j lt = elim (cases_lt j (before (at j))) [
     | inl up ↦
         let a : ℕ = slice_index found j in
-        let u = reached j lt up a ((s.survivors.reached a).0 (Contains-from_in found a (get_or-In found j 0 lt))) in
+        let u = reached j lt up a ((s.survivors.reached a).0 (Contains-get_or found j 0 lt)) in
         let same : u.place ≡ j = places_apart found (found_once h set found (length h.roots) is ordered within room) u.place j (omega (arith, u.below, lt)) lt u.there in
         absurd (omega (arith, u.below, same))
     | inr le ↦ le

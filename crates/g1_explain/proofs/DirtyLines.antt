@@ -1,8 +1,8 @@
 -- The lines of dirty cards, by the pairs that sets gain.
-use Rattle.std.proofs.Common.{◌≡◌, ◌≢◌, ℕ, zero, suc, ◌+◌, ◌-◌, ◌<◌, ◌≤◌, inl, inr, true, false, cond, List, [], ◌∷◌, ◌++◌, length, map, filter, take, drop, get_or, All, refl, sym, ◌∙◌, ap, subst, arith, append_assoc, eqb, eqb-true, eq-eqb, ne_eqb, ltb, lt-ltb}
+use Rattle.std.proofs.Common.{◌≡◌, ℕ, zero, suc, ◌+◌, ◌<◌, ◌≤◌, true, false, cond, List, [], ◌∷◌, ◌++◌, length, map, filter, take, drop, get_or, All, refl, sym, ◌∙◌, ap, subst, arith, append_assoc, eqb, eqb-true, eq-eqb, ne_eqb, ltb}
 use Rattle.std.specs.Prelude.{codes, decimal}
 use Rattle.std.specs.List.Sorted.{IsNonDecreasingBy, IsPartitionedBy, IsPartitionPoint, IsStrictlyIncreasing}
-use Rattle.std.proofs.lemmas.Bool.{cases_lt, false≢true, ltb-false as above, ltb-true as below}
+use Rattle.std.proofs.lemmas.Bool.{ltb-false as above, ltb-true as below}
 use Rattle.std.proofs.lemmas.List.{get_or-drop, length-drop, get_or_default}
 use Rattle.g1_words.specs.Heap.{regions}
 use Rattle.g1_image.specs.Image.{Image, IsImage}

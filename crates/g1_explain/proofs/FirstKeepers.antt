@@ -9,7 +9,7 @@ use Rattle.std.proofs.lemmas.List.{ext_get_or, length-map, take_all, drop_all}
 use Rattle.std.proofs.lemmas.List.Folds.{list_any-append}
 use Rattle.std.proofs.lemmas.List.FromFn.{get_or-map-range_with_len, length-range_with_len}
 use Rattle.std.proofs.lemmas.Nat.{div-mul-add}
-use Rattle.std.proofs.lemmas.List.Elements.{filter-append}
+use Rattle.std.proofs.lemmas.List.Elements.{filter-append, Contains-get_or}
 use Rattle.g1_words.specs.declared.object.Object.{Object}
 use Rattle.g1_words.specs.declared.region.Region.{Region}
 use Rattle.g1_words.specs.declared.region.Kind.TheVariants.{HumongousFirst}
@@ -18,9 +18,8 @@ use Rattle.g1_words.specs.Lists.{has}
 use Rattle.g1_words.specs.References.{Ref, refs, named, root_targets}
 use Rattle.g1_words.specs.Survivors.{in_set}
 use Rattle.g1_words.specs.Valid.{IsValid}
-use Rattle.g1_words.proofs.Computed.{In-range, contains_has}
-use Rattle.g1_words.proofs.Indices.{get_or-In}
-use Rattle.g1_words.proofs.Members.{In, In-from_contains, Contains-from_in, In-flat_map, In-filter, filter_member, flat_map_cases, has_from_in, in_from_has}
+use Rattle.g1_words.proofs.Computed.{Contains-range, contains_has}
+use Rattle.g1_words.proofs.Members.{Contains-flat_map, Contains-filter, filter_member, flat_map_cases}
 use Rattle.g1_words.proofs.Rising.{told_ref}
 use Rattle.g1_words.proofs.Sound.{sound, object_in}
 use Rattle.g1_words.proofs.Lists.{filter_same_in, all_in, all_from_in}
@@ -32,6 +31,7 @@ use Rattle.g1_rem.specs.Starts.{card_count}
 use Rattle.g1_rem.proofs.Rising.{Rises-filter, Rises-range, Rises-increasing}
 use Rattle.g1_frontier.specs.Window.{AreCards, AreOutside, LeadIn}
 use Rattle.g1_frontier.proofs.Leading.{refined_leads_in}
+use Rattle.g1_frontier.proofs.Marks.{has_one, one_member, only_one}
 use Rattle.g1_copy.proofs.UnnamedFirsts.{first_by_test}
 use Rattle.g1_explain.specs.declared.humongous.Keeper.{Keeper}
 use Rattle.g1_explain.specs.declared.humongous.Keeper.TheVariants.{NoObject, Nothing}
@@ -63,10 +63,10 @@ module _ (h : Heap) (valid : IsValid h) (r : ℕ) (first : is_first (kind h r) �
   pub at_start : (a : ℕ) → Contains (objects h) (object_at h a) → region_of h a ≡ r → a ≡ start h r
   at_start a c e =
       let o : Object = object_at h a in
-      let m = flat_map_cases (objects_in h) (regions h) o (In-from_contains (objects h) o c) in
-      let home : region_of h a ≡ m.0 = (sound h valid).in_region m.0 o (Contains-from_in (objects_in h m.0) o m.2) in
-      let here : In (objects_by HumongousFirst h r) o = subst (λ k. In (objects_by k h r) o) two (subst (λ q. In (objects_in h q) o) (sym home ∙ e) m.2) in
-      elim here [ inl same ↦ sym (ap (λ (x : Object). x.at) same) | inr k ↦ absurd k ]
+      let m = flat_map_cases (objects_in h) (regions h) o c in
+      let home : region_of h a ≡ m.0 = (sound h valid).in_region m.0 o m.2 in
+      let here : Contains (objects_by HumongousFirst h r) o = subst (λ k. Contains (objects_by k h r) o) two (subst (λ q. Contains (objects_in h q) o) (sym home ∙ e) m.2) in
+      sym (ap (λ (x : Object). x.at) (one_member (object_at h (start h r)) o here))
 
   pub start_there : region_of h (start h r) ≡ r
   start_there = let z : r * h.geometry.w ≡ r * h.geometry.w + 0 = omega arith in ap (region_of h) z ∙ div-mul-add r h.geometry.w 0 (omega (arith, valid.limits.w_least))
@@ -77,14 +77,14 @@ module _ (h : Heap) (valid : IsValid h) (r : ℕ) (first : is_first (kind h r) �
       (λ t. eq-eqb (region_of h a) r (ap (region_of h) (eqb-true a (start h r) t) ∙ start_there))
 
   -- references to objects lead into the region exactly if they lead to its start
-  pub in_or_at : (ls : List Lead) → ((l : Lead) → In ls l → Contains (objects h) (object_at h l.target)) → leads_in h ls r ≡ leads_at h ls r
+  pub in_or_at : (ls : List Lead) → ((l : Lead) → Contains ls l → Contains (objects h) (object_at h l.target)) → leads_in h ls r ≡ leads_at h ls r
   in_or_at ls there = filter_same_in (λ l. eqb (region_of h l.target) r) (λ l. eqb l.target (start h r)) ls (λ l k. same_place l.target (there l k))
 
   -- one stands there
   pub stands : r < h.geometry.n → Contains (objects h) (object_at h (start h r))
   stands lt =
-      let here : In (objects_in h r) (object_at h (start h r)) = subst (λ k. In (objects_by k h r) (object_at h (start h r))) (sym two) (inl refl) in
-      Contains-from_in (objects h) (object_at h (start h r)) (In-flat_map (objects_in h) (regions h) r (object_at h (start h r)) (In-range 0 h.geometry.n r (omega arith) (omega (arith, lt))) here)
+      let here : Contains (objects_in h r) (object_at h (start h r)) = subst (λ k. Contains (objects_by k h r) (object_at h (start h r))) (sym two) (zero, omega arith, refl) in
+      Contains-flat_map (objects_in h) (regions h) r (object_at h (start h r)) (Contains-range 0 h.geometry.n r (omega arith) (omega (arith, lt))) here
 
   -- its first region is one of its own
   pub own_first : r < h.geometry.n → has (run h r) r ≡ true
@@ -102,13 +102,15 @@ module _ (h : Heap) (valid : IsValid h) (r : ℕ) (first : is_first (kind h r) �
 
 -- ---- what the references lead to
 
-pub root_objects : (h : Heap) → IsValid h → (l : Lead) → In (root_leads h) l → Contains (objects h) (object_at h l.target)
+pub root_objects : (h : Heap) → IsValid h → (l : Lead) → Contains (root_leads h) l → Contains (objects h) (object_at h l.target)
 root_objects h valid l k =
     let t = root_tells h [] l k in
-    let there : In (root_targets h) l.target = In-flat_map named h.roots (slice_index h.roots t.number) l.target (get_or-In h.roots t.number 0 t.below) (subst (λ x. In (named x) l.target) (sym t.reads) (inl refl)) in
-    (sound h valid).root_named l.target (Contains-from_in (root_targets h) l.target there)
+    let there : Contains (root_targets h) l.target =
+    Contains-flat_map named h.roots (slice_index h.roots t.number) l.target
+    (Contains-get_or h.roots t.number 0 t.below) (subst (λ x. Contains (named x) l.target) (sym t.reads) (zero, omega arith, refl)) in
+    (sound h valid).root_named l.target there
 
-pub found_there : (h : Heap) → IsValid h → (found : List ℕ) → AreObjects h found → (l : Lead) → In (found_leads h found (length found)) l → Contains (objects h) (object_at h l.target)
+pub found_there : (h : Heap) → IsValid h → (found : List ℕ) → AreObjects h found → (l : Lead) → Contains (found_leads h found (length found)) l → Contains (objects h) (object_at h l.target)
 found_there h valid found are l k =
     let t = found_tells h [] found (length found) l k in
     let a : ℕ = slice_index found t.place in
@@ -143,26 +145,22 @@ module _ (h : Heap) (valid : IsValid h) (set : List ℕ) (marks : List Bool) (ar
   }
 
   outside : AreOutside h window looked
-  outside c k = not-true (card_in h window c) (sym (apart_is c) ∙ (filter_member (is_apart h marks r) (cards_where h test) c (In-from_contains looked c k)).1)
-
-  single : (q : ℕ) → In (r ∷ []) q → q ≡ r
-  single q (inl e) = sym e
-  single q (inr k) = absurd k
+  outside c k = not-true (card_in h window c) (sym (apart_is c) ∙ (filter_member (is_apart h marks r) (cards_where h test) c k).1)
 
   there : (e : Ref) → Contains (refs h) e → eqb e.target (start h r) ≡ true → in_set h window e.slot ≡ false → Contains looked (card_of h e.slot)
   there e c t out =
       let q : ℕ = region_of h e.slot in
       let card : ℕ = card_of h e.slot in
       let to : region_of h e.target ≡ r = ap (region_of h) (eqb-true e.target (start h r) t) ∙ start_there h valid r first in
-      let into : in_set h (r ∷ []) e.target ≡ true = has_from_in (r ∷ []) (region_of h e.target) (inl (sym to)) in
+      let into : in_set h (r ∷ []) e.target ≡ true = has_one r (region_of h e.target) to in
       let off : in_set h (r ∷ []) e.slot ≡ false = false_from_ne_true (has (r ∷ []) q) (λ y.
-      let home : q ≡ r = single q (in_from_has (r ∷ []) q y) in
+      let home : q ≡ r = only_one r q y in
       let own : (has set q || has (run h r) q) ≡ true = (λ j. has set q || (ap (has (run h r)) home ∙ own_first h valid r first lt) j) ∙ or_true (has set q) in
       false≢true (sym out ∙ outside_both q ∙ own)) in
       let on : Contains (cards_where h test) card = lead.2 e c into off in
       let home : region_of_card h card ≡ q = card_region h valid e.slot in
       let apart : is_apart h marks r card ≡ true = apart_is card ∙ ap (λ x. not (has window x)) home ∙ ap not out in
-      Contains-from_in looked card (In-filter (is_apart h marks r) (cards_where h test) card (In-from_contains (cards_where h test) card on) apart)
+      Contains-filter (is_apart h marks r) (cards_where h test) card on apart
 
   -- the references of the slots on these cards are those of all slots outside
   pub on_these_cards : leads_on h marks r (cards_where h test) ≡ leads_at h (slot_leads h window) r

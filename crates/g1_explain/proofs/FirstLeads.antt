@@ -1,15 +1,14 @@
 -- The first references to objects: which they are, and that a search meets them.
-use Rattle.std.proofs.Common.{◌≡◌, ℕ, ◌<◌, inl, inr, Bool, true, false, cond, not, ◌&&◌, ◌||◌, List, [], ◌∷◌, ◌++◌, length, map, filter, slice_index}
+use Rattle.std.proofs.Common.{◌≡◌, ℕ, ◌<◌, Bool, true, false, cond, not, ◌&&◌, ◌||◌, List, [], ◌∷◌, ◌++◌, length, map, filter, slice_index, Contains, zero, suc}
 use Rattle.std.proofs.Common.{refl, sym, ◌∙◌, ap, subst, arith, append_assoc, append-nil, eqb, eqb-true, eq-eqb, lt-ltb, ltb-true, nat_lt}
 use Rattle.std.specs.Prelude.{if◌then◌else◌}
 use Rattle.std.proofs.lemmas.Bool.{false≢true, and_parts}
 use Rattle.std.proofs.lemmas.List.{length-map, length-append, map-append}
-use Rattle.std.proofs.lemmas.List.Elements.{filter-append}
+use Rattle.std.proofs.lemmas.List.Elements.{filter-append, Contains-get_or}
 use Rattle.g1_words.specs.Lists.{has}
 use Rattle.g1_words.specs.Survivors.{firsts}
-use Rattle.g1_words.proofs.Members.{In, In-filter, filter_member, in_from_has}
-use Rattle.g1_words.proofs.Firsts.{Distinct, Distinct-firsts, Distinct-apart, In-firsts}
-use Rattle.g1_words.proofs.Indices.{get_or-In}
+use Rattle.g1_words.proofs.Members.{Contains-filter, filter_member, Contains-from_has, Contains-later}
+use Rattle.g1_words.proofs.Firsts.{Distinct, Distinct-firsts, Distinct-apart, Contains-firsts}
 use Rattle.g1_words.proofs.Logic.{eqb_sym}
 use Rattle.g1_explain.specs.declared.finder.Finder.{Finder}
 use Rattle.g1_explain.specs.Finders.{Lead, first_leads}
@@ -34,22 +33,22 @@ first_targets [] = refl
 first_targets (x ∷ xs) =
     ap (λ l. x.target ∷ l) (map_filter (λ y. not (eqb x.target y)) (first_leads xs) ∙ ap (filter (λ y. not (eqb x.target y))) (first_targets xs))
 
-pub first_member : (ls : List Lead) (l : Lead) → In (first_leads ls) l → In ls l
-first_member [] l k = absurd k
-first_member (x ∷ xs) l (inl e) = inl e
-first_member (x ∷ xs) l (inr k) = inr (first_member xs l (filter_member (λ y. not (eqb x.target y.target)) (first_leads xs) l k).0)
+pub first_member : (ls : List Lead) (l : Lead) → Contains (first_leads ls) l → Contains ls l
+first_member [] l k = absurd (omega (arith, k.1))
+first_member (x ∷ xs) l (zero, b, e) = (zero, omega arith, e)
+first_member (x ∷ xs) l (suc j, b, e) = let m = first_member xs l (filter_member (λ y. not (eqb x.target y.target)) (first_leads xs) l (j, omega (arith, b), e)).0 in (suc m.0, omega (arith, m.1), m.2)
 
 -- each reference has a first one to its object
-pub some_first : (ls : List Lead) (l : Lead) → In ls l → (f : Lead) × In (first_leads ls) f × (f.target ≡ l.target)
-some_first [] l k = absurd k
-some_first (x ∷ xs) l (inl e) = (x, inl refl, ap (λ (y : Lead). y.target) e)
-some_first (x ∷ xs) l (inr k) = by (eqb x.target l.target) refl (some_first xs l k)
+pub some_first : (ls : List Lead) (l : Lead) → Contains ls l → (f : Lead) × Contains (first_leads ls) f × (f.target ≡ l.target)
+some_first [] l k = absurd (omega (arith, k.1))
+some_first (x ∷ xs) l (zero, b, e) = (x, (zero, omega arith, refl), ap (λ (y : Lead). y.target) e)
+some_first (x ∷ xs) l (suc j, b, e) = by (eqb x.target l.target) refl (some_first xs l (j, omega (arith, b), e))
   where
-    by : (b : Bool) → eqb x.target l.target ≡ b → (f : Lead) × In (first_leads xs) f × (f.target ≡ l.target) → (f : Lead) × In (first_leads (x ∷ xs)) f × (f.target ≡ l.target)
-    by true e r = (x, inl refl, eqb-true x.target l.target e)
+    by : (b : Bool) → eqb x.target l.target ≡ b → (f : Lead) × Contains (first_leads xs) f × (f.target ≡ l.target) → (f : Lead) × Contains (first_leads (x ∷ xs)) f × (f.target ≡ l.target)
+    by true e r = (x, (zero, omega arith, refl), eqb-true x.target l.target e)
     by false e r =
         let apart : not (eqb x.target r.0.target) ≡ true = ap (λ t. not (eqb x.target t)) r.2 ∙ ap not e in
-        (r.0, inr (In-filter (λ y. not (eqb x.target y.target)) (first_leads xs) r.0 r.1 apart), r.2)
+        (r.0, Contains-later x (filter (λ y. not (eqb x.target y.target)) (first_leads xs)) r.0 (Contains-filter (λ y. not (eqb x.target y.target)) (first_leads xs) r.0 r.1 apart), r.2)
 
 -- one reference more
 pub first_snoc : (ls : List Lead) (l : Lead) → first_leads (ls ++ l ∷ []) ≡ first_leads ls ++ cond (has (targets_of ls) l.target) [] (l ∷ [])
@@ -94,9 +93,9 @@ at_end [] y ys = refl
 at_end (x ∷ xs) y ys = at_end xs y ys
 
 -- what is behind a front without repeats is not in it
-behind : (xs ys : List ℕ) (a : ℕ) → Distinct (xs ++ ys) → In xs a → length xs < length (xs ++ ys) → slice_index (xs ++ ys) (length xs) ≡ a → ⊥
+behind : (xs ys : List ℕ) (a : ℕ) → Distinct (xs ++ ys) → Contains xs a → length xs < length (xs ++ ys) → slice_index (xs ++ ys) (length xs) ≡ a → ⊥
 behind xs [] a d k lt e = absurd (omega (arith, lt, ap length (append-nil xs)))
-behind xs (y ∷ ys) a d k lt e = Distinct-apart xs y ys d (subst (In xs) (sym e ∙ at_end xs y ys) k)
+behind xs (y ∷ ys) a d k lt e = Distinct-apart xs y ys d (subst (Contains xs) (sym e ∙ at_end xs y ys) k)
 
 module _ (found : List ℕ) where
   -- a reference is met, where it leads to an object that no earlier one leads to
@@ -114,8 +113,8 @@ module _ (found : List ℕ) where
           let whole : found ≡ targets_of (first_leads past) ++ targets_of p.0 = e ∙ ap targets_of p.1 ∙ map-append (λ (l : Lead). l.target) (first_leads past) p.0 in
           let once : Distinct (targets_of (first_leads past) ++ targets_of p.0) =
           subst Distinct (sym (first_targets (past ++ l ∷ rest)) ∙ sym e ∙ whole) (Distinct-firsts (targets_of (past ++ l ∷ rest))) in
-          let there : In (targets_of (first_leads past)) l.target =
-          subst (λ xs. In xs l.target) (sym (first_targets past)) (In-firsts (targets_of past) l.target (in_from_has (targets_of past) l.target h)) in
+          let there : Contains (targets_of (first_leads past)) l.target =
+          subst (λ xs. Contains xs l.target) (sym (first_targets past)) (Contains-firsts (targets_of past) l.target (Contains-from_has (targets_of past) l.target h)) in
           let not_next : is_next found (length (finders_of (first_leads past))) l.target ≡ false =
           next_false found (length (finders_of (first_leads past))) l.target
           (λ lt at. behind (targets_of (first_leads past)) (targets_of p.0) l.target once there
@@ -145,7 +144,7 @@ module _ (found : List ℕ) where
       ap (λ fs. met found fs rest) (one past l rest e) ∙ met_is (past ++ l ∷ []) rest (e ∙ ap (λ xs. targets_of (first_leads xs)) (sym assoc)) ∙ ap (λ xs. finders_of (first_leads xs)) assoc
 
   -- references that lead elsewhere count for nothing
-  pub met_inner : (into : ℕ → Bool) → ((a : ℕ) → In found a → into a ≡ true) → (fs : List Finder) (xs : List Lead) → met found fs xs ≡ met found fs (filter (λ l. into l.target) xs)
+  pub met_inner : (into : ℕ → Bool) → ((a : ℕ) → Contains found a → into a ≡ true) → (fs : List Finder) (xs : List Lead) → met found fs xs ≡ met found fs (filter (λ l. into l.target) xs)
   met_inner into inside fs [] = refl
   met_inner into inside fs (x ∷ xs) = by (into x.target) refl (λ gs. met_inner into inside gs xs)
     where
@@ -155,6 +154,6 @@ module _ (found : List ℕ) where
           ∙ ap (λ b. met found fs (cond b (x ∷ filter (λ l. into l.target) xs) (filter (λ l. into l.target) xs))) (sym e)
       by false e rest =
           let other : is_next found (length fs) x.target ≡ false = next_false found (length fs) x.target
-          (λ lt at. false≢true (sym e ∙ inside x.target (subst (In found) at (get_or-In found (length fs) 0 lt)))) in
+          (λ lt at. false≢true (sym e ∙ inside x.target (subst (Contains found) at (Contains-get_or found (length fs) 0 lt)))) in
           ap (λ b. met found (if b then fs ++ x.finder ∷ [] else fs) xs) other ∙ rest fs
           ∙ ap (λ b. met found fs (cond b (x ∷ filter (λ l. into l.target) xs) (filter (λ l. into l.target) xs))) (sym e)

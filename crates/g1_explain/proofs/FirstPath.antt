@@ -1,17 +1,18 @@
 -- The route of an object by the first references is its first path.
-use Rattle.std.proofs.Common.{◌≡◌, ℕ, zero, suc, ◌+◌, ◌<◌, ◌≤◌, ◌⊎◌, inl, inr, true, false, List, [], ◌∷◌, ◌++◌, length, map, slice_index, refl, sym, ◌∙◌, ap, subst, arith}
+use Rattle.std.proofs.Common.{◌≡◌, ℕ, zero, suc, ◌+◌, ◌<◌, ◌≤◌, ◌⊎◌, inl, inr, true, false, List, [], ◌∷◌, ◌++◌, length, map, slice_index, refl, sym, ◌∙◌, ap, subst, arith, Contains}
 use Rattle.std.specs.List.{range_with_len}
 use Rattle.std.proofs.lemmas.List.{length_push, length-map, map-append}
+use Rattle.std.proofs.lemmas.List.Elements.{Contains-append_left, Contains-append_right, Contains-get_or}
 use Rattle.g1_words.specs.Heap.{Heap, word, object_at}
 use Rattle.g1_words.specs.References.{Ref, refs}
 use Rattle.g1_words.specs.Survivors.{in_set}
-use Rattle.g1_words.proofs.Computed.{In-range}
+use Rattle.g1_words.proofs.Computed.{Contains-range}
 use Rattle.g1_words.proofs.Firsts.{Distinct, Distinct-firsts}
-use Rattle.g1_words.proofs.Indices.{get_or-In}
-use Rattle.g1_words.proofs.Members.{In, In-append_left, In-append_right, In-filter, In-flat_map}
+use Rattle.g1_words.proofs.Members.{Contains-filter, Contains-flat_map}
 use Rattle.g1_words.proofs.Ordered.{Ordered}
 use Rattle.g1_same.specs.Path.{Lower, Before}
 use Rattle.g1_same.proofs.Routes.{before_push, before_last}
+use Rattle.g1_same.proofs.First.{before_trans}
 use Rattle.g1_explain.specs.declared.finder.Finder.{Finder}
 use Rattle.g1_explain.specs.declared.finder.Finder.TheVariants.{Root, Card, Object as Slot}
 use Rattle.g1_explain.specs.declared.paths.Leg.{Leg}
@@ -37,21 +38,6 @@ before_not p q (inl l) (inl m) = absurd (omega (arith, l, m))
 before_not p q (inl l) (inr m) = absurd (omega (arith, l, m.0))
 before_not p q (inr l) (inl m) = absurd (omega (arith, l.0, m))
 before_not p q (inr l) (inr m) = lower_not p q l.1 m.1
-
-lower_trans : (p q r : List ℕ) → Lower p q → Lower q r → Lower p r
-lower_trans [] q r l m = absurd l
-lower_trans (x ∷ p) [] r l m = absurd l
-lower_trans (x ∷ p) (y ∷ q) [] l m = absurd m
-lower_trans (x ∷ p) (y ∷ q) (z ∷ r) (inl l) (inl m) = inl (omega (arith, l, m))
-lower_trans (x ∷ p) (y ∷ q) (z ∷ r) (inl l) (inr m) = inl (omega (arith, l, m.0))
-lower_trans (x ∷ p) (y ∷ q) (z ∷ r) (inr l) (inl m) = inl (omega (arith, l.0, m))
-lower_trans (x ∷ p) (y ∷ q) (z ∷ r) (inr l) (inr m) = inr (omega (arith, l.0, m.0), lower_trans p q r l.1 m.1)
-
-before_trans : (p q r : List ℕ) → Before p q → Before q r → Before p r
-before_trans p q r (inl l) (inl m) = inl (omega (arith, l, m))
-before_trans p q r (inl l) (inr m) = inl (omega (arith, l, m.0))
-before_trans p q r (inr l) (inl m) = inl (omega (arith, l.0, m))
-before_trans p q r (inr l) (inr m) = inr (omega (arith, l.0, m.0), lower_trans p q r l.1 m.1)
 
 -- the path is another one or before it
 abbrev pub UpTo : List ℕ → List ℕ → Type 0
@@ -83,7 +69,7 @@ codes base legs = map (λ l. code base l.finder) legs
 
 -- a path to an object over those of a set
 pub data IsTrail (h : Heap) (set : List ℕ) (base : ℕ) : List ℕ → ℕ → Type 0 where
-  begin : (l : Lead) → In (root_leads h) l ⊎ In (slot_leads h set) l → IsTrail h set base (code base l.finder ∷ []) l.target
+  begin : (l : Lead) → Contains (root_leads h) l ⊎ Contains (slot_leads h set) l → IsTrail h set base (code base l.finder ∷ []) l.target
   go : (p : List ℕ) (b s a : ℕ) → IsTrail h set base p b → in_set h set b ≡ true → s < (object_at h b).refs → word h (b + 1 + s) ≡ suc a → IsTrail h set base (p ++ s ∷ []) a
 
 trail_some : (h : Heap) (set : List ℕ) (base : ℕ) (p : List ℕ) (a : ℕ) → IsTrail h set base p a → 0 < length p
@@ -93,13 +79,13 @@ trail_some h set base p a (go q b s c t i fit w) = omega (arith, length_push q s
 pub places_apart : (xs : List ℕ) → Distinct xs → (i j : ℕ) → i < length xs → j < length xs → slice_index xs i ≡ slice_index xs j → i ≡ j
 places_apart [] d i j li lj e = absurd (omega (arith, li))
 places_apart (x ∷ xs) d zero zero li lj e = refl
-places_apart (x ∷ xs) d zero (suc j) li lj e = absurd (d.0 (subst (In xs) (sym e) (get_or-In xs j 0 (omega (arith, lj)))))
-places_apart (x ∷ xs) d (suc i) zero li lj e = absurd (d.0 (subst (In xs) e (get_or-In xs i 0 (omega (arith, li)))))
+places_apart (x ∷ xs) d zero (suc j) li lj e = absurd (d.0 (subst (Contains xs) (sym e) (Contains-get_or xs j 0 (omega (arith, lj)))))
+places_apart (x ∷ xs) d (suc i) zero li lj e = absurd (d.0 (subst (Contains xs) e (Contains-get_or xs i 0 (omega (arith, li)))))
 places_apart (x ∷ xs) d (suc i) (suc j) li lj e = ap suc (places_apart xs d.1 i j (omega (arith, li)) (omega (arith, lj)) e)
 
 module _ (h : Heap) (set found : List ℕ) (base : ℕ) (searched : found ≡ targets_of (first_leads (leads h set found))) (ordered : Ordered IsEarlierLead (leads h set found))
-    (inside : (a : ℕ) → In found a → in_set h set a ≡ true)
-    (room : (e : Ref) → In (refs h) e → in_set h set e.slot ≡ false → in_set h set e.target ≡ true → length h.roots ≤ base) where
+    (inside : (a : ℕ) → Contains found a → in_set h set a ≡ true)
+    (room : (e : Ref) → Contains (refs h) e → in_set h set e.slot ≡ false → in_set h set e.target ≡ true → length h.roots ≤ base) where
   abbrev fs : List Finder
   fs = all_finders h set found
 
@@ -133,7 +119,7 @@ module _ (h : Heap) (set found : List ℕ) (base : ℕ) (searched : found ≡ ta
     pub target : slice_index found j ≡ l.target
     pub first : (at j ≡ l.finder) ⊎ Earlier (at j) l.finder
 
-  pub place_of : (l : Lead) → In (leads h set found) l → (j : ℕ) × IsPlaceOf l j
+  pub place_of : (l : Lead) → Contains (leads h set found) l → (j : ℕ) × IsPlaceOf l j
   place_of l i =
       let f = some_first (leads h set found) l i in
       let p = place_in (first_leads (leads h set found)) f.0 f.1 in (
@@ -232,7 +218,7 @@ module _ (h : Heap) (set found : List ℕ) (base : ℕ) (searched : found ≡ ta
       subst (λ q. HasEarlier i q) (sym (codes_push ls j))
       (step i j ls (at i) (at j) refl refl here (earlier i j less within) r
       (root_first (at i) (at j) (slice_index found i) (slice_index found j) (led_to h set found searched i here) (led_to h set found searched j within)
-      (inside (slice_index found j) (get_or-In found j 0 within)))
+      (inside (slice_index found j) (Contains-get_or found j 0 within)))
       (λ m l. earlier_route (before (at j)) ls r m l))
 
   -- ---- a path leads to an object that has a route, which is not behind it
@@ -243,8 +229,8 @@ module _ (h : Heap) (set found : List ℕ) (base : ℕ) (searched : found ≡ ta
     pub there : slice_index found place ≡ a
     pub route : HasRoute place q
 
-  pub in_leads : (l : Lead) → In (root_leads h ++ (slot_leads h set ++ found_leads h found (length found))) l → in_set h set l.target ≡ true → In (leads h set found) l
-  in_leads l i t = In-filter (λ l. in_set h set l.target) (root_leads h ++ (slot_leads h set ++ found_leads h found (length found))) l i t
+  pub in_leads : (l : Lead) → Contains (root_leads h ++ (slot_leads h set ++ found_leads h found (length found))) l → in_set h set l.target ≡ true → Contains (leads h set found) l
+  in_leads l i t = Contains-filter (λ l. in_set h set l.target) (root_leads h ++ (slot_leads h set ++ found_leads h found (length found))) l i t
 
   -- what leads to the object first, where a root or a slot outside does
   begun : (l : Lead) (j : ℕ) (f g : Finder) → IsPlaceOf l j → at j ≡ f → l.finder ≡ g → before g ≡ 0 → (f ≡ g) ⊎ Earlier f g → ((k c p : ℕ) → f ≡ Root k → g ≡ Card c p → k < base + p)
@@ -287,26 +273,26 @@ module _ (h : Heap) (set found : List ℕ) (base : ℕ) (searched : found ≡ ta
     up = subst (λ z. UpTo z (p ++ s ∷ [])) (sym (codes_push rb j ∙ ap (λ z. codes base rb ++ code base z ∷ []) ef)) (inr (up_last (codes base rb) p t s e.1 up));
   }
 
-  pub seed_of : (l : Lead) → In (root_leads h) l ⊎ In (slot_leads h set) l → before l.finder ≡ 0
+  pub seed_of : (l : Lead) → Contains (root_leads h) l ⊎ Contains (slot_leads h set) l → before l.finder ≡ 0
   seed_of l (inl i) = ap before (root_tells h set l i).finder
   seed_of l (inr i) = ap before (slot_tells h set l i).finder
 
-  pub in_all : (l : Lead) → In (root_leads h) l ⊎ In (slot_leads h set) l → In (root_leads h ++ (slot_leads h set ++ found_leads h found (length found))) l
-  in_all l (inl i) = In-append_left (root_leads h) (slot_leads h set ++ found_leads h found (length found)) l i
+  pub in_all : (l : Lead) → Contains (root_leads h) l ⊎ Contains (slot_leads h set) l → Contains (root_leads h ++ (slot_leads h set ++ found_leads h found (length found))) l
+  in_all l (inl i) = Contains-append_left (root_leads h) (slot_leads h set ++ found_leads h found (length found)) l i
   in_all l (inr i) =
-      In-append_right (root_leads h) (slot_leads h set ++ found_leads h found (length found)) l (In-append_left (slot_leads h set) (found_leads h found (length found)) l i)
+      Contains-append_right (root_leads h) (slot_leads h set ++ found_leads h found (length found)) l (Contains-append_left (slot_leads h set) (found_leads h found (length found)) l i)
 
   pub in_found : (m b s a : ℕ) → m < length found → slice_index found m ≡ b → s < (object_at h b).refs → word h (b + 1 + s) ≡ suc a
-      → In (root_leads h ++ (slot_leads h set ++ found_leads h found (length found))) (record { finder = Slot m b s; target = a })
+      → Contains (root_leads h ++ (slot_leads h set ++ found_leads h found (length found))) (record { finder = Slot m b s; target = a })
   in_found m b s a lt is fit w =
       let l : Lead = record { finder = Slot m b s; target = a } in
-      let here : In (lead (Slot m b s) (word h (b + 1 + s))) l = subst (λ x. In (lead (Slot m b s) x) l) (sym w) (inl refl) in
-      let mine : In (object_leads h m b) l =
-      In-flat_map (λ s. lead (Slot m b s) (word h (b + 1 + s))) (range_with_len 0 (object_at h b).refs) s l (In-range 0 (object_at h b).refs s (omega arith) (omega (arith, fit))) here in
-      In-append_right (root_leads h) (slot_leads h set ++ found_leads h found (length found)) l
-      (In-append_right (slot_leads h set) (found_leads h found (length found)) l
-      (In-flat_map (λ m. object_leads h m (slice_index found m)) (range_with_len 0 (length found)) m l (In-range 0 (length found) m (omega arith) (omega (arith, lt)))
-      (subst (λ x. In (object_leads h m x) l) (sym is) mine)))
+      let here : Contains (lead (Slot m b s) (word h (b + 1 + s))) l = subst (λ x. Contains (lead (Slot m b s) x) l) (sym w) (zero, omega arith, refl) in
+      let mine : Contains (object_leads h m b) l =
+      Contains-flat_map (λ s. lead (Slot m b s) (word h (b + 1 + s))) (range_with_len 0 (object_at h b).refs) s l (Contains-range 0 (object_at h b).refs s (omega arith) (omega (arith, fit))) here in
+      Contains-append_right (root_leads h) (slot_leads h set ++ found_leads h found (length found)) l
+      (Contains-append_right (slot_leads h set) (found_leads h found (length found)) l
+      (Contains-flat_map (λ m. object_leads h m (slice_index found m)) (range_with_len 0 (length found)) m l (Contains-range 0 (length found) m (omega arith) (omega (arith, lt)))
+      (subst (λ x. Contains (object_leads h m x) l) (sym is) mine)))
 
   pub first_route : (q : List ℕ) (a : ℕ) → IsTrail h set base q a → in_set h set a ≡ true → IsReachedBy q a
   first_route q a (begin l i) t =
@@ -332,7 +318,7 @@ module _ (h : Heap) (set found : List ℕ) (base : ℕ) (searched : found ≡ ta
   -- THE FIRST PATH: none to the object is before that of its route
   pub none_before : (j : ℕ) (legs : List Leg) → j < length found → Route (suc j) legs → (q : List ℕ) → IsTrail h set base q (slice_index found j) → Before q (codes base legs) → ⊥
   none_before j legs lt r q trail b =
-      let u = first_route q (slice_index found j) trail (inside (slice_index found j) (get_or-In found j 0 lt)) in
+      let u = first_route q (slice_index found j) trail (inside (slice_index found j) (Contains-get_or found j 0 lt)) in
       let same : u.place ≡ j = places_apart found found_once u.place j u.within lt u.there in
       let one : u.route.legs ≡ legs = route_one h found fs (suc j) u.route.legs legs (subst (λ z. Route (suc z) u.route.legs) same u.route.route) r in
       let up : UpTo (codes base legs) q = subst (λ z. UpTo (codes base z) q) one u.route.up in

@@ -1,6 +1,6 @@
 -- Cards that sets gain, each with the region's number: by region, and sorted.
-use Rattle.std.proofs.Common.{◌≡◌, ◌≢◌, ◌⊎◌, ℕ, zero, suc, ◌+◌, ◌<◌, ◌≤◌, inl, inr, Vec, Global, Bool, true, false, not, ◌&&◌, cond, List, [], ◌∷◌, ◌++◌, length, map, filter, flat_map, take, get_or, All, AllPairs, refl, sym, ◌∙◌, ap, subst, arith, eqb, eqb-true, eq-eqb, append-nil}
-use Rattle.std.specs.Prelude.{slice_index_or}
+use Rattle.std.proofs.Common.{◌≡◌, ◌≢◌, ◌⊎◌, ℕ, zero, suc, ◌+◌, ◌<◌, ◌≤◌, inl, inr, Vec, Global, Bool, true, false, not, ◌&&◌, cond, List, [], ◌∷◌, ◌++◌, length, map, filter, flat_map, take, get_or, All, AllPairs, refl, sym, ◌∙◌, ap, subst, arith, eqb, eqb-true, eq-eqb, append-nil, Contains}
+use Rattle.std.specs.Prelude.{slice_index_or, min, decimal}
 use Rattle.std.specs.List.{range_with_len}
 use Rattle.std.specs.List.Sorted.{IsPermutation, IsSorted, IsStrictlyIncreasing, IsNonDecreasingBy}
 use Rattle.std.specs.Bool.{Decides}
@@ -14,11 +14,10 @@ use Rattle.std.proofs.lemmas.List.Sorted.{IsPermutation-sym, Contains-permutatio
 use Rattle.std.proofs.lemmas.Map.Keys.{IsDistinct-IsPermutation}
 use Rattle.std.proofs.lemmas.Map.Made.{AllPairs-from_IsDistinct, IsDistinct-from_AllPairs}
 use Rattle.g1_words.specs.Lists.{has}
-use Rattle.g1_words.proofs.Members.{In, In-from_contains, Contains-from_in, In-map, map_cases, In-filter, filter_member, In-flat_map, flat_map_cases, has_from_in, in_from_has}
+use Rattle.g1_words.proofs.Members.{Contains-map, map_cases, Contains-filter, filter_member, Contains-flat_map, flat_map_cases, has_from_contains, Contains-from_has, cons_cases, none_contains}
 use Rattle.g1_words.proofs.Ordered.{Ordered, Ordered-from_pairs, pairs_from_ordered, same_order}
 use Rattle.g1_words.proofs.Rising.{Ordered-filter, Ordered-flat_map, Ordered-range}
 use Rattle.g1_words.proofs.Lists.{range_more}
-use Rattle.std.specs.Prelude.{min, decimal}
 use Rattle.std.proofs.lemmas.List.{length-map, map-append, take_more, append_assoc}
 use Rattle.std.proofs.lemmas.List.Concat.{flat_map-append}
 use Rattle.std.proofs.lemmas.List.Folds.{flat_map-map}
@@ -59,11 +58,11 @@ up_to_trans x y z (inr a) (inr b) = inr (a.0 ∙ b.0, omega (arith, a.1, b.1))
 
 -- neighbours in order, all in order
 chain : (xs : List (ℕ × ℕ)) (x : ℕ × ℕ) → ((k : ℕ) (d : ℕ × ℕ) → k + 1 < length (x ∷ xs) → UpTo (get_or (x ∷ xs) k d) (get_or (x ∷ xs) (k + 1) d)) → Ordered UpTo (x ∷ xs)
-chain [] x h = ((λ y i. absurd i), tt)
+chain [] x h = ((λ y i. absurd (none_contains y i)), tt)
 chain (y ∷ xs) x h =
     let rest = chain xs y (λ k d lt. let e : suc k + 1 ≡ suc (k + 1) = omega arith in subst (λ n. UpTo (get_or (y ∷ xs) k d) (get_or (x ∷ y ∷ xs) n d)) e (h (suc k) d (omega (arith, lt)))) in
     let here = h 0 x (omega arith) in
-    ((λ z i. elim i [ inl e ↦ subst (UpTo x) e here | inr j ↦ up_to_trans x y z here (rest.0 z j) ]), rest)
+    ((λ z i. elim (cons_cases y xs z i) [ inl e ↦ subst (UpTo x) e here | inr j ↦ up_to_trans x y z here (rest.0 z j) ]), rest)
 
 pub in_order : (xs : List (ℕ × ℕ)) → IsSorted (λ x y. ordering_then (nat_cmp x.0 y.0) (nat_cmp x.1 y.1)) xs → Ordered UpTo xs
 in_order [] s = tt
@@ -120,7 +119,7 @@ rises_at after r all = elim (cases_lt r (length after)) [
 abbrev pub regions_of : ℕ → List (ℕ × ℕ) → List ℕ
 regions_of c ys = map (λ x. x.1) (filter (λ x. eqb x.0 c) ys)
 
-below_rest : (c : ℕ) (y : ℕ × ℕ) (ys : List (ℕ × ℕ)) → ((z : ℕ × ℕ) → In ys z → UpTo y z) → ((z : ℕ × ℕ) → In ys z → y ≢ z) → y.0 ≡ c → (q : ℕ) → In (regions_of c ys) q → y.1 < q
+below_rest : (c : ℕ) (y : ℕ × ℕ) (ys : List (ℕ × ℕ)) → ((z : ℕ × ℕ) → Contains ys z → UpTo y z) → ((z : ℕ × ℕ) → Contains ys z → y ≢ z) → y.0 ≡ c → (q : ℕ) → Contains (regions_of c ys) q → y.1 < q
 below_rest c y ys o d e q i =
     let m = map_cases (λ (x : ℕ × ℕ). x.1) (filter (λ (x : ℕ × ℕ). eqb x.0 c) ys) q i in
     let f = filter_member (λ (x : ℕ × ℕ). eqb x.0 c) ys m.0 m.1 in
@@ -133,7 +132,7 @@ below_rest c y ys o d e q i =
       ]
     ]
 
-rise_at : (c : ℕ) (y : ℕ × ℕ) (ys : List (ℕ × ℕ)) (b : Bool) → (b ≡ true → (q : ℕ) → In (regions_of c ys) q → y.1 < q) → Ordered (λ r q. r < q) (regions_of c ys)
+rise_at : (c : ℕ) (y : ℕ × ℕ) (ys : List (ℕ × ℕ)) (b : Bool) → (b ≡ true → (q : ℕ) → Contains (regions_of c ys) q → y.1 < q) → Ordered (λ r q. r < q) (regions_of c ys)
     → Ordered (λ r q. r < q) (map (λ x. x.1) (cond b (y ∷ filter (λ x. eqb x.0 c) ys) (filter (λ x. eqb x.0 c) ys)))
 rise_at c y ys true f rest = (f refl, rest)
 rise_at c y ys false f rest = rest
@@ -168,17 +167,19 @@ module _ (before after : List (List ℕ)) (n : ℕ) (rise : All IsStrictlyIncrea
       (λ r i.
       let m = map_cases (λ (x : ℕ × ℕ). x.1) (filter (λ (x : ℕ × ℕ). eqb x.0 c) ys) r i in
       let f = filter_member (λ (x : ℕ × ℕ). eqb x.0 c) ys m.0 m.1 in
-      let k = flat_map_cases (pairs_of before after) (range_with_len 0 n) m.0 (In-from_contains raw m.0 (Contains-permutation ys raw m.0 (IsPermutation-sym raw ys p) (Contains-from_in ys m.0 f.0))) in
+      let k = flat_map_cases (pairs_of before after) (range_with_len 0 n) m.0 (Contains-permutation ys raw m.0 (IsPermutation-sym raw ys p) f.0) in
       let a = map_cases (λ (c : ℕ). (c, k.0)) (joined (slice_index_or before k.0 []) (slice_index_or after k.0 [])) m.0 k.2 in
       let region : k.0 ≡ r = ap (λ (q : ℕ × ℕ). q.1) a.2 ∙ m.2 in
       let card : a.0 ≡ c = ap (λ (q : ℕ × ℕ). q.0) a.2 ∙ eqb-true m.0.0 c f.1 in
-      subst (In (filter gains (range_with_len 0 n))) region
-      (In-filter gains (range_with_len 0 n) k.0 k.1 (has_from_in (joined (slice_index_or before k.0 []) (slice_index_or after k.0 [])) c (subst (In (joined (slice_index_or before k.0 []) (slice_index_or after k.0 []))) card a.1))))
+      subst (Contains (filter gains (range_with_len 0 n))) region
+      (Contains-filter gains (range_with_len 0 n) k.0 k.1
+      (has_from_contains (joined (slice_index_or before k.0 []) (slice_index_or after k.0 [])) c (subst (Contains (joined (slice_index_or before k.0 []) (slice_index_or after k.0 []))) card a.1))))
       (λ r i.
       let f = filter_member gains (range_with_len 0 n) r i in
-      let k : In (pairs_of before after r) (c, r) = In-map (λ (c : ℕ). (c, r)) (joined (slice_index_or before r []) (slice_index_or after r [])) c (in_from_has (joined (slice_index_or before r []) (slice_index_or after r [])) c f.1) in
-      let there = In-from_contains ys (c, r) (Contains-permutation raw ys (c, r) p (Contains-from_in raw (c, r) (In-flat_map (pairs_of before after) (range_with_len 0 n) r (c, r) f.0 k))) in
-      In-map (λ (x : ℕ × ℕ). x.1) (filter (λ (x : ℕ × ℕ). eqb x.0 c) ys) (c, r) (In-filter (λ (x : ℕ × ℕ). eqb x.0 c) ys (c, r) there (eq-eqb c c refl)))
+      let k : Contains (pairs_of before after r) (c, r) =
+      Contains-map (λ (c : ℕ). (c, r)) (joined (slice_index_or before r []) (slice_index_or after r [])) c (Contains-from_has (joined (slice_index_or before r []) (slice_index_or after r [])) c f.1) in
+      let there = Contains-permutation raw ys (c, r) p (Contains-flat_map (pairs_of before after) (range_with_len 0 n) r (c, r) f.0 k) in
+      Contains-map (λ (x : ℕ × ℕ). x.1) (filter (λ (x : ℕ × ℕ). eqb x.0 c) ys) (c, r) (Contains-filter (λ (x : ℕ × ℕ). eqb x.0 c) ys (c, r) there (eq-eqb c c refl)))
 
 -- ---- one pair, or one region more
 

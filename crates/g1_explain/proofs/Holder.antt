@@ -1,16 +1,15 @@
 -- The object that holds a slot, from the one over the first word of its card.
-use Rattle.std.proofs.Common.{◌≡◌, ◌≢◌, ℕ, ◌+◌, ◌*◌, ◌/◌, ◌<◌, ◌≤◌, inl, inr, List, [], ◌∷◌, ◌++◌, length, filter, flat_map, Contains, refl, sym, ◌∙◌, ap, subst, arith, eqb, eq-eqb}
+use Rattle.std.proofs.Common.{◌≡◌, ◌≢◌, ℕ, ◌+◌, ◌*◌, ◌/◌, ◌<◌, ◌≤◌, List, [], ◌∷◌, ◌++◌, length, filter, flat_map, Contains, refl, sym, ◌∙◌, ap, subst, arith, eqb, eq-eqb}
 use Rattle.std.specs.Prelude.{Option, Some, None}
 use Rattle.g1_words.specs.declared.object.Object.{Object}
 use Rattle.g1_words.specs.declared.region.Kind.{Kind}
 use Rattle.g1_words.specs.declared.region.Kind.TheVariants.{Free, Ordinary, HumongousFirst, Continuation}
 use Rattle.g1_words.specs.Heap.{Heap, kind, start, end, card_of, objects, object_at, slots}
-use Rattle.g1_words.specs.References.{refs}
 use Rattle.g1_words.specs.Valid.{IsObject, Tiles, IsValid, IsSlotOf}
 use Rattle.g1_words.specs.Walk.{Reaches, StandsBetween}
 use Rattle.g1_words.proofs.Bounds.{cards_in_region, card_below}
 use Rattle.g1_words.proofs.Computed.{object_is, has_contains, contains_has}
-use Rattle.g1_words.proofs.Members.{In, In-from_contains, Contains-from_in, In-filter, filter_member, flat_map_cases}
+use Rattle.g1_words.proofs.Members.{Contains-filter, filter_member, flat_map_cases, none_contains}
 use Rattle.g1_words.proofs.Objects.{StandsIn, object_stands, ordinary_has}
 use Rattle.g1_words.proofs.Sound.{has_is, object_in, stands_object}
 use Rattle.g1_words.proofs.Tiling.{Tiles-le, Tiles-append, Tiles-stands}
@@ -19,6 +18,7 @@ use Rattle.g1_rem.specs.Starts.{IsOver, IsStartsOf}
 use Rattle.g1_rem.proofs.Card.{none_on, ordinary_on, alone_on}
 use Rattle.g1_rem.proofs.Entering.{slot_good}
 use Rattle.g1_rem.proofs.Order.{slot_in, object_fits}
+use Rattle.g1_frontier.proofs.Marks.{one_member}
 use Rattle.g1_explain.specs.Keeping.{IsReferring, ReachesHolder}
 use Rattle.g1_explain.proofs.Kept.{slot_there}
 
@@ -86,17 +86,17 @@ module _ (h : Heap) (valid : IsValid h) (c slot : ℕ) (refers : IsReferring h s
   abbrev lo : ℕ
   lo = c * h.geometry.k
 
-  on : In (slots_on h c) slot
-  on = In-filter (λ p. eqb (card_of h p) c) (all_slots h) slot (slot_there h valid 0 (record { slot = slot; target = refers.0 }) (In-from_contains (refs h) (record { slot = slot; target = refers.0 }) refers.1)).0 (eq-eqb (card_of h slot) c (sym home))
+  on : Contains (slots_on h c) slot
+  on = Contains-filter (λ p. eqb (card_of h p) c) (all_slots h) slot (slot_there h (record { slot = slot; target = refers.0 }) refers.1).0 (eq-eqb (card_of h slot) c (sym home))
 
   no_slot : [] ≡ slots_on h c → ⊥
-  no_slot e = subst (λ l. In l slot) (sym e) on
+  no_slot e = none_contains slot (subst (λ l. Contains l slot) (sym e) on)
 
   -- the card is one of the heap
   pub card_there : (starts : List (Option ℕ)) → IsStartsOf h starts → c < length starts
   card_there starts are =
       let m = cards_in_region h.geometry.w h.geometry.k h.geometry.n valid.limits in
-      let good = slot_good h c slot valid (Contains-from_in (slots_on h c) slot on) in
+      let good = slot_good h c slot valid on in
       let b = card_below h.geometry.w h.geometry.k m.0 h.geometry.n slot (omega (arith, valid.limits.k_least)) m.1 (omega (arith, good.0, valid.word_count)) in
       omega (arith, b, home, are.one_each)
 
@@ -112,11 +112,12 @@ module _ (h : Heap) (valid : IsValid h) (c slot : ℕ) (refers : IsReferring h s
     stands = object_stands h (object_at h a) (a / h.geometry.w) valid (contains_has h (object_at h a) valid.shaped over.0) refl
 
     -- the holder is one of a row of objects of the heap
-    held : (os : List Object) (to : ℕ) → Tiles h.words a os to → ((o : Object) → In os o → Contains (objects h) o) → filter (is_between lo (lo + h.geometry.k)) (flat_map slots os) ≡ slots_on h c → ReachesHolder h a slot
+    held : (os : List Object) (to : ℕ) → Tiles h.words a os to → ((o : Object) → Contains os o → Contains (objects h) o)
+        → filter (is_between lo (lo + h.geometry.k)) (flat_map slots os) ≡ slots_on h c → ReachesHolder h a slot
     held os to t ours all =
-        let i = (filter_member (is_between lo (lo + h.geometry.k)) (flat_map slots os) slot (subst (λ l. In l slot) (sym all) on)).0 in
+        let i = (filter_member (is_between lo (lo + h.geometry.k)) (flat_map slots os) slot (subst (λ l. Contains l slot) (sym all) on)).0 in
         let o = flat_map_cases slots os slot i in
-        record { holder = o.0; there = ours o.0 o.1; holds = slot_in o.0 slot o.2; row = (Tiles-stands h.words a os to o.0 t (Contains-from_in os o.0 o.1)).before }
+        record { holder = o.0; there = ours o.0 o.1; holds = slot_in o.0 slot o.2; row = (Tiles-stands h.words a os to o.0 t o.1).before }
 
     in_ordinary : kind h (a / h.geometry.w) ≡ Ordinary → ReachesHolder h a slot
     in_ordinary e =
@@ -124,7 +125,7 @@ module _ (h : Heap) (valid : IsValid h) (c slot : ℕ) (refers : IsReferring h s
         let t : StandsIn Ordinary h (a / h.geometry.w) (object_at h a) = subst (λ k. StandsIn k h (a / h.geometry.w) (object_at h a)) e stands.1 in
         let os : List Object = q.0.0 in
         held os (end h (a / h.geometry.w)) q.0.1
-        (λ o i. has_contains h o (ordinary_has h (a / h.geometry.w) o stands.0 e (further o (Tiles-stands h.words a os (end h (a / h.geometry.w)) o q.0.1 (Contains-from_in os o i)) t.before)))
+        (λ o i. has_contains h o (ordinary_has h (a / h.geometry.w) o stands.0 e (further o (Tiles-stands h.words a os (end h (a / h.geometry.w)) o q.0.1 i) t.before)))
         (q.1 os q.0.1)
       where
         further : (o : Object) → StandsBetween h.words a (end h (a / h.geometry.w)) o → Reaches h.words (start h (a / h.geometry.w)) a → StandsBetween h.words (start h (a / h.geometry.w)) (end h (a / h.geometry.w)) o
@@ -140,7 +141,7 @@ module _ (h : Heap) (valid : IsValid h) (c slot : ℕ) (refers : IsReferring h s
         let it : IsObject h.words (object_at h a) = stands_object (kind h (a / h.geometry.w)) h (a / h.geometry.w) (object_at h a) stands.1 in
         let row : Tiles h.words a (object_at h a ∷ []) (a + (object_at h a).size) = (refl, it, refl) in
         held (object_at h a ∷ []) (a + (object_at h a).size) row
-        (λ o i. elim i [ inl e ↦ subst (Contains (objects h)) e over.0 | inr n ↦ absurd n ]) (q.1 (object_at h a ∷ []) row)
+        (λ o i. subst (Contains (objects h)) (one_member (object_at h a) o i) over.0) (q.1 (object_at h a ∷ []) row)
 
     -- the row from that object reaches the holder
     pub reaches : ReachesHolder h a slot

@@ -4,7 +4,7 @@ use Rattle.std.specs.Prelude.{codes, decimal, is_err}
 use Rattle.std.specs.List.Sorted.{IsStrictlyIncreasing, IsBinarySearchResult}
 use Rattle.std.specs.Ordering.{nat_cmp}
 use Rattle.g1_words.specs.Lists.{has}
-use Rattle.g1_words.proofs.Members.{has_from_in}
+use Rattle.g1_words.proofs.Members.{has_from_contains}
 use Rattle.g1_frontier.proofs.Places.{found_at, not_found}
 use Rattle.g1_copy.proofs.LinkingCards.{none_pass}
 use Rattle.g1_text.specs.Lines.{further, text_of}
@@ -14,7 +14,7 @@ use Rattle.g1_explain.specs.Remembered.{joined, set_change}
 -- a set has no card that it has not
 pub joined_same : (xs ys none : List ℕ) → xs ≡ ys → none ≡ [] → none ≡ joined xs ys
 joined_same xs ys none e n =
-    n ∙ sym (none_pass (λ c. not (has ys c)) ys (λ c i. ap not (has_from_in ys c i))) ∙ ap (λ (l : List ℕ). joined l ys) (sym e)
+    n ∙ sym (none_pass (λ c. not (has ys c)) ys (λ c i. ap not (has_from_contains ys c i))) ∙ ap (λ (l : List ℕ). joined l ys) (sym e)
 
 -- what a search says of a card
 pub searched_has : (xs : List ℕ) (c : ℕ) (r : Result ℕ ℕ) → IsStrictlyIncreasing xs → IsBinarySearchResult (λ y. nat_cmp y c) xs r → is_err r ≡ not (has xs c)

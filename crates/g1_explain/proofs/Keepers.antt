@@ -9,9 +9,9 @@ use Rattle.std.proofs.lemmas.Grind.{flat_map-append}
 use Rattle.std.proofs.lemmas.List.Elements.{filter-append}
 use Rattle.g1_words.specs.Heap.{Heap, region_of, start, word}
 use Rattle.g1_words.specs.Lists.{has}
-use Rattle.g1_words.proofs.Computed.{In-range}
+use Rattle.g1_words.proofs.Computed.{Contains-range}
 use Rattle.g1_words.proofs.Indices.{range_bounds}
-use Rattle.g1_words.proofs.Members.{has_from_in, in_from_has}
+use Rattle.g1_words.proofs.Members.{has_from_contains, Contains-from_has}
 use Rattle.g1_words.proofs.Logic.{same_test}
 use Rattle.g1_words.proofs.Lists.{flat_of_filter}
 use Rattle.g1_rem.specs.Slots.{slots_on}
@@ -164,8 +164,8 @@ own_is a e x = same_test (leb a x && ltb x e) (has (range_with_len a (e - a)) x)
     (λ t. let b = and_parts (leb a x) (ltb x e) t in
     let low = leb-true a x b.0 in
     let high = ltb-true x e b.1 in
-    has_from_in (range_with_len a (e - a)) x (In-range a (e - a) x (omega (arith, low)) (omega (arith, low, high))))
-    (λ t. let b = range_bounds a (e - a) x (in_from_has (range_with_len a (e - a)) x t) in
+    has_from_contains (range_with_len a (e - a)) x (Contains-range a (e - a) x (omega (arith, low)) (omega (arith, low, high))))
+    (λ t. let b = range_bounds a (e - a) x (Contains-from_has (range_with_len a (e - a)) x t) in
     (λ i. le-leb a x (omega (arith, b.0)) i && lt-ltb x e (omega (arith, b.0, b.1)) i))
 
 -- ---- a slot that references an object

@@ -1,13 +1,14 @@
 -- The order in which a search meets references, and that the first one to each object comes before the others.
-use Rattle.std.proofs.Common.{◌≡◌, ℕ, zero, suc, ◌+◌, ◌<◌, ◌⊎◌, inl, inr, Bool, true, false, not, List, [], ◌∷◌, ◌++◌, length, filter, slice_index, refl, sym, ◌∙◌, ap, subst, arith, eqb, eq-eqb}
+use Rattle.std.proofs.Common.{◌≡◌, ℕ, zero, suc, ◌+◌, ◌<◌, ◌⊎◌, inl, inr, true, false, not, List, [], ◌∷◌, ◌++◌, length, filter, slice_index, refl, sym, ◌∙◌, ap, subst, arith, eqb, eq-eqb, Contains}
 use Rattle.std.specs.List.{range_with_len}
-use Rattle.std.proofs.lemmas.Bool.{false≢true}
+use Rattle.std.proofs.lemmas.Bool.{false≢true, not-true}
+use Rattle.std.proofs.lemmas.List.Elements.{Contains-append_cases}
 use Rattle.g1_words.specs.Heap.{Heap, word, card_of, object_at}
 use Rattle.g1_words.specs.References.{Ref, refs}
 use Rattle.g1_words.specs.Survivors.{in_set}
 use Rattle.g1_words.specs.Valid.{IsValid}
 use Rattle.g1_words.proofs.Computed.{range_below}
-use Rattle.g1_words.proofs.Members.{In, In-append_cases, filter_member, flat_map_cases, map_cases}
+use Rattle.g1_words.proofs.Members.{filter_member, flat_map_cases, map_cases, none_contains, Contains-later}
 use Rattle.g1_words.proofs.Ordered.{Ordered}
 use Rattle.g1_words.proofs.Rising.{Ordered-append, Ordered-flat_map, Ordered-filter, Ordered-map, Ordered-range, refs_ordered}
 use Rattle.g1_explain.specs.declared.finder.Finder.{Finder}
@@ -33,14 +34,14 @@ IsEarlierLead x y = Earlier x.finder y.finder
 
 -- ---- what a reference tells
 
-pub lead_tells : (f : Finder) (x : ℕ) (l : Lead) → In (lead f x) l → (l.finder ≡ f) × (x ≡ suc l.target)
-lead_tells f zero l k = absurd k
-lead_tells f (suc a) l (inl e) = (sym (ap (λ (y : Lead). y.finder) e), ap suc (ap (λ (y : Lead). y.target) e))
-lead_tells f (suc a) l (inr k) = absurd k
+pub lead_tells : (f : Finder) (x : ℕ) (l : Lead) → Contains (lead f x) l → (l.finder ≡ f) × (x ≡ suc l.target)
+lead_tells f zero l k = absurd (omega (arith, k.1))
+lead_tells f (suc a) l (zero, b, e) = (sym (ap (λ (y : Lead). y.finder) e), ap suc (ap (λ (y : Lead). y.target) e))
+lead_tells f (suc a) l (suc j, b, e) = absurd (omega (arith, b))
 
 lead_ordered : (f : Finder) (x : ℕ) → Ordered IsEarlierLead (lead f x)
 lead_ordered f zero = tt
-lead_ordered f (suc a) = ((λ y k. absurd k), tt)
+lead_ordered f (suc a) = ((λ y k. absurd (none_contains y k)), tt)
 
 earlier_along : (f g p q : Finder) → p ≡ f → q ≡ g → Earlier f g → Earlier p q
 earlier_along f g p q e d l = subst (λ z. Earlier z q) (sym e) (subst (λ z. Earlier f z) (sym d) l)
@@ -52,7 +53,7 @@ module _ (h : Heap) (set : List ℕ) where
     pub finder : l.finder ≡ Root number
     pub reads : slice_index h.roots number ≡ suc l.target
 
-  pub root_tells : (l : Lead) → In (root_leads h) l → IsRootLead l
+  pub root_tells : (l : Lead) → Contains (root_leads h) l → IsRootLead l
   root_tells l k =
       let m = flat_map_cases (λ k. lead (Root k) (slice_index h.roots k)) (range_with_len 0 (length h.roots)) l k in
       let t = lead_tells (Root m.0) (slice_index h.roots m.0) l m.2 in
@@ -61,23 +62,19 @@ module _ (h : Heap) (set : List ℕ) where
 
   pub record IsSlotLead (l : Lead) : Type 0 where
     pub ref : Ref
-    pub there : In (refs h) ref
+    pub there : Contains (refs h) ref
     pub outside : in_set h set ref.slot ≡ false
     pub finder : l.finder ≡ Card (card_of h ref.slot) ref.slot
     pub target : l.target ≡ ref.target
 
-  not_true : (b : Bool) → not b ≡ true → b ≡ false
-  not_true false e = refl
-  not_true true e = absurd (false≢true e)
-
-  pub slot_tells : (l : Lead) → In (slot_leads h set) l → IsSlotLead l
+  pub slot_tells : (l : Lead) → Contains (slot_leads h set) l → IsSlotLead l
   slot_tells l k =
       let m = map_cases (λ (e : Ref). record { finder = Card (card_of h e.slot) e.slot; target = e.target }) (filter (λ (e : Ref). not (in_set h set e.slot)) (refs h)) l k in
       let t = filter_member (λ (e : Ref). not (in_set h set e.slot)) (refs h) m.0 m.1 in
       record {
         ref = m.0;
         there = t.0;
-        outside = not_true (in_set h set m.0.slot) t.1;
+        outside = not-true (in_set h set m.0.slot) t.1;
         finder = sym (ap (λ (y : Lead). y.finder) m.2);
         target = sym (ap (λ (y : Lead). y.target) m.2);
       }
@@ -90,7 +87,7 @@ module _ (h : Heap) (set : List ℕ) where
     pub finder : l.finder ≡ Slot place (slice_index found place) number
     pub reads : word h (slice_index found place + 1 + number) ≡ suc l.target
 
-  pub found_tells : (found : List ℕ) (n : ℕ) (l : Lead) → In (found_leads h found n) l → IsFoundLead found n l
+  pub found_tells : (found : List ℕ) (n : ℕ) (l : Lead) → Contains (found_leads h found n) l → IsFoundLead found n l
   found_tells found n l k =
       let m = flat_map_cases (λ m. object_leads h m (slice_index found m)) (range_with_len 0 n) l k in
       let a : ℕ = slice_index found m.0 in
@@ -121,7 +118,7 @@ module _ (h : Heap) (set : List ℕ) where
       (λ s t x y i j lt k l.
       earlier_along (Slot m a s) (Slot m a t) x.finder y.finder (lead_tells (Slot m a s) (word h (a + 1 + s)) x k).0 (lead_tells (Slot m a t) (word h (a + 1 + t)) y l).0 (inr (refl, lt)))
 
-  object_finder : (m a : ℕ) (l : Lead) → In (object_leads h m a) l → (s : ℕ) × (l.finder ≡ Slot m a s)
+  object_finder : (m a : ℕ) (l : Lead) → Contains (object_leads h m a) l → (s : ℕ) × (l.finder ≡ Slot m a s)
   object_finder m a l k =
       let s = flat_map_cases (λ s. lead (Slot m a s) (word h (a + 1 + s))) (range_with_len 0 (object_at h a).refs) l k in
       (s.0, (lead_tells (Slot m a s.0) (word h (a + 1 + s.0)) l s.2).0)
@@ -150,7 +147,7 @@ module _ (h : Heap) (set : List ℕ) where
       earlier_along (Card (card_of h a.ref.slot) a.ref.slot) (Slot b.place (slice_index found b.place) b.number) x.finder y.finder a.finder b.finder tt))
       (λ x y i j.
       let a = root_tells x i in
-      elim (In-append_cases ss os y j) [
+      elim (Contains-append_cases ss os y j) [
         | inl k ↦ let b = slot_tells y k in earlier_along (Root a.number) (Card (card_of h b.ref.slot) b.ref.slot) x.finder y.finder a.finder b.finder tt
         | inr k ↦ let b = found_tells found (length found) y k in earlier_along (Root a.number) (Slot b.place (slice_index found b.place) b.number) x.finder y.finder a.finder b.finder tt
       ]))
@@ -158,15 +155,16 @@ module _ (h : Heap) (set : List ℕ) where
 -- ---- the first ones
 
 -- the first reference to an object is any other one, or earlier
-pub least : (ls : List Lead) → Ordered IsEarlierLead ls → (f l : Lead) → In (first_leads ls) f → In ls l → f.target ≡ l.target → (f ≡ l) ⊎ IsEarlierLead f l
-least [] o f l i j e = absurd i
-least (x ∷ xs) o f l (inl i) (inl j) e = inl (sym i ∙ j)
-least (x ∷ xs) o f l (inl i) (inr j) e = inr (subst (λ (z : Lead). Earlier z.finder l.finder) i (o.0 l j))
-least (x ∷ xs) o f l (inr i) (inl j) e =
-    let t = (filter_member (λ (y : Lead). not (eqb x.target y.target)) (first_leads xs) f i).1 in
+pub least : (ls : List Lead) → Ordered IsEarlierLead ls → (f l : Lead) → Contains (first_leads ls) f → Contains ls l → f.target ≡ l.target → (f ≡ l) ⊎ IsEarlierLead f l
+least [] o f l i j e = absurd (omega (arith, i.1))
+least (x ∷ xs) o f l (zero, b, i) (zero, lt, j) e = inl (sym i ∙ j)
+least (x ∷ xs) o f l (zero, b, i) (suc k, lt, eq) e = inr (subst (λ (z : Lead). Earlier z.finder l.finder) i (o.0 l (k, omega (arith, lt), eq)))
+least (x ∷ xs) o f l (suc k, b, eq) (zero, lt, j) e =
+    let t = (filter_member (λ (y : Lead). not (eqb x.target y.target)) (first_leads xs) f (k, omega (arith, b), eq)).1 in
     let same : eqb x.target f.target ≡ true = eq-eqb x.target f.target (ap (λ (z : Lead). z.target) j ∙ sym e) in
     absurd (false≢true (sym (ap not same) ∙ t))
-least (x ∷ xs) o f l (inr i) (inr j) e = least xs o.1 f l (filter_member (λ (y : Lead). not (eqb x.target y.target)) (first_leads xs) f i).0 j e
+least (x ∷ xs) o f l (suc k, b, eq) (suc n, lt, same) e =
+    least xs o.1 f l (filter_member (λ (y : Lead). not (eqb x.target y.target)) (first_leads xs) f (k, omega (arith, b), eq)).0 (n, omega (arith, lt), same) e
 
 pub first_in_order : (ls : List Lead) → Ordered IsEarlierLead ls → Ordered IsEarlierLead (first_leads ls)
 first_in_order [] o = tt
@@ -179,19 +177,21 @@ first_in_order (x ∷ xs) o = (
 
 -- the reference at a place
 pub record IsLeadAt (ls : List Lead) (j : ℕ) (l : Lead) : Type 0 where
-  pub there : In ls l
+  pub there : Contains ls l
   pub finder : finder_at (finders_of ls) j ≡ l.finder
   pub target : slice_index (targets_of ls) j ≡ l.target
 
 pub lead_at : (ls : List Lead) (j : ℕ) → j < length ls → (l : Lead) × IsLeadAt ls j l
 lead_at [] j lt = absurd (omega (arith, lt))
-lead_at (x ∷ xs) zero lt = (x, record { there = inl refl; finder = refl; target = refl })
-lead_at (x ∷ xs) (suc j) lt = let r = lead_at xs j (omega (arith, lt)) in (r.0, record { there = inr r.1.there; finder = r.1.finder; target = r.1.target })
+lead_at (x ∷ xs) zero lt = (x, record { there = (zero, omega arith, refl); finder = refl; target = refl })
+lead_at (x ∷ xs) (suc j) lt = let r = lead_at xs j (omega (arith, lt)) in (r.0, record { there = Contains-later x xs r.0 r.1.there; finder = r.1.finder; target = r.1.target })
 
-pub place_in : (ls : List Lead) (l : Lead) → In ls l → (j : ℕ) × (j < length ls) × IsLeadAt ls j l
-place_in [] l k = absurd k
-place_in (x ∷ xs) l (inl e) = (zero, omega arith, record { there = inl e; finder = ap (λ (y : Lead). y.finder) e; target = ap (λ (y : Lead). y.target) e })
-place_in (x ∷ xs) l (inr k) = let r = place_in xs l k in (suc r.0, omega (arith, r.1), record { there = inr r.2.there; finder = r.2.finder; target = r.2.target })
+pub place_in : (ls : List Lead) (l : Lead) → Contains ls l → (j : ℕ) × (j < length ls) × IsLeadAt ls j l
+place_in [] l k = absurd (omega (arith, k.1))
+place_in (x ∷ xs) l (zero, b, e) = (zero, omega arith, record { there = (zero, omega arith, e); finder = ap (λ (y : Lead). y.finder) e; target = ap (λ (y : Lead). y.target) e })
+place_in (x ∷ xs) l (suc j, b, e) =
+    let r = place_in xs l (j, omega (arith, b), e) in
+    (suc r.0, omega (arith, r.1), record { there = Contains-later x xs l r.2.there; finder = r.2.finder; target = r.2.target })
 
 pub places_in_order : (ls : List Lead) → Ordered IsEarlierLead ls → (i j : ℕ) → i < j → j < length ls → Earlier (finder_at (finders_of ls) i) (finder_at (finders_of ls) j)
 places_in_order [] o i j lt le = absurd (omega (arith, le))

@@ -1,9 +1,9 @@
 -- No slot lies on a card that the heap has not.
-use Rattle.std.proofs.Common.{◌≡◌, ◌≤◌, ℕ, ◌*◌, ◌/◌, inl, List, [], ◌∷◌, refl, sym, ap, subst, arith, eqb, eqb-true}
+use Rattle.std.proofs.Common.{◌≡◌, ◌≤◌, ℕ, ◌*◌, ◌/◌, List, [], ◌∷◌, refl, sym, ap, subst, arith, eqb, eqb-true, Contains, zero}
 use Rattle.std.proofs.Math.Nat.{div-mul-le_self, mul-le-mul_right}
 use Rattle.g1_words.specs.Heap.{Heap, card_of}
 use Rattle.g1_words.specs.Valid.{IsValid}
-use Rattle.g1_words.proofs.Members.{In, Contains-from_in, filter_member}
+use Rattle.g1_words.proofs.Members.{filter_member}
 use Rattle.g1_rem.specs.Starts.{card_count}
 use Rattle.g1_rem.specs.Slots.{all_slots, slots_on}
 use Rattle.g1_rem.proofs.Entering.{slot_good}
@@ -15,8 +15,8 @@ no_slots h c valid le = by (slots_on h c) refl
     by : (xs : List ℕ) → slots_on h c ≡ xs → [] ≡ slots_on h c
     by [] e = sym e
     by (x ∷ xs) e =
-        let i : In (slots_on h c) x = subst (λ l. In l x) (sym e) (inl refl) in
-        let good = slot_good h c x valid (Contains-from_in (slots_on h c) x i) in
+        let i : Contains (slots_on h c) x = subst (λ l. Contains l x) (sym e) (zero, omega arith, refl) in
+        let good = slot_good h c x valid i in
         let on : x / h.geometry.k ≡ c = eqb-true (card_of h x) c (filter_member (λ p. eqb (card_of h p) c) (all_slots h) x i).1 in
         let low : x / h.geometry.k * h.geometry.k ≤ x = div-mul-le_self x h.geometry.k in
         let same : x / h.geometry.k * h.geometry.k ≡ c * h.geometry.k = ap (λ z. z * h.geometry.k) on in

@@ -1,5 +1,5 @@
 -- What keeps a humongous object that no root leads to, and what leads nowhere.
-use Rattle.std.proofs.Common.{◌≡◌, ◌≢◌, ℕ, ◌<◌, ◌≤◌, inl, Bool, true, false, not, ◌&&◌, List, [], ◌∷◌, ◌++◌, map, filter, get_or, Contains, refl, sym, ◌∙◌, ap, subst, arith, eqb, eqb-true}
+use Rattle.std.proofs.Common.{◌≡◌, ◌≢◌, ℕ, ◌<◌, ◌≤◌, Bool, true, false, not, ◌&&◌, List, [], ◌∷◌, ◌++◌, map, filter, get_or, Contains, refl, sym, ◌∙◌, ap, subst, arith, eqb, eqb-true, zero}
 use Rattle.std.specs.Prelude.{Option}
 use Rattle.std.proofs.lemmas.Bool.{false≢true, and_parts}
 use Rattle.std.proofs.lemmas.List.{get_or_past}
@@ -12,7 +12,7 @@ use Rattle.g1_words.specs.Live.{Live}
 use Rattle.g1_words.specs.Survivors.{in_set}
 use Rattle.g1_words.specs.Valid.{IsValid}
 use Rattle.g1_words.proofs.Computed.{contains_has}
-use Rattle.g1_words.proofs.Members.{In, Contains-from_in, filter_member}
+use Rattle.g1_words.proofs.Members.{filter_member}
 use Rattle.g1_words.proofs.Objects.{object_stands}
 use Rattle.g1_words.proofs.OneToOne.{reached_object}
 use Rattle.g1_words.proofs.Sound.{sound}
@@ -45,9 +45,9 @@ starts_at_slot h legs a (slot ls m b s c l fit w) dead =
 
 -- ---- a humongous object
 
-no_members : {A : Type 0} (xs : List A) → ((x : A) → In xs x → ⊥) → xs ≡ []
+no_members : {A : Type 0} (xs : List A) → ((x : A) → Contains xs x → ⊥) → xs ≡ []
 no_members [] none = refl
-no_members (x ∷ xs) none = absurd (none x (inl refl))
+no_members (x ∷ xs) none = absurd (none x (zero, omega arith, refl))
 
 -- a slot outside a humongous object that references it
 pub record IsOutsideSlot (h : Heap) (a : ℕ) (f : Finder) : Type 0 where
@@ -57,7 +57,7 @@ pub record IsOutsideSlot (h : Heap) (a : ℕ) (f : Finder) : Type 0 where
   pub outside : in_set h (run h (region_of h a)) slot ≡ false
 
 module _ (h : Heap) (valid : IsValid h) (a r : ℕ) (home : r ≡ region_of h a) where
-  outside_tells : (l : Lead) → In (outside_leads h a) l → IsOutsideSlot h a l.finder
+  outside_tells : (l : Lead) → Contains (outside_leads h a) l → IsOutsideSlot h a l.finder
   outside_tells l k =
       let m = filter_member (λ (l : Lead). eqb l.target a) (slot_leads h (run h (region_of h a))) l k in
       let t = slot_tells h (run h (region_of h a)) l m.0 in
@@ -65,7 +65,7 @@ module _ (h : Heap) (valid : IsValid h) (a r : ℕ) (home : r ≡ region_of h a)
       record {
         slot = t.ref.slot;
         finder = t.finder;
-        there = subst (λ z. Contains (refs h) (record { slot = t.ref.slot; target = z })) to (Contains-from_in (refs h) t.ref t.there);
+        there = subst (λ z. Contains (refs h) (record { slot = t.ref.slot; target = z })) to t.there;
         outside = t.outside;
       }
 
@@ -74,7 +74,7 @@ module _ (h : Heap) (valid : IsValid h) (a r : ℕ) (home : r ≡ region_of h a)
   first_outside [] f e k = absurd (not_by f (sym k))
   first_outside (l ∷ ls) f e k =
       let same : l.finder ≡ f = finder_of l.finder f k in
-      subst (IsOutsideSlot h a) same (outside_tells l (subst (λ xs. In xs l) (sym e) (inl refl)))
+      subst (IsOutsideSlot h a) same (outside_tells l (subst (λ xs. Contains xs l) (sym e) (zero, omega arith, refl)))
     where
       finder_of : (g f : Finder) → By f ≡ By g → g ≡ f
       finder_of g f e = cc
@@ -120,7 +120,7 @@ module _ (i : Image) (valid : IsValid i.heap) (a : ℕ) (beyond : i.heap.geometr
           let m = filter_member (λ (e : Ref). leads_into h (region_of h a) e && not (is_covered i e)) (refs h) e k in
           let t = and_parts (leads_into h (region_of h a) e) (not (is_covered i e)) m.1 in
           let u = and_parts (eqb (region_of h e.target) (region_of h a)) (not (eqb (region_of h e.slot) (region_of h a))) t.0 in
-          below e.target ((sound h valid).slot_named e (Contains-from_in (refs h) e m.0)) (eqb-true (region_of h e.target) (region_of h a) u.0)));
+          below e.target ((sound h valid).slot_named e m.0) (eqb-true (region_of h e.target) (region_of h a) u.0)));
     },
     (λ plain alone. below a (reached_object h (region_of h a ∷ []) (sound h valid) a alone) refl),
     (λ large. absurd (false≢true (ap is_first (sym free) ∙ large))),

@@ -2,17 +2,17 @@
 use Rattle.std.proofs.Common.{◌≡◌, ◌<◌, ℕ, suc, inl, inr, true, false, List, [], ◌∷◌, Contains, refl, sym, ◌∙◌, ap, subst, Vec, Global}
 use Rattle.std.specs.Prelude.{Option, Some, None, IfSome, IfNone, Result, Ok, Err, IfOk, IfErr}
 use Rattle.std.proofs.lemmas.Bool.{false≢true}
+use Rattle.std.proofs.lemmas.List.Elements.{All-nil}
 use Rattle.g1_words.specs.declared.fault.Fault.{Fault}
 use Rattle.g1_words.specs.declared.fault.Fault.TheVariants.{Memory}
 use Rattle.g1_words.specs.Heap.{Heap, kind, region_of, is_first, object_at, objects}
-use Rattle.g1_words.specs.References.{refs}
 use Rattle.g1_words.specs.Live.{Live}
 use Rattle.g1_words.specs.Survivors.{Survivors}
 use Rattle.g1_words.specs.Valid.{IsValid}
-use Rattle.g1_words.proofs.Members.{In-from_contains, Contains-from_in}
 use Rattle.g1_words.proofs.OneToOne.{reached_object}
 use Rattle.g1_words.proofs.Sound.{sound}
 use Rattle.g1_words.proofs.Lists.{all_from_in}
+use Rattle.g1_words.proofs.Members.{none_contains}
 use Rattle.g1_image.specs.Image.{Image}
 use Rattle.g1_rem.specs.Entries.{uncovered_into, IsEntryFault}
 use Rattle.g1_rem.specs.Starts.{card_count}
@@ -48,15 +48,15 @@ none_of P Q f (Err e) p = tt
 -- what a search finds are objects
 pub found_objects : (h : Heap) (set found : List ℕ) → IsValid h → Survivors h set found → AreObjects h found
 found_objects h set found valid s =
-    all_from_in (λ a. Contains (objects h) (object_at h a)) found (λ a k. reached_object h set (sound h valid) a ((s.reached a).0 (Contains-from_in found a k)))
+    all_from_in (λ a. Contains (objects h) (object_at h a)) found (λ a k. reached_object h set (sound h valid) a ((s.reached a).0 k))
 
 module _ (h : Heap) (valid : IsValid h) (found : List ℕ) (survivors : Survivors h (used h) found) (a : ℕ) where
   -- no card has to be looked at where all regions are searched
   pub live_search : IsSearch h (used h) [] found
   live_search = record {
-    rising = record { rise = Rises-increasing 0 [] tt; below = all_from_in (λ x. x < card_count h) [] (λ x k. absurd k) };
-    outside = λ c k. absurd (In-from_contains [] c k);
-    lead_in = λ e i t f. absurd (false≢true (sym f ∙ slot_used h valid e (In-from_contains (refs h) e i)));
+    rising = record { rise = Rises-increasing 0 [] tt; below = All-nil (λ x. x < card_count h) };
+    outside = λ c k. absurd (none_contains c k);
+    lead_in = λ e i t f. absurd (false≢true (sym f ∙ slot_used h valid e i));
     survivors = survivors;
   }
 

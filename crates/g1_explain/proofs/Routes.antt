@@ -1,10 +1,10 @@
 -- The legs of a route, and the paths that they have.
-use Rattle.std.proofs.Common.{◌≡◌, ℕ, suc, ◌+◌, ◌<◌, inl, inr, false, List, [], ◌∷◌, ◌++◌, length, slice_index, refl, sym, ◌∙◌, ap, subst, arith}
-use Rattle.std.proofs.lemmas.List.{length_push}
+use Rattle.std.proofs.Common.{◌≡◌, ℕ, suc, ◌+◌, ◌<◌, inl, inr, false, List, [], ◌∷◌, ◌++◌, length, slice_index, refl, sym, ◌∙◌, ap, subst, arith, Contains}
+use Rattle.std.proofs.lemmas.List.Elements.{Contains-append_cases, Contains-get_or}
 use Rattle.g1_words.specs.Heap.{Heap, word, card_of, object_at}
 use Rattle.g1_words.specs.References.{Ref, refs}
 use Rattle.g1_words.specs.Survivors.{in_set}
-use Rattle.g1_words.proofs.Members.{In, In-append_cases, filter_member, Contains-from_in}
+use Rattle.g1_words.proofs.Members.{filter_member}
 use Rattle.g1_explain.specs.declared.finder.Finder.{Finder}
 use Rattle.g1_explain.specs.declared.finder.Finder.TheVariants.{Root, Card, Object as Slot}
 use Rattle.g1_explain.specs.declared.paths.Leg.{Leg}
@@ -23,17 +23,17 @@ no_route h found fs n legs e (leg j ls lt within r) = absurd (omega (arith, e))
 -- what leads to the object at a place: a root, a slot outside, or a slot of an object before it
 pub data IsLedTo (h : Heap) (set found : List ℕ) (f : Finder) (a : ℕ) : Type 0 where
   by_root : (k : ℕ) → f ≡ Root k → k < length h.roots → slice_index h.roots k ≡ suc a → IsLedTo h set found f a
-  by_card : (e : Ref) → f ≡ Card (card_of h e.slot) e.slot → In (refs h) e → in_set h set e.slot ≡ false → e.target ≡ a → IsLedTo h set found f a
+  by_card : (e : Ref) → f ≡ Card (card_of h e.slot) e.slot → Contains (refs h) e → in_set h set e.slot ≡ false → e.target ≡ a → IsLedTo h set found f a
   by_slot : (m s : ℕ) → f ≡ Slot m (slice_index found m) s → m < length found → s < (object_at h (slice_index found m)).refs
       → word h (slice_index found m + 1 + s) ≡ suc a → IsLedTo h set found f a
 
 module _ (h : Heap) (set found : List ℕ) (searched : found ≡ targets_of (first_leads (leads h set found))) where
-  pub led_by : (l : Lead) → In (leads h set found) l → IsLedTo h set found l.finder l.target
+  pub led_by : (l : Lead) → Contains (leads h set found) l → IsLedTo h set found l.finder l.target
   led_by l k =
       let t = filter_member (λ (l : Lead). in_set h set l.target) (root_leads h ++ (slot_leads h set ++ found_leads h found (length found))) l k in
-      elim (In-append_cases (root_leads h) (slot_leads h set ++ found_leads h found (length found)) l t.0) [
+      elim (Contains-append_cases (root_leads h) (slot_leads h set ++ found_leads h found (length found)) l t.0) [
         | inl i ↦ let r = root_tells h set l i in by_root r.number r.finder r.below r.reads
-        | inr i ↦ elim (In-append_cases (slot_leads h set) (found_leads h found (length found)) l i) [
+        | inr i ↦ elim (Contains-append_cases (slot_leads h set) (found_leads h found (length found)) l i) [
           | inl j ↦ let r = slot_tells h set l j in by_card r.ref r.finder r.there r.outside (sym r.target)
           | inr j ↦ let r = found_tells h set found (length found) l j in by_slot r.place r.number r.finder r.below r.fits r.reads
         ]
@@ -52,8 +52,8 @@ module _ (h : Heap) (set found : List ℕ) (searched : found ≡ targets_of (fir
   -- what holds of each leg by the one before it holds of all legs of a route
   module _ (P : List Leg → ℕ → Type 0)
       (root : (k a : ℕ) → k < length h.roots → slice_index h.roots k ≡ suc a → P (keeping.leg h (Root k) a ∷ []) a)
-      (card : (e : Ref) → In (refs h) e → in_set h set e.slot ≡ false → P (keeping.leg h (Card (card_of h e.slot) e.slot) e.target ∷ []) e.target)
-      (slot : (legs : List Leg) (m b s a : ℕ) → P legs b → In found b → s < (object_at h b).refs → word h (b + 1 + s) ≡ suc a → P (legs ++ keeping.leg h (Slot m b s) a ∷ []) a) where
+      (card : (e : Ref) → Contains (refs h) e → in_set h set e.slot ≡ false → P (keeping.leg h (Card (card_of h e.slot) e.slot) e.target ∷ []) e.target)
+      (slot : (legs : List Leg) (m b s a : ℕ) → P legs b → Contains found b → s < (object_at h b).refs → word h (b + 1 + s) ≡ suc a → P (legs ++ keeping.leg h (Slot m b s) a ∷ []) a) where
     step : (f : Finder) (a : ℕ) (legs : List Leg) → IsLedTo h set found f a → IsRoute h found (all_finders h set found) (before f) legs
         → ((m : ℕ) → before f ≡ suc m → P legs (slice_index found m)) → P (legs ++ keeping.leg h f a ∷ []) a
     step f a legs (by_root k e lt w) r sub =
@@ -65,7 +65,7 @@ module _ (h : Heap) (set found : List ℕ) (searched : found ≡ targets_of (fir
         (subst (λ g. P (keeping.leg h g a ∷ []) a) (sym is) (subst (λ b. P (keeping.leg h (Card (card_of h e.slot) e.slot) b ∷ []) b) t (card e i out)))
     step f a legs (by_slot m s e lt fit w) r sub =
         subst (λ g. P (legs ++ keeping.leg h g a ∷ []) a) (sym e)
-        (slot legs m (slice_index found m) s a (sub m (ap before e)) (Rattle.g1_words.proofs.Indices.get_or-In found m 0 lt) fit w)
+        (slot legs m (slice_index found m) s a (sub m (ap before e)) (Contains-get_or found m 0 lt) fit w)
 
     by_from : (n : ℕ) (legs : List Leg) → IsRoute h found (all_finders h set found) n legs → (j : ℕ) → n ≡ suc j → P legs (slice_index found j)
     by_from n legs none j e = absurd (omega (arith, e))
@@ -80,7 +80,7 @@ module _ (h : Heap) (set found : List ℕ) (searched : found ≡ targets_of (fir
   -- the legs of a route lead to its object
   pub route_legs : (j : ℕ) (legs : List Leg) → IsRoute h found (all_finders h set found) (suc j) legs → AreLegs h legs (slice_index found j)
   route_legs =
-      all_legs (AreLegs h) (λ k a lt w. keeping.root k a lt w) (λ e i out. keeping.card e.slot e.target (Contains-from_in (refs h) e i))
+      all_legs (AreLegs h) (λ k a lt w. keeping.root k a lt w) (λ e i out. keeping.card e.slot e.target i)
       (λ legs m b s a l i fit w. keeping.slot legs m b s a l fit w)
 
 -- a place has one route

@@ -1,12 +1,12 @@
 -- The cards of a search of one region.
-use Rattle.std.proofs.Common.{◌≡◌, ◌≢◌, ◌<◌, ℕ, inl, inr, ◌*◌, ◌/◌, List, [], ◌∷◌, Contains, sym, ap, subst, ◌∙◌, arith, refl}
+use Rattle.std.proofs.Common.{◌≡◌, ◌≢◌, ◌<◌, ℕ, ◌*◌, ◌/◌, List, [], ◌∷◌, Contains, sym, ap, subst, ◌∙◌, arith, refl}
 use Rattle.std.specs.List.{range_with_len}
 use Rattle.std.proofs.lemmas.Bool.{false≢true, false_from_ne_true}
 use Rattle.g1_words.specs.Heap.{Heap, region_of, card_of}
 use Rattle.g1_words.specs.Lists.{has}
 use Rattle.g1_words.specs.Valid.{IsValid}
 use Rattle.g1_words.proofs.Computed.{range_below}
-use Rattle.g1_words.proofs.Members.{In, In-from_contains, Contains-from_in, filter_member, in_from_has, has_from_in}
+use Rattle.g1_words.proofs.Members.{filter_member}
 use Rattle.g1_words.proofs.Lists.{all_from_in}
 use Rattle.g1_image.specs.Image.{region_of_card}
 use Rattle.g1_image.specs.Cards.{is_exact, exact}
@@ -14,6 +14,7 @@ use Rattle.g1_image.proofs.Covers.{card_region, exact_tells}
 use Rattle.g1_rem.specs.Starts.{card_count}
 use Rattle.g1_rem.proofs.Rising.{Rises-filter, Rises-range, Rises-increasing}
 use Rattle.g1_frontier.specs.Window.{AreCards, AreOutside, LeadIn}
+use Rattle.g1_frontier.proofs.Marks.{has_one, only_one}
 
 module _ (h : Heap) (valid : IsValid h) (r : ℕ) where
   -- no card of the exact set lies in the region
@@ -22,24 +23,20 @@ module _ (h : Heap) (valid : IsValid h) (r : ℕ) where
 
   exact_below : (c : ℕ) → Contains (exact h r) c → c < card_count h
   exact_below c k =
-      let b = range_below 0 (card_count h) c (filter_member (is_exact h r) (range_with_len 0 (card_count h)) c (In-from_contains (exact h r) c k)).0 in
+      let b = range_below 0 (card_count h) c (filter_member (is_exact h r) (range_with_len 0 (card_count h)) c k).0 in
       omega (arith, b)
-
-  single : (q : ℕ) → In (r ∷ []) q → q ≡ r
-  single q (inl e) = sym e
-  single q (inr k) = absurd k
 
   pub exact_leads_in : AreCards h (exact h r) × AreOutside h (r ∷ []) (exact h r) × LeadIn h (r ∷ []) (exact h r)
   exact_leads_in = (
     record {
       rise = Rises-increasing 0 (exact h r) (Rises-filter (is_exact h r) 0 (range_with_len 0 (card_count h)) (Rises-range 0 (card_count h)));
-      below = all_from_in (λ c. c < card_count h) (exact h r) (λ c k. exact_below c (Contains-from_in (exact h r) c k));
+      below = all_from_in (λ c. c < card_count h) (exact h r) exact_below;
     },
     (λ c k. false_from_ne_true (has (r ∷ []) (c * h.geometry.k / h.geometry.w))
-        (λ t. elsewhere c k (single (c * h.geometry.k / h.geometry.w) (in_from_has (r ∷ []) (c * h.geometry.k / h.geometry.w) t)))),
+        (λ t. elsewhere c k (only_one r (c * h.geometry.k / h.geometry.w) t))),
     (λ e c t f.
-        let into : region_of h e.target ≡ r = single (region_of h e.target) (in_from_has (r ∷ []) (region_of h e.target) t) in
-        let out : region_of h e.slot ≢ r = λ z. false≢true (sym f ∙ has_from_in (r ∷ []) (region_of h e.slot) (inl (sym z))) in
+        let into : region_of h e.target ≡ r = only_one r (region_of h e.target) t in
+        let out : region_of h e.slot ≢ r = λ z. false≢true (sym f ∙ has_one r (region_of h e.slot) z) in
         (exact_tells h valid r (card_of h e.slot)).1 (e, c, into, out, refl)),
   )
 

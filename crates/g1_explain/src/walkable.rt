@@ -9,7 +9,7 @@ ghost use Rattle.g1_explain.specs.Keeping.{IsReferring, ReachesHolder};
 use g1_image::Image;
 use g1_pause::Before;
 use g1_rem::{Starts, slots_on};
-use g1_words::{Heap, Object, laws};
+use g1_words::{Heap, Object};
 use smallvec::SmallVec;
 use std::alloc::Global;
 use std::marker::Model;
@@ -83,7 +83,6 @@ fn holder_from(heap: &Heap, first: u64, slot: u64) -> Object
     ensures there { Contains (objects heap.now) result }
     ensures holds { IsSlotOf result slot }
 {
-    laws::valid(heap);
     let words = heap.words();
     let mut object = words.header(first);
     'objects: while object.at + object.size <= slot {

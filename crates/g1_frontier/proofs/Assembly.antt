@@ -1,5 +1,5 @@
 -- A round's offers, whichever worker made them.
-use Rattle.std.proofs.Common.{◌≡◌, ℕ, suc, ◌*◌, ◌<◌, ◌≤◌, inl, inr, Bool, true, false, cond, List, [], ◌∷◌, ◌++◌, map, filter, length, sum_by, sym, refl, ap, ◌∙◌, subst, arith, append_assoc}
+use Rattle.std.proofs.Common.{◌≡◌, ℕ, suc, ◌*◌, ◌<◌, ◌≤◌, Bool, true, false, cond, List, [], ◌∷◌, ◌++◌, map, filter, length, sum_by, sym, refl, ap, ◌∙◌, subst, arith, append_assoc, Contains, zero}
 use Rattle.std.proofs.Common.{append-nil, IsPermutation, All}
 use Rattle.std.specs.List.{flat_map, enumerate_from}
 use Rattle.std.proofs.lemmas.List.{map-append}
@@ -11,7 +11,6 @@ use Rattle.std.proofs.lemmas.List.Folds.{flat_map-map}
 use Rattle.itertools.proofs.KMergeLemmas.{flat-permutation}
 use Rattle.g1_work.specs.Each.{Ran, EachRan, IsEachRun, joined, RisesBelow, chunks_of}
 use Rattle.g1_claim.specs.Claims.{TableView, SeatView, IsSeatOf}
-use Rattle.g1_words.proofs.Members.{In}
 use Rattle.g1_words.proofs.Ordered.{Ordered, pairs_from_ordered}
 use Rattle.g1_words.proofs.Lists.{all_in}
 use Rattle.g1_frontier.specs.declared.offering.Holder.{Holder}
@@ -25,12 +24,13 @@ use Rattle.g1_frontier.proofs.Scopes.{all_map}
 abbrev pub RankLess : ℕ × ℕ → ℕ × ℕ → Type 0
 RankLess q r = q.0 < r.0
 
-in_kept_at : (m : Try) (ms ks : List Try) (q : ℕ × ℕ) → (In (map pair_of ks) q → In (map pair_of ms) q) → (b : Bool) → In (map pair_of (cond b (m ∷ ks) ks)) q → In (map pair_of (m ∷ ms)) q
-in_kept_at m ms ks q f true (inl e) = inl e
-in_kept_at m ms ks q f true (inr k) = inr (f k)
-in_kept_at m ms ks q f false k = inr (f k)
+in_kept_at : (m : Try) (ms ks : List Try) (q : ℕ × ℕ) → (Contains (map pair_of ks) q → Contains (map pair_of ms) q)
+    → (b : Bool) → Contains (map pair_of (cond b (m ∷ ks) ks)) q → Contains (map pair_of (m ∷ ms)) q
+in_kept_at m ms ks q f true (zero, b, e) = (zero, omega arith, e)
+in_kept_at m ms ks q f true (suc j, b, e) = let c = f (j, omega (arith, b), e) in (suc c.0, omega (arith, c.1), c.2)
+in_kept_at m ms ks q f false k = let c = f k in (suc c.0, omega (arith, c.1), c.2)
 
-pub in_kept : (ms : List Try) (q : ℕ × ℕ) → In (map pair_of (filter answered_true ms)) q → In (map pair_of ms) q
+pub in_kept : (ms : List Try) (q : ℕ × ℕ) → Contains (map pair_of (filter answered_true ms)) q → Contains (map pair_of ms) q
 in_kept [] q i = i
 in_kept (m ∷ ms) q i = in_kept_at m ms (filter answered_true ms) q (in_kept ms q) m.1 i
 

@@ -1,5 +1,5 @@
 -- Where the objects of a window begin among its words, and the marks of these words.
-use Rattle.std.proofs.Common.{◌≡◌, ◌<◌, ◌≤◌, ℕ, zero, suc, ◌+◌, ◌-◌, ◌*◌, ◌/◌, inl, inr, ◌⊎◌, Bool, true, false, List, [], ◌∷◌, ◌++◌, map, take, drop, length, get_or, set}
+use Rattle.std.proofs.Common.{◌≡◌, ◌<◌, ◌≤◌, ℕ, zero, suc, ◌+◌, ◌-◌, ◌*◌, ◌/◌, inl, inr, ◌⊎◌, Bool, true, false, List, [], ◌∷◌, ◌++◌, map, take, drop, length, get_or, set, Contains}
 use Rattle.std.proofs.Common.{refl, sym, ap, ◌∙◌, subst, arith, div-add-mod', get_or-set_same, get_or-set_other, length-set}
 use Rattle.std.proofs.Math.Nat.{mod-lt}
 use Rattle.std.proofs.lemmas.Bool.{cases_eq}
@@ -7,11 +7,12 @@ use Rattle.std.proofs.lemmas.List.{map-append}
 use Rattle.g1_words.specs.declared.object.Object.{Object}
 use Rattle.g1_words.specs.Heap.{Heap, objects_in, object_at, start, region_of}
 use Rattle.g1_words.specs.Valid.{Tiles, IsValid}
-use Rattle.g1_words.proofs.Members.{In, Contains-from_in}
 use Rattle.g1_words.proofs.Sound.{sound}
+use Rattle.g1_words.proofs.Members.{Contains-later}
 use Rattle.g1_rem.proofs.Next.{NextOf}
 use Rattle.g1_rem.proofs.Filled.{Tiles-none, row_front, row_rest, row_step}
 use Rattle.g1_frontier.specs.Numbers.{and_marked, places_from}
+use Rattle.g1_frontier.proofs.Scopes.{Contains-drop}
 
 -- ---- marks
 
@@ -38,24 +39,24 @@ kept_mark xs (p ∷ ps) q lt e =
     ])
 
 -- what is in the list is marked
-pub listed_mark : (xs : List Bool) (ps : List ℕ) (q : ℕ) → q < length xs → In ps q → get_or (and_marked xs ps) q false ≡ true
-listed_mark xs [] q lt i = absurd i
-listed_mark xs (p ∷ ps) q lt (inl e) =
+pub listed_mark : (xs : List Bool) (ps : List ℕ) (q : ℕ) → q < length xs → Contains ps q → get_or (and_marked xs ps) q false ≡ true
+listed_mark xs [] q lt i = absurd (omega (arith, i.1))
+listed_mark xs (p ∷ ps) q lt (zero, b, e) =
     let same : length (set xs p true) ≡ length xs = simp length-set in
     subst (λ j. get_or (and_marked (set xs p true) ps) j false ≡ true) e
     (kept_mark (set xs p true) ps p (omega (arith, lt, e, same)) (get_or-set_same xs p true false (omega (arith, lt, e))))
-listed_mark xs (p ∷ ps) q lt (inr i) =
-    let same : length (set xs p true) ≡ length xs = simp length-set in listed_mark (set xs p true) ps q (omega (arith, lt, same)) i
+listed_mark xs (p ∷ ps) q lt (suc k, b, e) =
+    let same : length (set xs p true) ≡ length xs = simp length-set in listed_mark (set xs p true) ps q (omega (arith, lt, same)) (k, omega (arith, b), e)
 
 -- what is marked was so or is in the list
-pub mark_listed : (xs : List Bool) (ps : List ℕ) (q : ℕ) → get_or (and_marked xs ps) q false ≡ true → (get_or xs q false ≡ true) ⊎ In ps q
+pub mark_listed : (xs : List Bool) (ps : List ℕ) (q : ℕ) → get_or (and_marked xs ps) q false ≡ true → (get_or xs q false ≡ true) ⊎ Contains ps q
 mark_listed xs [] q e = inl e
 mark_listed xs (p ∷ ps) q e = elim (mark_listed (set xs p true) ps q e) [
   | inl there ↦ elim (cases_eq q p) [
-    | inl is ↦ inr (inl (sym is))
+    | inl is ↦ inr (zero, omega arith, sym is)
     | inr other ↦ inl (sym (get_or-set_other xs p q true false other) ∙ there)
   ]
-  | inr i ↦ inr (inr i)
+  | inr i ↦ inr (Contains-later p ps q i)
 ]
 
 -- ---- the walk over a region's objects
@@ -95,18 +96,13 @@ module _ (h : Heap) (r first at to : ℕ) (old new : List Bool) (valid : IsValid
   pub marking_within : (start h r ≤ at) × (at < start h r + h.geometry.w)
   marking_within =
       let n = front in
-      let there : In (drop m.place (objects_in h r)) n.object = subst (λ l. In l n.object) (sym n.splits) (inl refl) in
-      let home : region_of h n.object.at ≡ r = (sound h valid).in_region r n.object (Contains-from_in (objects_in h r) n.object (in_rest m.place (objects_in h r) n.object there)) in
+      let there : Contains (drop m.place (objects_in h r)) n.object = subst (λ l. Contains l n.object) (sym n.splits) (zero, omega arith, refl) in
+      let home : region_of h n.object.at ≡ r = (sound h valid).in_region r n.object (Contains-drop m.place (objects_in h r) n.object there) in
       let some : 0 < h.geometry.w = omega (arith, valid.limits.w_least) in
       let e = div-add-mod' n.object.at h.geometry.w in
       let rows : n.object.at / h.geometry.w * h.geometry.w ≡ r * h.geometry.w = ap (λ x. x * h.geometry.w) home in
       let l = mod-lt n.object.at some in
       (omega (arith, e, rows, n.at_is), omega (arith, e, rows, l, n.at_is))
-    where
-      in_rest : (j : ℕ) (xs : List Object) (x : Object) → In (drop j xs) x → In xs x
-      in_rest zero xs x i = i
-      in_rest (suc j) [] x i = i
-      in_rest (suc j) (y ∷ ys) x i = inr (in_rest j ys x i)
 
   -- it has a word at least
   pub marking_some : (size : ℕ) → size ≡ (object_at h at).size → (0 < size) × (at + size ≤ to)

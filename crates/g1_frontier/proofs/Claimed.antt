@@ -1,8 +1,8 @@
 -- What one round of claims gives.
-use Rattle.std.proofs.Common.{◌≡◌, ◌≢◌, ℕ, ◌+◌, ◌-◌, ◌<◌, ◌≤◌, ◌^◌, length, true, false, cond, eqb, List, [], ◌∷◌, map, filter, sym, refl, ap, ◌∙◌, subst, inl, inr, arith}
+use Rattle.std.proofs.Common.{◌≡◌, ◌≢◌, ℕ, ◌+◌, ◌-◌, ◌<◌, ◌≤◌, ◌^◌, length, true, false, cond, eqb, List, [], ◌∷◌, map, filter, sym, refl, ap, ◌∙◌, subst, arith, zero, suc}
 use Rattle.std.proofs.Common.{Contains, IsPermutation, All, AllPairs, Vec, Global}
 use Rattle.std.specs.List.{flat_map}
-use Rattle.std.proofs.lemmas.List.Sorted.{IsPermutation-sym, IsPermutation-map}
+use Rattle.std.proofs.lemmas.List.Sorted.{IsPermutation-sym, IsPermutation-map, Contains-permutation}
 use Rattle.std.proofs.lemmas.Map.Keys.{IsDistinct-IsPermutation}
 use Rattle.std.proofs.lemmas.Map.Made.{AllPairs-from_IsDistinct, IsDistinct-from_AllPairs}
 use Rattle.std.proofs.lemmas.Bool.Decides.{Decides-eqb}
@@ -13,7 +13,7 @@ use Rattle.g1_words.specs.Valid.{IsValid, IsReference}
 use Rattle.g1_words.proofs.Sound.{reference_named}
 use Rattle.g1_words.specs.References.{named}
 use Rattle.g1_words.specs.Survivors.{in_set}
-use Rattle.g1_words.proofs.Members.{In, In-map, map_cases, flat_map_cases, filter_member}
+use Rattle.g1_words.proofs.Members.{Contains-map, map_cases, flat_map_cases, filter_member}
 use Rattle.g1_words.proofs.Ordered.{Ordered, Ordered-from_pairs, pairs_from_ordered}
 use Rattle.g1_words.proofs.Rising.{Ordered-map}
 use Rattle.g1_words.proofs.Logic.{eqb_sym}
@@ -23,51 +23,51 @@ use Rattle.g1_frontier.specs.declared.item.Item.{Item}
 use Rattle.g1_frontier.specs.declared.item.Item.TheVariants.{Root, Card, Object}
 use Rattle.g1_frontier.specs.Items.{IsItem, AreRanks, aims, pairs, all_pairs}
 use Rattle.g1_frontier.specs.Numbers.{BeginsIn}
-use Rattle.g1_frontier.proofs.Names.{root_reference, card_reference, object_reference}
+use Rattle.g1_frontier.proofs.Names.{root_reference, card_reference, slot_reference}
 use Rattle.g1_frontier.specs.Offering.{Try, pair_of, answered_true, offer_of}
 use Rattle.g1_frontier.specs.Round.{Rises, AreAbove, bid_of, bid, AddsOffers, winners, HasOffered, IsByRank}
 use Rattle.g1_frontier.proofs.Assembly.{RankLess, in_kept}
-use Rattle.g1_frontier.proofs.Winning.{RanksDiffer, in_permuted, merged_won}
+use Rattle.g1_frontier.proofs.Winning.{RanksDiffer, merged_won}
 use Rattle.g1_frontier.proofs.Merges.{rises_strictly}
 
 pub lists_rise : (vs : List (Vec (ℕ × ℕ) Global)) → All Rises (map (λ v. v.items) vs) → All (λ v. Rises v.items) vs
-lists_rise vs h = all_from_in (λ v. Rises v.items) vs (λ v i. all_in Rises (map (λ v. v.items) vs) v.items h (In-map (λ v. v.items) vs v i))
+lists_rise vs h = all_from_in (λ v. Rises v.items) vs (λ v i. all_in Rises (map (λ v. v.items) vs) v.items h (Contains-map (λ v. v.items) vs v i))
 
 -- ---- what is offered lies in the window
 
-aims_in_window : (h : Heap) (window : List ℕ) (rank x : ℕ) (q : ℕ × ℕ) → In (aims h window rank x) q → in_set h window q.1 ≡ true
+aims_in_window : (h : Heap) (window : List ℕ) (rank x : ℕ) (q : ℕ × ℕ) → Contains (aims h window rank x) q → in_set h window q.1 ≡ true
 aims_in_window h window rank x q i =
     let m = map_cases (λ a. (rank, a)) (filter (in_set h window) (named x)) q i in
     subst (λ (r : ℕ × ℕ). in_set h window r.1 ≡ true) m.2 (filter_member (in_set h window) (named x) m.0 m.1).1
 
-pairs_in_window : (h : Heap) (window : List ℕ) (i : Item) (q : ℕ × ℕ) → In (pairs h window i) q → in_set h window q.1 ≡ true
+pairs_in_window : (h : Heap) (window : List ℕ) (i : Item) (q : ℕ × ℕ) → Contains (pairs h window i) q → in_set h window q.1 ≡ true
 pairs_in_window h window (Root n) q i = aims_in_window h window n _ q i
 pairs_in_window h window (Card c b) q i = let m = flat_map_cases (λ p. aims h window (b + p) (word h p)) (slots_on h c) q i in aims_in_window h window (b + m.0) (word h m.0) q m.2
 pairs_in_window h window (Object a b) q i =
     let m = flat_map_cases (λ p. aims h window (b + (p - (a + 1))) (word h p)) (slots (object_at h a)) q i in
     aims_in_window h window (b + (m.0 - (a + 1))) (word h m.0) q m.2
 
-pub all_in_window : (h : Heap) (window : List ℕ) (items : List Item) (q : ℕ × ℕ) → In (all_pairs h window items) q → in_set h window q.1 ≡ true
+pub all_in_window : (h : Heap) (window : List ℕ) (items : List Item) (q : ℕ × ℕ) → Contains (all_pairs h window items) q → in_set h window q.1 ≡ true
 all_in_window h window items q i = let m = flat_map_cases (pairs h window) items q i in pairs_in_window h window m.0 q m.2
 
 -- ---- and names objects
 
-aims_object : (h : Heap) (window : List ℕ) (rank x : ℕ) (q : ℕ × ℕ) → IsValid h → IsReference h x → In (aims h window rank x) q → Contains (objects h) (object_at h q.1)
+aims_object : (h : Heap) (window : List ℕ) (rank x : ℕ) (q : ℕ × ℕ) → IsValid h → IsReference h x → Contains (aims h window rank x) q → Contains (objects h) (object_at h q.1)
 aims_object h window rank x q valid r i =
     let m = map_cases (λ a. (rank, a)) (filter (in_set h window) (named x)) q i in
     subst (λ (r : ℕ × ℕ). Contains (objects h) (object_at h r.1)) m.2 (reference_named h x m.0 valid r (filter_member (in_set h window) (named x) m.0 m.1).0)
 
-pairs_object : (h : Heap) (window : List ℕ) (i : Item) (q : ℕ × ℕ) → IsValid h → IsItem h i → In (pairs h window i) q → Contains (objects h) (object_at h q.1)
+pairs_object : (h : Heap) (window : List ℕ) (i : Item) (q : ℕ × ℕ) → IsValid h → IsItem h i → Contains (pairs h window i) q → Contains (objects h) (object_at h q.1)
 pairs_object h window (Root n) q valid ok i = aims_object h window n _ q valid (root_reference h valid n ok) i
 pairs_object h window (Card c b) q valid ok i =
     let m = flat_map_cases (λ p. aims h window (b + p) (word h p)) (slots_on h c) q i in
     aims_object h window (b + m.0) (word h m.0) q valid (card_reference h valid c m.0 m.1) m.2
 pairs_object h window (Object a b) q valid ok i =
     let m = flat_map_cases (λ p. aims h window (b + (p - (a + 1))) (word h p)) (slots (object_at h a)) q i in
-    aims_object h window (b + (m.0 - (a + 1))) (word h m.0) q valid (object_reference h valid a m.0 ok m.1) m.2
+    aims_object h window (b + (m.0 - (a + 1))) (word h m.0) q valid (slot_reference h valid (object_at h a) m.0 ok m.1) m.2
 
 -- what is offered are objects of the window
-pub all_begin : (h : Heap) (window : List ℕ) (items : List Item) (q : ℕ × ℕ) → IsValid h → All (IsItem h) items → In (all_pairs h window items) q → BeginsIn h window q.1
+pub all_begin : (h : Heap) (window : List ℕ) (items : List Item) (q : ℕ × ℕ) → IsValid h → All (IsItem h) items → Contains (all_pairs h window items) q → BeginsIn h window q.1
 all_begin h window items q valid ok i =
     let m = flat_map_cases (pairs h window) items q i in
     (all_in_window h window items q i, pairs_object h window m.0 q valid (all_in (IsItem h) items m.0 ok m.1) m.2)
@@ -104,12 +104,12 @@ some_differ (m ∷ ms) o =
     ]
 
 -- rising ranks between two bounds
-rises_few : (qs : List (ℕ × ℕ)) (low n : ℕ) → low ≤ n → Ordered RankLess qs → ((q : ℕ × ℕ) → In qs q → low ≤ q.0) → ((q : ℕ × ℕ) → In qs q → q.0 < n) → low + length qs ≤ n
+rises_few : (qs : List (ℕ × ℕ)) (low n : ℕ) → low ≤ n → Ordered RankLess qs → ((q : ℕ × ℕ) → Contains qs q → low ≤ q.0) → ((q : ℕ × ℕ) → Contains qs q → q.0 < n) → low + length qs ≤ n
 rises_few [] low n le o above below = omega (arith, le)
 rises_few (q ∷ qs) low n le o above below =
-    let lt = below q (inl refl) in
-    let more = rises_few qs (q.0 + 1) n (omega (arith, lt)) o.1 (λ x i. let k = o.0 x i in omega (arith, k)) (λ x i. below x (inr i)) in
-    let here = above q (inl refl) in omega (arith, more, here)
+    let lt = below q (zero, omega arith, refl) in
+    let more = rises_few qs (q.0 + 1) n (omega (arith, lt)) o.1 (λ x i. let k = o.0 x i in omega (arith, k)) (λ x i. below x (suc i.0, omega (arith, i.1), i.2)) in
+    let here = above q (zero, omega arith, refl) in omega (arith, more, here)
 
 -- ---- the round
 
@@ -129,9 +129,9 @@ module _ (t : TableView) (place : ℕ → ℕ) (ps : List (ℕ × ℕ)) (before 
     kept_all : IsPermutation (map pair_of (filter answered_true o.made)) merged
     kept_all = subst (λ l. IsPermutation l merged) o.kept perm
 
-    pub merged_from : (q : ℕ × ℕ) → In merged q → In ps q
-    merged_from q i = in_permuted (map pair_of o.made) ps q o.each (in_kept o.made q
-        (in_permuted merged (map pair_of (filter answered_true o.made)) q (IsPermutation-sym (map pair_of (filter answered_true o.made)) merged kept_all) i))
+    pub merged_from : (q : ℕ × ℕ) → Contains merged q → Contains ps q
+    merged_from q i = Contains-permutation (map pair_of o.made) ps q o.each (in_kept o.made q
+        (Contains-permutation merged (map pair_of (filter answered_true o.made)) q (IsPermutation-sym (map pair_of (filter answered_true o.made)) merged kept_all) i))
 
     made_differ : Ordered RankLess ps → Ordered RanksDiffer (map pair_of o.made)
     made_differ risen = differ_permuted ps (map pair_of o.made) (IsPermutation-sym (map pair_of o.made) ps o.each) (rises_differ ps risen)

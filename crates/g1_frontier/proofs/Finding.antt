@@ -1,34 +1,27 @@
 -- What a round finds.
-use Rattle.std.proofs.Common.{◌≡◌, ℕ, suc, ◌<◌, ◌≤◌, inl, inr, Bool, true, false, not, cond, eqb, eqb-true, eq-eqb, List, [], ◌∷◌, ◌++◌, map, filter, length, refl, sym, ap, subst, ◌∙◌}
+use Rattle.std.proofs.Common.{◌≡◌, ℕ, suc, ◌<◌, ◌≤◌, inl, inr, Bool, true, false, not, eqb, eqb-true, eq-eqb, List, [], ◌∷◌, ◌++◌, map, filter, length, refl, sym, ap, subst, ◌∙◌, Contains, zero}
 use Rattle.std.proofs.Common.{arith, All, true≢false}
 use Rattle.std.proofs.lemmas.List.{map-append}
-use Rattle.std.proofs.lemmas.List.Sorted.{IsPermutation-sym}
-use Rattle.std.proofs.lemmas.List.Elements.{All-append}
+use Rattle.std.proofs.lemmas.List.Sorted.{IsPermutation-sym, Contains-permutation}
+use Rattle.std.proofs.lemmas.List.Elements.{All-append, Contains-append_cases, Contains-append_left, Contains-append_right}
 use Rattle.std.proofs.lemmas.Bool.{false_from_ne_true}
 use Rattle.g1_claim.specs.declared.rule.Offer.{Offer}
 use Rattle.g1_claim.specs.Claims.{least_rank, empty}
 use Rattle.g1_words.specs.Lists.{has}
 use Rattle.g1_words.specs.Survivors.{firsts}
-use Rattle.g1_words.proofs.Members.{In, In-map, map_cases, In-append_left, In-append_right, In-append_cases, has_from_in, in_from_has, filter_member}
-use Rattle.g1_words.proofs.Firsts.{In-firsts, firsts_member, firsts-append}
+use Rattle.g1_words.proofs.Members.{Contains-map, map_cases, has_from_contains, Contains-from_has, filter_member, Contains-later}
+use Rattle.g1_words.proofs.Firsts.{Contains-firsts, firsts_member, firsts-append}
+use Rattle.g1_words.proofs.Logic.{same_test as one_test}
 use Rattle.g1_words.proofs.Ordered.{Ordered}
 use Rattle.g1_words.proofs.Lists.{filter_same_in, all_in, all_from_in}
 use Rattle.g1_frontier.specs.Round.{bid_of, bid, AddsOffers, is_least, winners}
 use Rattle.g1_frontier.specs.Search.{places_of}
 use Rattle.g1_frontier.proofs.Assembly.{RankLess}
 use Rattle.g1_frontier.proofs.Links.{place_of, Each, Climbs, won_are_firsts}
-use Rattle.g1_frontier.proofs.Winning.{in_permuted}
+use Rattle.g1_frontier.proofs.Seeds.{filter_map}
 use mathlib.Core.List.{map-map}
 
 -- ---- maps and tests
-
-filter_map : {A B : Type 0} (p : B → Bool) (f : A → B) (xs : List A) → filter p (map f xs) ≡ map f (filter (λ x. p (f x)) xs)
-filter_map p f [] = refl
-filter_map {A} {B} p f (x ∷ xs) = at (p (f x)) (filter p (map f xs)) (filter (λ x. p (f x)) xs) (filter_map p f xs)
-  where
-    at : (b : Bool) (ys : List B) (zs : List A) → ys ≡ map f zs → cond b (f x ∷ ys) ys ≡ map f (cond b (x ∷ zs) zs)
-    at true ys zs e = ap (λ l. f x ∷ l) e
-    at false ys zs e = e
 
 module _ (place : ℕ → ℕ) (Inside : ℕ → Type 0) (apart : (a b : ℕ) → Inside a → Inside b → place b ≡ place a → b ≡ a) where
   pub same_test : (a b : ℕ) → Inside a → Inside b → eqb (place a) (place b) ≡ eqb a b
@@ -39,21 +32,22 @@ module _ (place : ℕ → ℕ) (Inside : ℕ → Type 0) (apart : (a b : ℕ) �
       at false e = false_from_ne_true (eqb (place a) (place b)) (λ u. true≢false (sym (eq-eqb a b (sym (apart a b s t (sym (eqb-true (place a) (place b) u))))) ∙ e))
 
   -- first occurrences of places are those of addresses
-  firsts_places : (xs : List ℕ) → ((a : ℕ) → In xs a → Inside a) → firsts (map place xs) ≡ map place (firsts xs)
+  firsts_places : (xs : List ℕ) → ((a : ℕ) → Contains xs a → Inside a) → firsts (map place xs) ≡ map place (firsts xs)
   firsts_places [] h = refl
   firsts_places (x ∷ xs) h =
       ap (λ l. place x ∷ l)
-      (ap (filter (λ y. not (eqb (place x) y))) (firsts_places xs (λ a i. h a (inr i)))
+      (ap (filter (λ y. not (eqb (place x) y))) (firsts_places xs (λ a i. h a (suc i.0, omega (arith, i.1), i.2)))
       ∙ filter_map (λ y. not (eqb (place x) y)) place (firsts xs)
-      ∙ ap (map place) (filter_same_in (λ y. not (eqb (place x) (place y))) (λ y. not (eqb x y)) (firsts xs) (λ y i. ap not (same_test x y (h x (inl refl)) (h y (inr (firsts_member xs y i)))))))
+      ∙ ap (map place) (filter_same_in (λ y. not (eqb (place x) (place y))) (λ y. not (eqb x y)) (firsts xs)
+      (λ y i. ap not (same_test x y (h x (zero, omega arith, refl)) (h y (Contains-later x xs y (firsts_member xs y i)))))))
 
-  map_apart : (xs ys : List ℕ) → ((a : ℕ) → In xs a → Inside a) → ((a : ℕ) → In ys a → Inside a) → map place xs ≡ map place ys → xs ≡ ys
+  map_apart : (xs ys : List ℕ) → ((a : ℕ) → Contains xs a → Inside a) → ((a : ℕ) → Contains ys a → Inside a) → map place xs ≡ map place ys → xs ≡ ys
   map_apart [] [] h k e = refl
   map_apart [] (y ∷ ys) h k e = let n : ◌≡◌ {A = ℕ} 0 (suc (length (map place ys))) = ap length e in absurd (omega (arith, n))
   map_apart (x ∷ xs) [] h k e = let n : ◌≡◌ {A = ℕ} (suc (length (map place xs))) 0 = ap length e in absurd (omega (arith, n))
   map_apart (x ∷ xs) (y ∷ ys) h k e =
-      let heads : x ≡ y = apart y x (k y (inl refl)) (h x (inl refl)) (ap head e) in
-      let tails = map_apart xs ys (λ a i. h a (inr i)) (λ a i. k a (inr i)) (ap tail e) in λ i. heads i ∷ tails i
+      let heads : x ≡ y = apart y x (k y (zero, omega arith, refl)) (h x (zero, omega arith, refl)) (ap head e) in
+      let tails = map_apart xs ys (λ a i. h a (suc i.0, omega (arith, i.1), i.2)) (λ a i. k a (suc i.0, omega (arith, i.1), i.2)) (ap tail e) in λ i. heads i ∷ tails i
     where
       head : List ℕ → ℕ
       head [] = 0
@@ -64,14 +58,14 @@ module _ (place : ℕ → ℕ) (Inside : ℕ → Type 0) (apart : (a b : ℕ) �
       tail (z ∷ zs) = zs
 
   module _ (ps : List (ℕ × ℕ)) (found : List ℕ) (before after : List Offer) (next : ℕ) (adds : AddsOffers place ps before after)
-      (rise : Ordered RankLess ps) (low : (q : ℕ × ℕ) → In ps q → q.0 < empty) (within : (q : ℕ × ℕ) → In ps q → Inside q.1)
-      (below : All (λ o. o.rank < next) before) (above : (q : ℕ × ℕ) → In ps q → next ≤ q.0) (claimed : (a : ℕ) → Inside a → has (places_of before) (place a) ≡ has found a) where
+      (rise : Ordered RankLess ps) (low : (q : ℕ × ℕ) → Contains ps q → q.0 < empty) (within : (q : ℕ × ℕ) → Contains ps q → Inside q.1)
+      (below : All (λ o. o.rank < next) before) (above : (q : ℕ × ℕ) → Contains ps q → next ≤ q.0) (claimed : (a : ℕ) → Inside a → has (places_of before) (place a) ≡ has found a) where
     abbrev bids : List (ℕ × ℕ)
     bids = map (bid place) ps
 
-    each_all : {X : Type 0} (P : X → Type 0) (xs : List X) → ((x : X) → In xs x → P x) → Each P xs
+    each_all : {X : Type 0} (P : X → Type 0) (xs : List X) → ((x : X) → Contains xs x → P x) → Each P xs
     each_all P [] h = tt
-    each_all P (x ∷ xs) h = (h x (inl refl), each_all P xs (λ y i. h y (inr i)))
+    each_all P (x ∷ xs) h = (h x (zero, omega arith, refl), each_all P xs (λ y i. h y (suc i.0, omega (arith, i.1), i.2)))
 
     climbs : (qs : List (ℕ × ℕ)) → Ordered RankLess qs → Climbs (map (bid place) qs)
     climbs [] o = tt
@@ -80,7 +74,7 @@ module _ (place : ℕ → ℕ) (Inside : ℕ → Type 0) (apart : (a b : ℕ) �
     places_bids : (os : List Offer) → map place_of (map bid_of os) ≡ places_of os
     places_bids os = map-map place_of bid_of os
 
-    in_addresses : (a : ℕ) → In (map (λ (q : ℕ × ℕ). q.1) ps) a → Inside a
+    in_addresses : (a : ℕ) → Contains (map (λ (q : ℕ × ℕ). q.1) ps) a → Inside a
     in_addresses a i = let m = map_cases (λ (q : ℕ × ℕ). q.1) ps a i in subst Inside m.2 (within m.0 m.1)
 
     -- what won are the first occurrences of what was not found before
@@ -124,41 +118,37 @@ module _ (place : ℕ → ℕ) (Inside : ℕ → Type 0) (apart : (a b : ℕ) �
         let all : places_of after ≡ places_of before ++ places_of made = ap places_of adds.2 ∙ map-append (λ (o : Offer). o.place) before made in
         ap (λ l. has l (place a)) all
         ∙ has_from (places_of before ++ places_of made) (place a) (firsts (found ++ xs)) a
-        (λ i. elim (In-append_cases (places_of before) (places_of made) (place a) i) [
-          | inl k ↦ In-firsts (found ++ xs) a (In-append_left found xs a (in_from_has found a (sym (claimed a t) ∙ has_from_in (places_of before) (place a) k)))
+        (λ i. elim (Contains-append_cases (places_of before) (places_of made) (place a) i) [
+          | inl k ↦ Contains-firsts (found ++ xs) a (Contains-append_left found xs a (Contains-from_has found a (sym (claimed a t) ∙ has_from_contains (places_of before) (place a) k)))
           | inr k ↦
               let m = map_cases (λ (o : Offer). o.place) made (place a) k in
-              let b = in_permuted (map bid_of made) (map (bid place) ps) (bid_of m.0) adds.1 (In-map bid_of made m.0 m.1) in
+              let b = Contains-permutation (map bid_of made) (map (bid place) ps) (bid_of m.0) adds.1 (Contains-map bid_of made m.0 m.1) in
               let q = map_cases (bid place) ps (bid_of m.0) b in
               let at : place q.0.1 ≡ place a = ap (λ (x : ℕ × ℕ). x.0) q.2 ∙ m.2 in
-              In-firsts (found ++ xs) a (In-append_right found xs a (subst (In xs) (apart a q.0.1 t (within q.0 q.1) at) (In-map (λ (q : ℕ × ℕ). q.1) ps q.0 q.1)))
+              Contains-firsts (found ++ xs) a (Contains-append_right found xs a (subst (Contains xs) (apart a q.0.1 t (within q.0 q.1) at) (Contains-map (λ (q : ℕ × ℕ). q.1) ps q.0 q.1)))
         ])
-        (λ i. elim (In-append_cases found xs a (firsts_member (found ++ xs) a i)) [
-          | inl k ↦ In-append_left (places_of before) (places_of made) (place a) (in_from_has (places_of before) (place a) (claimed a t ∙ has_from_in found a k))
+        (λ i. elim (Contains-append_cases found xs a (firsts_member (found ++ xs) a i)) [
+          | inl k ↦ Contains-append_left (places_of before) (places_of made) (place a) (Contains-from_has (places_of before) (place a) (claimed a t ∙ has_from_contains found a k))
           | inr k ↦
               let q = map_cases (λ (q : ℕ × ℕ). q.1) ps a k in
-              let b = in_permuted (map (bid place) ps) (map bid_of made) (bid place q.0) (IsPermutation-sym (map bid_of made) (map (bid place) ps) adds.1) (In-map (bid place) ps q.0 q.1) in
+              let b = Contains-permutation (map (bid place) ps) (map bid_of made) (bid place q.0)
+              (IsPermutation-sym (map bid_of made) (map (bid place) ps) adds.1) (Contains-map (bid place) ps q.0 q.1) in
               let o = map_cases bid_of made (bid place q.0) b in
-              In-append_right (places_of before) (places_of made) (place a) (subst (In (places_of made)) (ap (λ (x : ℕ × ℕ). x.0) o.2 ∙ ap place q.2) (In-map (λ (o : Offer). o.place) made o.0 o.1))
+              Contains-append_right (places_of before) (places_of made) (place a)
+              (subst (Contains (places_of made)) (ap (λ (x : ℕ × ℕ). x.0) o.2 ∙ ap place q.2) (Contains-map (λ (o : Offer). o.place) made o.0 o.1))
         ])
         ∙ ap (λ l. has l a) (sym e)
       where
-        both_ways : (b c : Bool) → (b ≡ true → c ≡ true) → (c ≡ true → b ≡ true) → b ≡ c
-        both_ways true true f g = refl
-        both_ways false false f g = refl
-        both_ways true false f g = sym (f refl)
-        both_ways false true f g = g refl
-
-        has_from : (us : List ℕ) (u : ℕ) (vs : List ℕ) (v : ℕ) → (In us u → In vs v) → (In vs v → In us u) → has us u ≡ has vs v
-        has_from us u vs v f g = both_ways (has us u) (has vs v) (λ x. has_from_in vs v (f (in_from_has us u x))) (λ x. has_from_in us u (g (in_from_has vs v x)))
+        has_from : (us : List ℕ) (u : ℕ) (vs : List ℕ) (v : ℕ) → (Contains us u → Contains vs v) → (Contains vs v → Contains us u) → has us u ≡ has vs v
+        has_from us u vs v f g = one_test (has us u) (has vs v) (λ x. has_from_contains vs v (f (Contains-from_has us u x))) (λ x. has_from_contains us u (g (Contains-from_has vs v x)))
 
     -- the ranks offered are below those of the next round
-    pub ranks_on : (end : ℕ) → next ≤ end → ((q : ℕ × ℕ) → In ps q → q.0 < end) → All (λ o. o.rank < end) after
+    pub ranks_on : (end : ℕ) → next ≤ end → ((q : ℕ × ℕ) → Contains ps q → q.0 < end) → All (λ o. o.rank < end) after
     ranks_on end le high =
         subst (All (λ o. o.rank < end)) (sym adds.2)
         (All-append (λ (o : Offer). o.rank < end) before adds.0 (λ k d lt. let b = below k d lt in omega (arith, b, le))
         (all_from_in (λ o. o.rank < end) adds.0 (λ o i.
-        let b = in_permuted (map bid_of adds.0) (map (bid place) ps) (bid_of o) adds.1 (In-map bid_of adds.0 o i) in
+        let b = Contains-permutation (map bid_of adds.0) (map (bid place) ps) (bid_of o) adds.1 (Contains-map bid_of adds.0 o i) in
         let q = map_cases (bid place) ps (bid_of o) b in
         let e : q.0.0 ≡ o.rank = ap (λ (x : ℕ × ℕ). x.1) q.2 in
         let lt = high q.0 q.1 in omega (arith, e, lt))))

@@ -9,7 +9,7 @@ use Rattle.g1_words.specs.References.{Ref, refs}
 use Rattle.g1_words.specs.Survivors.{in_set}
 use Rattle.g1_words.proofs.Bounds.{cards_in_region, card_in_region}
 use Rattle.g1_words.proofs.Computed.{range_below}
-use Rattle.g1_words.proofs.Members.{In, In-from_contains, Contains-from_in, filter_member, in_from_has}
+use Rattle.g1_words.proofs.Members.{filter_member, Contains-from_has}
 use Rattle.g1_words.proofs.Lists.{all_in, all_from_in}
 use Rattle.g1_image.specs.Image.{Image, IsImage, remembered_of, region_of_card}
 use Rattle.g1_image.specs.Cards.{refined, is_refined, Covered}
@@ -17,6 +17,7 @@ use Rattle.g1_image.proofs.Covers.{cards_rise, exact_tells, refined_tells, cover
 use Rattle.g1_rem.specs.Starts.{card_count}
 use Rattle.g1_frontier.specs.Laws.{AreRefinedOf, RefinedLeadIn, RefinedLeadsIn}
 use Rattle.g1_frontier.specs.Window.{AreCards, AreOutside, LeadIn}
+use Rattle.g1_frontier.proofs.Marks.{one_member, only_one}
 
 module _ (i : Image) (good : IsImage i) where
   -- a card of a slot lies in the slot's region
@@ -40,7 +41,7 @@ module _ (i : Image) (good : IsImage i) where
   refined_elsewhere : (r c : ℕ) → r < i.heap.geometry.n → Contains (refined i r) c → c * i.heap.geometry.k / i.heap.geometry.w ≢ r
   refined_elsewhere r c lt k = elim ((refined_tells i good r c lt).0 k) [
     | inl m ↦ (all_in (λ x. Rattle.g1_image.specs.Image.IsUsedCard i.heap x × (region_of_card i.heap x ≢ r)) (remembered_of i r) c
-        (good.remembered r lt).elsewhere (In-from_contains (remembered_of i r) c m)).1
+        (good.remembered r lt).elsewhere m).1
     | inr m ↦ (let e = (exact_tells i.heap good.heap r c).0 m.1 in λ z. e.3 (sym (card_home e.0.slot) ∙ ap (λ x. x * i.heap.geometry.k / i.heap.geometry.w) e.4 ∙ z))
   ]
 
@@ -48,7 +49,7 @@ module _ (i : Image) (good : IsImage i) where
   refined_below r c k = omega (
     arith,
     range_below 0 (card_count i.heap) c
-        (filter_member (is_refined i r) (Rattle.std.specs.List.range_with_len 0 (card_count i.heap)) c (In-from_contains (refined i r) c k)).0,
+        (filter_member (is_refined i r) (Rattle.std.specs.List.range_with_len 0 (card_count i.heap)) c k).0,
   )
 
 pub refined_lead_in : RefinedLeadIn
@@ -56,11 +57,11 @@ refined_lead_in i window cards good covered below are = (
   (λ c k. ((are c).0 k).1),
   (λ e c t f.
       let h : Heap = i.heap in
-      let there : In window (region_of i.heap e.target) = in_from_has window (region_of i.heap e.target) t in
+      let there : Contains window (region_of i.heap e.target) = Contains-from_has window (region_of i.heap e.target) t in
       let lt : region_of i.heap e.target < i.heap.geometry.n = all_in (λ r. r < i.heap.geometry.n) window (region_of i.heap e.target) below there in
       let d : region_of i.heap e.slot ≢ region_of i.heap e.target = λ z. false≢true (sym f ∙ ap (has window) z ∙ t) in
       let out : in_set i.heap window (card_of i.heap e.slot * i.heap.geometry.k) ≡ false = ap (has window) (card_home i good e.slot) ∙ f in
-      (are (card_of i.heap e.slot)).1 ((region_of i.heap e.target, Contains-from_in window (region_of i.heap e.target) there, on_refined i good covered e c lt d), out)),
+      (are (card_of i.heap e.slot)).1 ((region_of i.heap e.target, there, on_refined i good covered e c lt d), out)),
 )
 
 pub refined_leads_in : RefinedLeadsIn
@@ -68,28 +69,20 @@ refined_leads_in i r good covered lt =
     let one : List ℕ = r ∷ [] in
     let are : AreRefinedOf i (r ∷ []) (refined i r) = λ c. (
       (λ k. (
-        (r, Contains-from_in (r ∷ []) r (inl refl), k),
+        (r, (zero, omega arith, refl), k),
         false_from_ne_true (has (r ∷ []) (c * i.heap.geometry.k / i.heap.geometry.w))
-            (λ t. only c k (in_from_has (r ∷ []) (c * i.heap.geometry.k / i.heap.geometry.w) t)),
+            (λ t. refined_elsewhere i good r c lt k (only_one r (c * i.heap.geometry.k / i.heap.geometry.w) t)),
       )),
-      (λ k. subst (λ q. Contains (refined i q) c) (single k.0.0 (In-from_contains (r ∷ []) k.0.0 k.0.1)) k.0.2),
+      (λ k. subst (λ q. Contains (refined i q) c) (sym (one_member r k.0.0 k.0.1)) k.0.2),
     ) in
-    let lead = refined_lead_in i (r ∷ []) (refined i r) good covered (all_from_in (λ q. q < i.heap.geometry.n) (r ∷ []) (λ q k. subst (λ z. z < i.heap.geometry.n) (sym (single q k)) lt)) are in (
+    let lead = refined_lead_in i (r ∷ []) (refined i r) good covered (all_from_in (λ q. q < i.heap.geometry.n) (r ∷ []) (λ q k. subst (λ z. z < i.heap.geometry.n) (one_member r q k) lt)) are in (
       record {
         rise = cards_rise i.heap (is_refined i r);
-        below = all_from_in (λ c. c < card_count i.heap) (refined i r) (λ c k. refined_below i good r c (Contains-from_in (refined i r) c k));
+        below = all_from_in (λ c. c < card_count i.heap) (refined i r) (refined_below i good r);
       },
       lead.0,
       lead.1,
     )
-  where
-    single : (q : ℕ) → In (r ∷ []) q → q ≡ r
-    single q (inl e) = sym e
-    single q (inr k) = absurd k
-
-    only : (c : ℕ) → Contains (refined i r) c → In (r ∷ []) (c * i.heap.geometry.k / i.heap.geometry.w) → ⊥
-    only c k (inl e) = refined_elsewhere i good r c lt k (sym e)
-    only c k (inr e) = e
 
 -- ---- one region's refined set, read from the list of all
 

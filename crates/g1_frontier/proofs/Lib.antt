@@ -2,7 +2,6 @@ pub mod Marks
 pub mod Turns
 pub mod Places
 pub mod Positions
-pub mod Counts
 pub mod Begins
 pub mod Seeds
 pub mod Names

@@ -1,5 +1,5 @@
 -- From the least rank at each place to first occurrences.
-use Rattle.std.proofs.Common.{◌≡◌, ℕ, suc, ◌<◌, ◌≤◌, inl, inr, Bool, true, false, cond, not, ◌&&◌, ◌||◌, min, List, [], ◌∷◌, ◌++◌, map, filter, refl, sym, ◌∙◌, ap, arith, eqb}
+use Rattle.std.proofs.Common.{◌≡◌, ℕ, suc, ◌<◌, ◌≤◌, Bool, true, false, cond, not, ◌&&◌, ◌||◌, min, List, [], ◌∷◌, ◌++◌, map, filter, refl, sym, ◌∙◌, ap, arith, eqb, Contains, zero}
 use Rattle.std.proofs.Common.{eq-eqb, ne_eqb, append_assoc, true≢false, IsPermutation}
 use Rattle.std.specs.List.{All}
 use Rattle.std.proofs.lemmas.List.Elements.{All-cons, All-nil}
@@ -8,7 +8,7 @@ use Rattle.g1_claim.specs.declared.rule.Offer.{Offer}
 use Rattle.g1_claim.specs.Claims.{empty, least_rank}
 use Rattle.g1_words.specs.Lists.{has}
 use Rattle.g1_words.specs.Survivors.{firsts}
-use Rattle.g1_words.proofs.Members.{In, has_from_in, in_from_has}
+use Rattle.g1_words.proofs.Members.{has_from_contains, Contains-from_has, Contains-later}
 use Rattle.g1_words.proofs.Firsts.{filter_twice, filter-same}
 use Rattle.g1_words.proofs.Logic.{eqb_sym}
 use Rattle.g1_words.proofs.Lists.{has_more}
@@ -50,20 +50,20 @@ least_append p [] js = at_top p js
 least_append p (i ∷ is) js = let r = least_append p is js in omega (arith, r)
 
 -- a place that stands nowhere in the list has no rank there
-none_there : (p : ℕ) (is : List (ℕ × ℕ)) → (In (map place_of is) p → ⊥) → least_bid p is ≡ empty
+none_there : (p : ℕ) (is : List (ℕ × ℕ)) → (Contains (map place_of is) p → ⊥) → least_bid p is ≡ empty
 none_there p [] h = refl
 none_there p (i ∷ is) h =
-    let r = none_there p is (λ k. h (inr k)) in
-    let e : ◌≡◌ {A = ℕ} (cond (eqb i.0 p) i.1 empty) empty = ap (λ b. cond b i.1 empty) (ne_eqb i.0 p (λ k. h (inl k))) in
+    let r = none_there p is (λ k. h (Contains-later (place_of i) (map place_of is) p k)) in
+    let e : ◌≡◌ {A = ℕ} (cond (eqb i.0 p) i.1 empty) empty = ap (λ b. cond b i.1 empty) (ne_eqb i.0 p (λ k. h (zero, omega arith, k))) in
     omega (arith, r, e)
 
 -- a place that stands in a list of ranks below m has a rank below m there
-low_there : (p m : ℕ) (is : List (ℕ × ℕ)) → Each (λ (i : ℕ × ℕ). i.1 < m) is → In (map place_of is) p → least_bid p is < m
-low_there p m [] h k = absurd k
-low_there p m (i ∷ is) h (inl e) =
+low_there : (p m : ℕ) (is : List (ℕ × ℕ)) → Each (λ (i : ℕ × ℕ). i.1 < m) is → Contains (map place_of is) p → least_bid p is < m
+low_there p m [] h k = absurd (omega (arith, k.1))
+low_there p m (i ∷ is) h (zero, lt, e) =
     let c : ◌≡◌ {A = ℕ} (cond (eqb i.0 p) i.1 empty) i.1 = ap (λ b. cond b i.1 empty) (eq-eqb i.0 p e) in
     let l = h.0 in omega (arith, c, l)
-low_there p m (i ∷ is) h (inr k) = let r = low_there p m is h.1 k in omega (arith, r)
+low_there p m (i ∷ is) h (suc j, b, e) = let r = low_there p m is h.1 (j, omega (arith, b), e) in omega (arith, r)
 
 -- ranks above m
 high_there : (p m : ℕ) (is : List (ℕ × ℕ)) → m < empty → Each (λ (i : ℕ × ℕ). m < i.1) is → m < least_bid p is
@@ -101,9 +101,9 @@ head_test pre i is lt low high =
   where
     at : (b : Bool) → has (map place_of pre) i.0 ≡ b → least_bid i.0 (pre ++ i ∷ is) ≡ min (least_bid i.0 pre) (min (cond (eqb i.0 i.0) i.1 empty) (least_bid i.0 is)) → i.1 < least_bid i.0 is
         → ◌≡◌ {A = ℕ} (cond (eqb i.0 i.0) i.1 empty) i.1 → eqb (least_bid i.0 (pre ++ i ∷ is)) i.1 ≡ not b
-    at true e a h c = let l = low_there i.0 i.1 pre low (in_from_has (map place_of pre) i.0 e) in ne_eqb (least_bid i.0 (pre ++ i ∷ is)) i.1 (λ k. omega (arith, l, a, k))
+    at true e a h c = let l = low_there i.0 i.1 pre low (Contains-from_has (map place_of pre) i.0 e) in ne_eqb (least_bid i.0 (pre ++ i ∷ is)) i.1 (λ k. omega (arith, l, a, k))
     at false e a h c =
-        let n = none_there i.0 pre (λ k. true≢false (sym (has_from_in (map place_of pre) i.0 k) ∙ e)) in
+        let n = none_there i.0 pre (λ k. true≢false (sym (has_from_contains (map place_of pre) i.0 k) ∙ e)) in
         eq-eqb (least_bid i.0 (pre ++ i ∷ is)) i.1 (omega (arith, n, a, h, c))
 
 each_snoc : {X : Type 0} (P : X → Type 0) (xs : List X) (x : X) → Each P xs → P x → Each P (xs ++ x ∷ [])

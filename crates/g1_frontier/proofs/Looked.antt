@@ -1,8 +1,9 @@
 -- A round of looks, whichever worker made them.
-use Rattle.std.proofs.Common.{◌≡◌, ℕ, ◌*◌, ◌≤◌, inl, inr, List, [], ◌∷◌, ◌++◌, map, length, sym, refl, ap, ◌∙◌, subst}
+use Rattle.std.proofs.Common.{◌≡◌, ℕ, ◌*◌, ◌≤◌, inl, inr, List, [], ◌∷◌, ◌++◌, map, length, sym, refl, ap, ◌∙◌, subst, Contains, zero, arith}
 use Rattle.std.proofs.Common.{append-nil, IsPermutation}
 use Rattle.std.specs.List.{flat_map, enumerate_from}
-use Rattle.std.proofs.lemmas.List.Sorted.{IsPermutation-sym}
+use Rattle.std.proofs.lemmas.List.Sorted.{IsPermutation-sym, Contains-permutation}
+use Rattle.std.proofs.lemmas.List.Elements.{Contains-append_left, Contains-append_right, Contains-push_cases}
 use Rattle.g1_claim.specs.declared.rule.Offer.{Offer}
 use Rattle.g1_claim.specs.declared.rule.Sight.{Sight}
 use Rattle.g1_claim.specs.Claims.{TableView, SeatView, AreWon}
@@ -10,7 +11,7 @@ use Rattle.g1_claim.specs.History.{Begins, AreSeen}
 use Rattle.g1_claim.proofs.History.{begins_all}
 use Rattle.g1_work.specs.Each.{IsEachRun, joined}
 use Rattle.g1_work.specs.Regions.{slice_of}
-use Rattle.g1_words.proofs.Members.{In, In-append_cases, In-append_left, In-append_right, In-flat_map}
+use Rattle.g1_words.proofs.Members.{Contains-flat_map, none_contains}
 use Rattle.g1_words.proofs.Ordered.{Ordered}
 use Rattle.g1_words.proofs.Lists.{all_in}
 use Rattle.g1_frontier.specs.declared.offering.Holder.{Holder}
@@ -19,7 +20,6 @@ use Rattle.g1_frontier.specs.Looking.{HasLooked}
 use Rattle.g1_frontier.specs.Round.{IsGivenOut, HasTaken, is_least, winners}
 use Rattle.g1_frontier.proofs.Assembly.{RankLess, whole_round}
 use Rattle.g1_frontier.proofs.Looks.{IsWon, won_in, each_won, chunks_pass}
-use Rattle.g1_frontier.proofs.Winning.{in_permuted}
 
 -- a look offers nothing
 pub none : ℕ × ℕ → List (ℕ × ℕ)
@@ -32,7 +32,7 @@ flat_none (q ∷ ps) = flat_none ps
 
 no_member : (ms : List Try) → IsPermutation (map pair_of ms) [] → ms ≡ []
 no_member [] p = refl
-no_member (m ∷ ms) p = absurd (in_permuted (map pair_of (m ∷ ms)) [] (pair_of m) p (inl refl))
+no_member (m ∷ ms) p = absurd (none_contains (pair_of m) (Contains-permutation (map pair_of (m ∷ ms)) [] (pair_of m) p (zero, omega arith, refl)))
 
 module _ (t : TableView) (place : ℕ → ℕ) (size : ℕ) (pairs : List (ℕ × ℕ)) {O : Type 0} (list_of : O → List (ℕ × ℕ)) (runs : Holder → ℕ → Holder → O → Type 0)
     (says : (s : Holder) (k : ℕ) (u : Holder) (o : O) → runs s k u o → (u.kept.items ≡ s.kept.items) × (u.number ≡ s.number) × HasLooked place (slice_of size k pairs) s.seat u.seat (list_of o)) where
@@ -64,19 +64,16 @@ module _ (t : TableView) (place : ℕ → ℕ) (size : ℕ) (pairs : List (ℕ �
       let nothing : o.made ≡ [] = no_member o.made (subst (IsPermutation (map pair_of o.made)) (flat_none pairs) o.each) in
       let same : after_seat.hand.offers ≡ os = o.offers ∙ ap (λ ms. os ++ map (offer_of place) ms) nothing ∙ append-nil os in
       let won : AreWon after_seat.hand.sights os = subst (AreWon after_seat.hand.sights) same (k.won o.whole) in
-      let there : (u : Holder) → In after u → (y : Sight) → In u.seat.hand.sights y → IsWon os y = λ u i y j.
-      won_in after_seat.hand.sights os won y (subst (λ ss. In ss y) (sym k.sights) (elim (In-append_cases k.others (k.last ∷ []) u (subst (λ l. In l u) k.are i)) [
-        | inl a ↦ In-append_right k.last.seat.hand.sights (flat_map (λ h. h.seat.hand.sights) k.others) y (In-flat_map (λ h. h.seat.hand.sights) k.others u y a j)
-        | inr a ↦ elim a [
-          | inl e ↦ In-append_left k.last.seat.hand.sights (flat_map (λ h. h.seat.hand.sights) k.others) y (subst (λ (h : Holder). In h.seat.hand.sights y) (sym e) j)
-          | inr no_more ↦ absurd no_more
-        ]
+      let there : (u : Holder) → Contains after u → (y : Sight) → Contains u.seat.hand.sights y → IsWon os y = λ u i y j.
+      won_in after_seat.hand.sights os won y (subst (λ ss. Contains ss y) (sym k.sights) (elim (Contains-push_cases k.others k.last u (subst (λ l. Contains l u) k.are i)) [
+        | inl a ↦ Contains-append_right k.last.seat.hand.sights (flat_map (λ h. h.seat.hand.sights) k.others) y (Contains-flat_map (λ h. h.seat.hand.sights) k.others u y a j)
+        | inr e ↦ Contains-append_left k.last.seat.hand.sights (flat_map (λ h. h.seat.hand.sights) k.others) y (subst (λ (h : Holder). Contains h.seat.hand.sights y) (sym e) j)
       ])) in
-      let begun : (s : Holder) → In before s → Begins s.seat.seen seat.seen = λ s i.
+      let begun : (s : Holder) → Contains before s → Begins s.seat.seen seat.seen = λ s i.
       subst (λ l. Begins l seat.seen) (sym (all_in (λ h. h.seat.seen ≡ seat.seen) before s g.seen i)) (begins_all seat.seen) in
       let each = each_won place os seat.seen are (λ j. slice_of size j pairs) list_of runs (λ s j u x z. (says s j u x z).2) n before r.parts after r.workers begun there in record {
         whole = o.whole;
         offers = same;
         won = chunks_pass (is_least place os) list_of size pairs outs (subst (λ m. length pairs ≤ m * size) (sym r.count) le)
-            (λ x i. each x (in_permuted (enumerate_from 0 outs) (joined r.parts) x (IsPermutation-sym (joined r.parts) (enumerate_from 0 outs) r.once) i));
+            (λ x i. each x (Contains-permutation (enumerate_from 0 outs) (joined r.parts) x (IsPermutation-sym (joined r.parts) (enumerate_from 0 outs) r.once) i));
       }

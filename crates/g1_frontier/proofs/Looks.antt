@@ -1,9 +1,9 @@
 -- Looks, one after another, and those of all workers.
-use Rattle.std.proofs.Common.{◌≡◌, ℕ, ◌+◌, ◌*◌, ◌<◌, ◌≤◌, Bool, true, false, cond, eqb, inl, inr, ◌⊎◌, List, [], ◌∷◌, ◌++◌, map, filter, take, get_or, length, sym, refl, ap, ◌∙◌, subst, arith}
+use Rattle.std.proofs.Common.{◌≡◌, ℕ, ◌+◌, ◌*◌, ◌<◌, ◌≤◌, Bool, true, false, cond, eqb, inl, inr, ◌⊎◌, List, [], ◌∷◌, ◌++◌, map, filter, take, get_or, length, sym, refl, ap, ◌∙◌, subst, arith, Contains, zero, suc}
 use Rattle.std.proofs.Common.{append_assoc, append-nil}
 use Rattle.std.specs.List.{flat_map, enumerate_from}
 use Rattle.std.proofs.lemmas.List.{map-append, take_more}
-use Rattle.std.proofs.lemmas.List.Elements.{All-push, All-nil, filter-append}
+use Rattle.std.proofs.lemmas.List.Elements.{All-push, All-nil, filter-append, Contains-append_cases, Contains-append_left, Contains-append_right}
 use Rattle.g1_claim.specs.declared.rule.Offer.{Offer}
 use Rattle.g1_claim.specs.declared.rule.Sight.{Sight}
 use Rattle.g1_claim.specs.Claims.{SeatView, AreWon, empty, least_rank, times_won, sight}
@@ -12,7 +12,7 @@ use Rattle.g1_claim.proofs.History.{begins_all, later_is_less}
 use Rattle.g1_claim.proofs.Seen.{word_is_least, begins_trans}
 use Rattle.g1_work.specs.Each.{Ran, EachRan, joined}
 use Rattle.g1_work.specs.Regions.{slice_of}
-use Rattle.g1_words.proofs.Members.{In, In-append_cases, In-append_left, In-append_right, In-map}
+use Rattle.g1_words.proofs.Members.{Contains-map}
 use Rattle.g1_words.proofs.Lists.{all_in}
 use Rattle.g1_frontier.specs.declared.offering.Holder.{Holder}
 use Rattle.g1_frontier.specs.Looking.{Look, looked_at, is_there, sight_of, HasLooked}
@@ -23,10 +23,10 @@ use Rattle.g1_frontier.proofs.Pieces.{all_pieces}
 abbrev pub IsWon : List Offer → Sight → Type 0
 IsWon os y = (y.value ≡ empty) ⊎ (times_won y.place y.value os ≡ 1)
 
-pub won_in : (ss : List Sight) (os : List Offer) → AreWon ss os → (y : Sight) → In ss y → IsWon os y
-won_in [] os w y i = absurd i
-won_in (s ∷ ss) os w y (inl e) = subst (IsWon os) e w.0
-won_in (s ∷ ss) os w y (inr i) = won_in ss os w.1 y i
+pub won_in : (ss : List Sight) (os : List Offer) → AreWon ss os → (y : Sight) → Contains ss y → IsWon os y
+won_in [] os w y i = absurd (omega (arith, i.1))
+won_in (s ∷ ss) os w y (zero, b, e) = subst (IsWon os) e w.0
+won_in (s ∷ ss) os w y (suc k, b, e) = won_in ss os w.1 y (k, omega (arith, b), e)
 
 module _ (place : ℕ → ℕ) where
   pub looked_none : (s : SeatView) → HasLooked place [] s s []
@@ -73,11 +73,11 @@ module _ (place : ℕ → ℕ) where
 
   module _ (os : List Offer) (known : History) (are : AreSeen os known) where
     -- where each word is the least rank
-    listed_are : (ls : List Look) → ((l : Look) → In ls l → l.1 ≡ least_rank (place l.0.1) os) → map looked_at (filter is_there ls) ≡ winners place os (map looked_at ls)
+    listed_are : (ls : List Look) → ((l : Look) → Contains ls l → l.1 ≡ least_rank (place l.0.1) os) → map looked_at (filter is_there ls) ≡ winners place os (map looked_at ls)
     listed_are [] h = refl
     listed_are (l ∷ ls) h =
-        let rest = listed_are ls (λ x i. h x (inr i)) in
-        (λ i. map looked_at (cond (eqb (h l (inl refl) i) l.0.0) (l ∷ filter is_there ls) (filter is_there ls)))
+        let rest = listed_are ls (λ x i. h x (suc i.0, omega (arith, i.1), i.2)) in
+        (λ i. map looked_at (cond (eqb (h l (zero, omega arith, refl) i) l.0.0) (l ∷ filter is_there ls) (filter is_there ls)))
         ∙ at (eqb (least_rank (place l.0.1) os) l.0.0) rest
       where
         at : (b : Bool) → map looked_at (filter is_there ls) ≡ winners place os (map looked_at ls)
@@ -86,46 +86,47 @@ module _ (place : ℕ → ℕ) where
         at false e = e
 
     -- what a seat lists that knows of these offers is what won, where each value that it saw has won
-    pub looks_won : (ps : List (ℕ × ℕ)) (s t : SeatView) (list : List (ℕ × ℕ)) → HasLooked place ps s t list → Begins s.seen known → ((y : Sight) → In t.hand.sights y → IsWon os y)
+    pub looks_won : (ps : List (ℕ × ℕ)) (s t : SeatView) (list : List (ℕ × ℕ)) → HasLooked place ps s t list → Begins s.seen known → ((y : Sight) → Contains t.hand.sights y → IsWon os y)
         → list ≡ winners place os ps
     looks_won ps s t list h begins won =
         h.listed ∙ listed_are h.looks
         (λ l i.
         let low = all_in (λ l. l.1 ≤ least_in (place l.0.1) s.seen) h.looks l h.low i in
         let less = later_is_less (place l.0.1) known s.seen begins in
-        let there : In t.hand.sights (sight_of place l) = subst (λ ss. In ss (sight_of place l)) (sym h.sights) (In-append_right s.hand.sights (map (sight_of place) h.looks) (sight_of place l) (In-map (sight_of place) h.looks l i)) in
+        let there : Contains t.hand.sights (sight_of place l) =
+        subst (λ ss. Contains ss (sight_of place l)) (sym h.sights) (Contains-append_right s.hand.sights (map (sight_of place) h.looks) (sight_of place l) (Contains-map (sight_of place) h.looks l i)) in
         word_is_least (place l.0.1) l.1 os known are (omega (arith, low, less)) (won (sight_of place l) there))
         ∙ ap (winners place os) h.each
 
     module _ (P : ℕ → List (ℕ × ℕ)) {O : Type 0} (list_of : O → List (ℕ × ℕ)) (runs : Holder → ℕ → Holder → O → Type 0)
         (says : (s : Holder) (k : ℕ) (t : Holder) (o : O) → runs s k t o → HasLooked place (P k) s.seat t.seat (list_of o)) where
       -- a worker's sights stay
-      stays : (s : Holder) (xs : List (ℕ × O)) (t : Holder) → Ran runs s xs t → (y : Sight) → In s.seat.hand.sights y → In t.seat.hand.sights y
-      stays s [] t r y i = subst (λ (u : Holder). In u.seat.hand.sights y) r i
+      stays : (s : Holder) (xs : List (ℕ × O)) (t : Holder) → Ran runs s xs t → (y : Sight) → Contains s.seat.hand.sights y → Contains t.seat.hand.sights y
+      stays s [] t r y i = subst (λ (u : Holder). Contains u.seat.hand.sights y) r i
       stays s (x ∷ xs) t r y i =
           let h = says s x.0 r.0 x.1 r.1 in
-          stays r.0 xs t r.2 y (subst (λ ss. In ss y) (sym h.sights) (In-append_left s.seat.hand.sights (map (sight_of place) h.looks) y i))
+          stays r.0 xs t r.2 y (subst (λ ss. Contains ss y) (sym h.sights) (Contains-append_left s.seat.hand.sights (map (sight_of place) h.looks) y i))
 
       -- what each of its chunks lists has won
-      ran_won : (s : Holder) (xs : List (ℕ × O)) (t : Holder) → Ran runs s xs t → Begins s.seat.seen known → ((y : Sight) → In t.seat.hand.sights y → IsWon os y)
-          → (x : ℕ × O) → In xs x → list_of x.1 ≡ winners place os (P x.0)
-      ran_won s [] t r b w x i = absurd i
-      ran_won s (z ∷ xs) t r b w x (inl e) =
+      ran_won : (s : Holder) (xs : List (ℕ × O)) (t : Holder) → Ran runs s xs t → Begins s.seat.seen known → ((y : Sight) → Contains t.seat.hand.sights y → IsWon os y)
+          → (x : ℕ × O) → Contains xs x → list_of x.1 ≡ winners place os (P x.0)
+      ran_won s [] t r b w x i = absurd (omega (arith, i.1))
+      ran_won s (z ∷ xs) t r b w x (zero, lt, e) =
           let h = says s z.0 r.0 z.1 r.1 in
           subst (λ (x : ℕ × O). list_of x.1 ≡ winners place os (P x.0)) e (looks_won (P z.0) s.seat r.0.seat (list_of z.1) h b (λ y i. w y (stays r.0 xs t r.2 y i)))
-      ran_won s (z ∷ xs) t r b w x (inr i) =
-          let h = says s z.0 r.0 z.1 r.1 in ran_won r.0 xs t r.2 (begins_trans known s.seat.seen r.0.seat.seen h.seen b) w x i
+      ran_won s (z ∷ xs) t r b w x (suc k, lt, e) =
+          let h = says s z.0 r.0 z.1 r.1 in ran_won r.0 xs t r.2 (begins_trans known s.seat.seen r.0.seat.seen h.seen b) w x (k, omega (arith, lt), e)
 
-      pub each_won : (n : ℕ) (ss : List Holder) (ps : List (List (ℕ × O))) (ts : List Holder) → EachRan runs n ss ps ts → ((s : Holder) → In ss s → Begins s.seat.seen known)
-          → ((t : Holder) → In ts t → (y : Sight) → In t.seat.hand.sights y → IsWon os y) → (x : ℕ × O) → In (joined ps) x → list_of x.1 ≡ winners place os (P x.0)
-      each_won n [] [] [] r b w x i = absurd i
+      pub each_won : (n : ℕ) (ss : List Holder) (ps : List (List (ℕ × O))) (ts : List Holder) → EachRan runs n ss ps ts → ((s : Holder) → Contains ss s → Begins s.seat.seen known)
+          → ((t : Holder) → Contains ts t → (y : Sight) → Contains t.seat.hand.sights y → IsWon os y) → (x : ℕ × O) → Contains (joined ps) x → list_of x.1 ≡ winners place os (P x.0)
+      each_won n [] [] [] r b w x i = absurd (omega (arith, i.1))
       each_won n [] [] (u ∷ us) r b w x i = absurd r
       each_won n [] (p ∷ ps) us r b w x i = absurd r
       each_won n (s ∷ ss) [] us r b w x i = absurd r
       each_won n (s ∷ ss) (p ∷ ps) [] r b w x i = absurd r
-      each_won n (s ∷ ss) (p ∷ ps) (u ∷ us) r b w x i = elim (In-append_cases p (joined ps) x i) [
-        | inl j ↦ ran_won s p u r.0 (b s (inl refl)) (w u (inl refl)) x j
-        | inr j ↦ each_won n ss ps us r.2 (λ s k. b s (inr k)) (λ t k. w t (inr k)) x j
+      each_won n (s ∷ ss) (p ∷ ps) (u ∷ us) r b w x i = elim (Contains-append_cases p (joined ps) x i) [
+        | inl j ↦ ran_won s p u r.0 (b s (zero, omega arith, refl)) (w u (zero, omega arith, refl)) x j
+        | inr j ↦ each_won n ss ps us r.2 (λ s k. b s (suc k.0, omega (arith, k.1), k.2)) (λ t k. w t (suc k.0, omega (arith, k.1), k.2)) x j
       ]
 
 -- a list is that of what passes, item by item
@@ -137,14 +138,14 @@ filter_flat f (x ∷ xs) = at (f x) (filter_flat f xs)
     at true e = ap (λ l. x ∷ l) e
     at false e = e
 
-of_numbered : {O B : Type 0} (g : O → List B) (f : ℕ → List B) (os : List O) (k : ℕ) → ((x : ℕ × O) → In (enumerate_from k os) x → g x.1 ≡ f x.0)
+of_numbered : {O B : Type 0} (g : O → List B) (f : ℕ → List B) (os : List O) (k : ℕ) → ((x : ℕ × O) → Contains (enumerate_from k os) x → g x.1 ≡ f x.0)
     → flat_map g os ≡ flat_map (λ x. f x.0) (enumerate_from k os)
 of_numbered g f [] k h = refl
-of_numbered g f (o ∷ os) k h = (λ i. h (k, o) (inl refl) i ++ of_numbered g f os (k + 1) (λ x j. h x (inr j)) i)
+of_numbered g f (o ∷ os) k h = (λ i. h (k, o) (zero, omega arith, refl) i ++ of_numbered g f os (k + 1) (λ x j. h x (suc j.0, omega (arith, j.1), j.2)) i)
 
 -- what all chunks list, one after another, is what passes of all items
 pub chunks_pass : {A O : Type 0} (test : A → Bool) (g : O → List A) (size : ℕ) (xs : List A) (os : List O) → length xs ≤ length os * size
-    → ((x : ℕ × O) → In (enumerate_from 0 os) x → g x.1 ≡ filter test (slice_of size x.0 xs)) → flat_map g os ≡ filter test xs
+    → ((x : ℕ × O) → Contains (enumerate_from 0 os) x → g x.1 ≡ filter test (slice_of size x.0 xs)) → flat_map g os ≡ filter test xs
 chunks_pass {A} {O} test g size xs os le h =
     let one : A → List A = λ x. cond (test x) (x ∷ []) [] in
     of_numbered g (λ k. flat_map one (slice_of size k xs)) os 0 (λ x i. h x i ∙ sym (filter_flat test (slice_of size x.0 xs)))

@@ -19,6 +19,7 @@ use Rattle.itertools.specs.KMerge.{SourcesGive, joined_lists}
 use Rattle.g1_frontier.proofs.Scopes.{all_map}
 use Rattle.g1_words.proofs.Ordered.{Ordered, pairs_from_ordered}
 use Rattle.g1_words.proofs.Lists.{all_in}
+use Rattle.g1_words.proofs.Members.{cons_cases, none_contains}
 
 -- the order of pairs
 abbrev pub pair_cmp : ℕ × ℕ → ℕ × ℕ → Option Ordering
@@ -87,11 +88,11 @@ sorted_from_rising ps rise = λ k d low lt. not_before (get_or ps (k + 1) d) (ge
 
 -- in order, no rank is above a later one
 steps_up : (ps : List (ℕ × ℕ)) (x : ℕ × ℕ) → ((k : ℕ) (d : ℕ × ℕ) → k + 1 < length (x ∷ ps) → (get_or (x ∷ ps) k d).0 ≤ (get_or (x ∷ ps) (k + 1) d).0) → Ordered (λ q r. q.0 ≤ r.0) (x ∷ ps)
-steps_up [] x h = ((λ y i. absurd i), tt)
+steps_up [] x h = ((λ y i. absurd (none_contains y i)), tt)
 steps_up (y ∷ ps) x h =
     let rest = steps_up ps y (λ k d lt. let e : suc k + 1 ≡ suc (k + 1) = omega arith in subst (λ n. (get_or (y ∷ ps) k d).0 ≤ (get_or (x ∷ y ∷ ps) n d).0) e (h (suc k) d (omega (arith, lt)))) in
     let here = h 0 x (omega arith) in
-    ((λ z i. elim i [ inl e ↦ let k : y.0 ≡ z.0 = ap (λ (q : ℕ × ℕ). q.0) e in omega (arith, here, k) | inr j ↦ let k = rest.0 z j in omega (arith, here, k) ]), rest)
+    ((λ z i. elim (cons_cases y ps z i) [ inl e ↦ let k : y.0 ≡ z.0 = ap (λ (q : ℕ × ℕ). q.0) e in omega (arith, here, k) | inr j ↦ let k = rest.0 z j in omega (arith, here, k) ]), rest)
 
 all_up : (ps : List (ℕ × ℕ)) → ((k : ℕ) (d : ℕ × ℕ) → k + 1 < length ps → (get_or ps k d).0 ≤ (get_or ps (k + 1) d).0) → Ordered (λ q r. q.0 ≤ r.0) ps
 all_up [] h = tt

@@ -1,14 +1,14 @@
 -- The claims of a round that survive are its new objects.
-use Rattle.std.proofs.Common.{◌≡◌, ℕ, ◌<◌, ◌≤◌, ◌^◌, inl, inr, not, List, [], ◌∷◌, ◌++◌, filter, sym, refl, ap, ◌∙◌, arith, All}
+use Rattle.std.proofs.Common.{◌≡◌, ℕ, ◌<◌, ◌≤◌, ◌^◌, inl, inr, not, List, [], ◌∷◌, ◌++◌, filter, sym, refl, ap, ◌∙◌, arith, All, Contains, zero}
 use Rattle.std.proofs.lemmas.List.Elements.{All-nil}
 use Rattle.g1_claim.specs.declared.rule.Offer.{Offer}
 use Rattle.g1_words.specs.Heap.{Heap}
 use Rattle.g1_words.specs.Lists.{has}
 use Rattle.g1_words.specs.Survivors.{firsts}
 use Rattle.g1_words.specs.Valid.{IsValid}
-use Rattle.g1_words.proofs.Members.{In}
 use Rattle.g1_words.proofs.Ordered.{Ordered, Ordered-from_pairs}
 use Rattle.g1_words.proofs.Lists.{all_in, all_from_in}
+use Rattle.g1_words.proofs.Members.{cons_cases, none_contains}
 use Rattle.g1_frontier.specs.declared.item.Item.{Item}
 use Rattle.g1_frontier.specs.Items.{all_pairs}
 use Rattle.g1_frontier.specs.Laws.{IsNextRound, Rounds, none, round, referenced, survivors_of, RoundFindsNew, WordsNumber, ObjectsNumber}
@@ -26,15 +26,16 @@ record Parts (before : List Offer) (ps : List (ℕ × ℕ)) : Type 0 where
   pub next : ℕ
   pub most : next ≤ 2 ^ 32
   pub below : All (λ o. o.rank < next) before
-  pub above : (q : ℕ × ℕ) → In ps q → next ≤ q.0
+  pub above : (q : ℕ × ℕ) → Contains ps q → next ≤ q.0
 
-parts : (before : List Offer) (ps : List (ℕ × ℕ)) → All (λ o. o.rank < 2 ^ 32) before → AreAbove before ps → ((q : ℕ × ℕ) → In ps q → q.0 < 2 ^ 32) → Ordered RankLess ps → Parts before ps
-parts before [] low higher small rise = record { next = 2 ^ 32; most = (omega arith); below = low; above = (λ q i. absurd i) }
+parts : (before : List Offer) (ps : List (ℕ × ℕ)) → All (λ o. o.rank < 2 ^ 32) before → AreAbove before ps → ((q : ℕ × ℕ) → Contains ps q → q.0 < 2 ^ 32) → Ordered RankLess ps → Parts before ps
+parts before [] low higher small rise = record { next = 2 ^ 32; most = (omega arith); below = low; above = (λ q i. absurd (none_contains q i)) }
 parts before (p ∷ ps) low higher small rise = record {
   next = p.0;
-  most = (let lt = small p (inl refl) in omega (arith, lt));
-  below = (all_from_in (λ o. o.rank < p.0) before (λ o i. all_in (λ (q : ℕ × ℕ). o.rank < q.0) (p ∷ ps) p (all_in (λ o. All (λ (q : ℕ × ℕ). o.rank < q.0) (p ∷ ps)) before o higher i) (inl refl)));
-  above = (λ q i. elim i [ inl e ↦ (let r = ap (λ (x : ℕ × ℕ). x.0) e in omega (arith, r)) | inr k ↦ (let lt = rise.0 q k in omega (arith, lt)) ]);
+  most = (let lt = small p (zero, omega arith, refl) in omega (arith, lt));
+  below = (all_from_in (λ o. o.rank < p.0) before
+      (λ o i. all_in (λ (q : ℕ × ℕ). o.rank < q.0) (p ∷ ps) p (all_in (λ o. All (λ (q : ℕ × ℕ). o.rank < q.0) (p ∷ ps)) before o higher i) (zero, omega arith, refl)));
+  above = (λ q i. elim (cons_cases p ps q i) [ inl e ↦ (let r = ap (λ (x : ℕ × ℕ). x.0) e in omega (arith, r)) | inr k ↦ (let lt = rise.0 q k in omega (arith, lt)) ]);
 }
 
 module _ (h : Heap) (window : List ℕ) (count : ℕ) (number : ℕ → ℕ) (valid : IsValid h) (numbers : IsNumbering h window count number) where
@@ -54,13 +55,13 @@ module _ (h : Heap) (window : List ℕ) (count : ℕ) (number : ℕ → ℕ) (va
     climbs : Ordered RankLess ps
     climbs = Ordered-from_pairs RankLess ps next.rise
 
-    within : (q : ℕ × ℕ) → In ps q → BeginsIn h window q.1
+    within : (q : ℕ × ℕ) → Contains ps q → BeginsIn h window q.1
     within q i = all_begin h window items q valid next.are i
 
-    small : (q : ℕ × ℕ) → In ps q → q.0 < 2 ^ 32
+    small : (q : ℕ × ℕ) → Contains ps q → q.0 < 2 ^ 32
     small q i = all_in (λ (q : ℕ × ℕ). q.0 < 2 ^ 32) ps q next.ranks i
 
-    low : (q : ℕ × ℕ) → In ps q → q.0 < 18446744073709551615
+    low : (q : ℕ × ℕ) → Contains ps q → q.0 < 18446744073709551615
     low q i = let k = small q i in omega (arith, k)
 
     cut : Parts before ps

@@ -4,17 +4,18 @@ use Rattle.std.proofs.Common.{refl, sym, ap, ◌∙◌, subst, arith, true≢fal
 use Rattle.std.proofs.lemmas.List.{length-replicate, flat_map_more}
 use Rattle.std.specs.List.{range_with_len}
 use Rattle.std.specs.Prelude.{slice_index_or, IfSome}
+use Rattle.std.proofs.lemmas.List.Elements.{Contains-get_or}
 use Rattle.g1_words.specs.declared.object.Object.{Object}
 use Rattle.g1_words.specs.Heap.{Heap, objects, objects_in, object_at, start, regions}
 use Rattle.g1_words.specs.Lists.{has}
 use Rattle.g1_words.specs.Valid.{IsValid}
-use Rattle.g1_words.proofs.Computed.{has_contains, in_region_has, In-range, range_below}
-use Rattle.g1_words.proofs.Members.{In, In-from_contains, Contains-from_in, In-map, map_cases, In-flat_map, flat_map_cases, in_from_has}
+use Rattle.g1_words.proofs.Computed.{has_contains, in_region_has, Contains-range, range_below}
+use Rattle.g1_words.proofs.Members.{Contains-map, map_cases, Contains-flat_map, flat_map_cases, Contains-from_has}
 use Rattle.g1_words.proofs.Sound.{sound, has_is}
-use Rattle.g1_frontier.specs.Numbers.{BeginsIn, IsNumbering, AreStarts, number_at, and_marked, places_from}
+use Rattle.g1_words.specs.Numbers.{number_at}
+use Rattle.g1_frontier.specs.Numbers.{BeginsIn, IsNumbering, AreStarts, and_marked, places_from}
 use Rattle.g1_words.specs.Geometry.{most_words}
 use Rattle.g1_words.proofs.Lists.{range_push, same_there, all_in}
-use Rattle.g1_words.proofs.Indices.{get_or-In}
 use Rattle.g1_rem.specs.Starts.{IsStartsOf}
 use Rattle.g1_frontier.specs.declared.scope.Numbering.{Numbering}
 use Rattle.g1_frontier.specs.declared.scope.Numbering.TheVariants.{Words, Objects}
@@ -22,7 +23,7 @@ use Rattle.g1_frontier.specs.declared.scope.Scope.{Scope}
 use Rattle.g1_frontier.specs.Scope.{IsScope, Covers, count_by_numbering, place_by}
 use Rattle.g1_frontier.specs.Window.{AreRegions, AreWindowPositions, place, position}
 use Rattle.g1_frontier.proofs.Begins.{length-marked, listed_mark, mark_listed, marked_append}
-use Rattle.g1_frontier.proofs.Counts.{number_rises, number_apart}
+use Rattle.g1_words.proofs.Numbering.{number_rises, number_apart}
 use Rattle.g1_frontier.proofs.Places.{stands, read_at, place_below, place_apart}
 use Rattle.g1_frontier.proofs.Positions.{offset_is}
 
@@ -49,27 +50,27 @@ module _ (h : Heap) (window : List ℕ) (valid : IsValid h) (rising : AreRegions
   some_words = omega (arith, valid.limits.w_least)
 
   -- an object stands among those of its region
-  in_region : (a : ℕ) → Contains (objects h) (object_at h a) → In (objects_in h (a / h.geometry.w)) (object_at h a)
+  in_region : (a : ℕ) → Contains (objects h) (object_at h a) → Contains (objects_in h (a / h.geometry.w)) (object_at h a)
   in_region a c =
-      let m = flat_map_cases (objects_in h) (regions h) (object_at h a) (In-from_contains (objects h) (object_at h a) c) in
-      let home : a / h.geometry.w ≡ m.0 = (sound h valid).in_region m.0 (object_at h a) (Contains-from_in (objects_in h m.0) (object_at h a) m.2) in
-      subst (λ r. In (objects_in h r) (object_at h a)) (sym home) m.2
+      let m = flat_map_cases (objects_in h) (regions h) (object_at h a) c in
+      let home : a / h.geometry.w ≡ m.0 = (sound h valid).in_region m.0 (object_at h a) m.2 in
+      subst (λ r. Contains (objects_in h r) (object_at h a)) (sym home) m.2
 
   -- where it begins is listed
-  begin_listed : (a : ℕ) → BeginsIn h window a → In (places_to h window (length window)) (place h window a)
+  begin_listed : (a : ℕ) → BeginsIn h window a → Contains (places_to h window (length window)) (place h window a)
   begin_listed a b =
       let r : ℕ = a / w in
       let i : ℕ = position window r in
-      let s = stands window r (in_from_has window r b.0) in
+      let s = stands window r (Contains-from_has window r b.0) in
       let g : ℕ → List ℕ = λ i. places_from h (i * h.geometry.w) (get_or window i 0) in
-      let there : In (objects_in h (get_or window i 0)) (object_at h a) = subst (λ r. In (objects_in h r) (object_at h a)) (sym s.1) (in_region a b.1) in
+      let there : Contains (objects_in h (get_or window i 0)) (object_at h a) = subst (λ r. Contains (objects_in h r) (object_at h a)) (sym s.1) (in_region a b.1) in
       let f : Object → ℕ = λ o. i * h.geometry.w + (o.at - start h (get_or window i 0)) in
       let spot : f (object_at h a) ≡ place h window a = ap (λ x. i * w + (a - x * w)) s.1 ∙ ap (λ x. i * w + x) (offset_is w a).1 in
-      In-flat_map g (range_with_len 0 (length window)) i (place h window a) (In-range 0 (length window) i (omega arith) (omega (arith, s.0)))
-      (subst (In (g i)) spot (In-map f (objects_in h (get_or window i 0)) (object_at h a) there))
+      Contains-flat_map g (range_with_len 0 (length window)) i (place h window a) (Contains-range 0 (length window) i (omega arith) (omega (arith, s.0)))
+      (subst (Contains (g i)) spot (Contains-map f (objects_in h (get_or window i 0)) (object_at h a) there))
 
   -- and nothing else is
-  listed_begin : (p : ℕ) → In (places_to h window (length window)) p → (a : ℕ) × BeginsIn h window a × (place h window a ≡ p)
+  listed_begin : (p : ℕ) → Contains (places_to h window (length window)) p → (a : ℕ) × BeginsIn h window a × (place h window a ≡ p)
   listed_begin p i =
       let g : ℕ → List ℕ = λ i. places_from h (i * h.geometry.w) (get_or window i 0) in
       let m = flat_map_cases g (range_with_len 0 (length window)) p i in
@@ -79,10 +80,9 @@ module _ (h : Heap) (window : List ℕ) (valid : IsValid h) (rising : AreRegions
       let f : Object → ℕ = λ o. n * h.geometry.w + (o.at - start h (get_or window n 0)) in
       let q = map_cases f (objects_in h r) p m.2 in
       let o : Object = q.0 in
-      let c = Contains-from_in (objects_in h r) o q.1 in
-      let home : o.at / w ≡ r = (sound h valid).in_region r o c in
-      let low : r < h.geometry.n = all_in (λ x. x < h.geometry.n) window r rising.below (get_or-In window n 0 lt) in
-      let has_it = in_region_has h r o valid.shaped low c in
+      let home : o.at / w ≡ r = (sound h valid).in_region r o q.1 in
+      let low : r < h.geometry.n = all_in (λ x. x < h.geometry.n) window r rising.below (Contains-get_or window n 0 lt) in
+      let has_it = in_region_has h r o valid.shaped low q.1 in
       let at = read_at window r n rising.rise lt refl in
       let spot : place h window o.at ≡ f o =
       ap (λ x. position window x * w + o.at % w) home ∙ ap (λ x. x * w + o.at % w) (sym at.1) ∙ ap (λ x. n * w + x) (sym (offset_is w o.at).1) ∙ ap (λ x. n * w + (o.at - x * w)) home in

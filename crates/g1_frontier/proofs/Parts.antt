@@ -1,5 +1,5 @@
 -- The bits of the parts of a window that follow one another, joined.
-use Rattle.std.proofs.Common.{◌≡◌, ◌≤◌, ◌<◌, ◌==◌, ℕ, zero, suc, ◌+◌, ◌-◌, ◌*◌, ◌/◌, ◌%◌, ◌^◌, inl, inr, ◌⊎◌, Bool, true, false, cond, List, [], ◌∷◌, ◌++◌, flat_map, take, drop, length, slice_index, get_or}
+use Rattle.std.proofs.Common.{◌≡◌, ◌≤◌, ◌<◌, ◌==◌, ℕ, zero, suc, ◌+◌, ◌-◌, ◌*◌, ◌/◌, ◌%◌, ◌^◌, inl, inr, Bool, true, false, cond, List, [], ◌∷◌, ◌++◌, flat_map, take, drop, length, slice_index, get_or, Contains}
 use Rattle.std.proofs.Common.{refl, sym, ap, ◌∙◌, subst, arith, min, eqb, eq-eqb, ne_eqb, pow-add, true≢false, append-nil}
 use Rattle.std.specs.Global.{Vec}
 use Rattle.std.specs.Int.{bit_at}
@@ -9,7 +9,7 @@ use Rattle.std.proofs.lemmas.Bool.{cases_lt}
 use Rattle.std.proofs.lemmas.List.{get_or_append_left, get_or-append_right, length-append, same_lists, take-append-drop, take_all, drop_all, drop-drop, get_or-take, get_or-drop, get_or-append-add, length-take, length-drop, length-take-le}
 use Rattle.std.proofs.lemmas.List.Kept.{AllPairs-from_increasing}
 use Rattle.std.proofs.Math.Pow.{pow-lt}
-use Rattle.std.proofs.lemmas.List.Elements.{All-take, All-drop}
+use Rattle.std.proofs.lemmas.List.Elements.{All-take, All-drop, Contains-append_left, Contains-append_right, Contains-append_cases}
 use native.Mathlib.Decide.{ℕ_discrete}
 use Rattle.g1_words.specs.Geometry.{IsWithinBounds, most_words}
 use Rattle.g1_words.specs.Heap.{Heap}
@@ -17,7 +17,7 @@ use Rattle.g1_words.specs.Lists.{has}
 use Rattle.g1_words.specs.Marks.{marks_of}
 use Rattle.g1_words.specs.Valid.{IsValid}
 use Rattle.g1_words.proofs.Bits.{length-marks_of, mark_of}
-use Rattle.g1_words.proofs.Members.{In, has_from_in, in_from_has}
+use Rattle.g1_words.proofs.Members.{has_from_contains, Contains-from_has, Contains-later, cons_cases, none_contains}
 use Rattle.g1_words.proofs.Ordered.{Ordered, Ordered-from_pairs}
 use Rattle.g1_work.specs.Regions.{slice_of}
 use Rattle.g1_frontier.specs.Numbers.{BeginsIn, AreStarts, AreBits}
@@ -57,50 +57,35 @@ marks_append xs ys =
 
 -- ---- windows
 
-has_first : (xs ys : List ℕ) (r : ℕ) → In xs r → has (xs ++ ys) r ≡ true
-has_first xs ys r i = has_from_in (xs ++ ys) r (first xs i)
-  where
-    first : (zs : List ℕ) → In zs r → In (zs ++ ys) r
-    first [] k = absurd k
-    first (z ∷ zs) (inl e) = inl e
-    first (z ∷ zs) (inr k) = inr (first zs k)
+has_first : (xs ys : List ℕ) (r : ℕ) → Contains xs r → has (xs ++ ys) r ≡ true
+has_first xs ys r i = has_from_contains (xs ++ ys) r (Contains-append_left xs ys r i)
 
-has_second : (xs ys : List ℕ) (r : ℕ) → In ys r → has (xs ++ ys) r ≡ true
-has_second xs ys r i = has_from_in (xs ++ ys) r (second xs)
-  where
-    second : (zs : List ℕ) → In (zs ++ ys) r
-    second [] = i
-    second (z ∷ zs) = inr (second zs)
+has_second : (xs ys : List ℕ) (r : ℕ) → Contains ys r → has (xs ++ ys) r ≡ true
+has_second xs ys r i = has_from_contains (xs ++ ys) r (Contains-append_right xs ys r i)
 
--- a region of a joined window is in one of the two
-in_either : (xs ys : List ℕ) (r : ℕ) → In (xs ++ ys) r → In xs r ⊎ In ys r
-in_either [] ys r i = inr i
-in_either (x ∷ xs) ys r (inl e) = inl (inl e)
-in_either (x ∷ xs) ys r (inr k) = elim (in_either xs ys r k) [ inl i ↦ inl (inr i) | inr i ↦ inr i ]
-
--- and not in both, if the regions rise
-not_both : (xs ys : List ℕ) (r : ℕ) → Ordered (λ x y. x < y) (xs ++ ys) → In xs r → In ys r → ⊥
-not_both [] ys r o i j = i
-not_both (x ∷ xs) ys r o (inl e) j = let k = o.0 r (in_from_has (xs ++ ys) r (has_second xs ys r j)) in omega (arith, k, e)
-not_both (x ∷ xs) ys r o (inr i) j = not_both xs ys r o.1 i j
+-- a region of a joined window is not in both, if the regions rise
+not_both : (xs ys : List ℕ) (r : ℕ) → Ordered (λ x y. x < y) (xs ++ ys) → Contains xs r → Contains ys r → ⊥
+not_both [] ys r o i j = none_contains r i
+not_both (x ∷ xs) ys r o (zero, b, e) j = let k = o.0 r (Contains-append_right xs ys r j) in omega (arith, k, e)
+not_both (x ∷ xs) ys r o (suc k, b, e) j = not_both xs ys r o.1 (k, omega (arith, b), e) j
 
 -- a region of the first window stands where it stood
-position_first : (xs ys : List ℕ) (r : ℕ) → In xs r → position (xs ++ ys) r ≡ position xs r
-position_first [] ys r i = absurd i
+position_first : (xs ys : List ℕ) (r : ℕ) → Contains xs r → position (xs ++ ys) r ≡ position xs r
+position_first [] ys r i = absurd (omega (arith, i.1))
 position_first (x ∷ xs) ys r i = elim (ℕ_discrete x r) [
   | yes e ↦ ap (λ b. cond b 0 (position (xs ++ ys) r + 1)) (eq-eqb x r e) ∙ sym (ap (λ b. cond b 0 (position xs r + 1)) (eq-eqb x r e))
-  | no d ↦ elim i [
+  | no d ↦ elim (cons_cases x xs r i) [
     | inl e ↦ absurd (d e)
     | inr k ↦ ap (λ n. cond (eqb x r) 0 (n + 1)) (position_first xs ys r k)
   ]
 ]
 
 -- one of the second stands behind the first window
-position_second : (xs ys : List ℕ) (r : ℕ) → (In xs r → ⊥) → position (xs ++ ys) r ≡ length xs + position ys r
+position_second : (xs ys : List ℕ) (r : ℕ) → (Contains xs r → ⊥) → position (xs ++ ys) r ≡ length xs + position ys r
 position_second [] ys r out = omega arith
 position_second (x ∷ xs) ys r out =
-    let rest = position_second xs ys r (λ k. out (inr k)) in
-    ap (λ b. cond b 0 (position (xs ++ ys) r + 1)) (ne_eqb x r (λ e. out (inl e))) ∙ (omega (arith, rest))
+    let rest = position_second xs ys r (λ k. out (Contains-later x xs r k)) in
+    ap (λ b. cond b 0 (position (xs ++ ys) r + 1)) (ne_eqb x r (λ e. out (zero, omega arith, e))) ∙ omega (arith, rest)
 
 -- ---- starts
 
@@ -108,10 +93,10 @@ module _ (h : Heap) (xs ys : List ℕ) (some : 0 < h.geometry.w) (rising : AreRe
   abbrev w : ℕ
   w = h.geometry.w
 
-  place_first : (a : ℕ) → In xs (a / h.geometry.w) → place h (xs ++ ys) a ≡ place h xs a
+  place_first : (a : ℕ) → Contains xs (a / h.geometry.w) → place h (xs ++ ys) a ≡ place h xs a
   place_first a i = ap (λ n. n * w + a % w) (position_first xs ys (a / w) i)
 
-  place_second : (a : ℕ) → (In xs (a / h.geometry.w) → ⊥) → place h (xs ++ ys) a ≡ length xs * h.geometry.w + place h ys a
+  place_second : (a : ℕ) → (Contains xs (a / h.geometry.w) → ⊥) → place h (xs ++ ys) a ≡ length xs * h.geometry.w + place h ys a
   place_second a out = let rows : position (xs ++ ys) (a / w) * w ≡ (length xs + position ys (a / w)) * w = ap (λ n. n * w) (position_second xs ys (a / w) out) in omega (arith, rows)
 
   -- those of two windows that follow one another
@@ -124,12 +109,12 @@ module _ (h : Heap) (xs ys : List ℕ) (some : 0 < h.geometry.w) (rising : AreRe
         only = λ p m. elim (cases_lt p (length s)) [
           | inl left ↦ (
               let b = first.only p (sym (get_or_append_left s t false p left) ∙ m) in
-              let i : In xs (b.0 / w) = in_from_has xs (b.0 / w) b.1.0 in
+              let i : Contains xs (b.0 / w) = Contains-from_has xs (b.0 / w) b.1.0 in
               (b.0, (has_first xs ys (b.0 / w) i, b.1.1), place_first b.0 i ∙ b.2))
           | inr right ↦ (
               let b = second.only (p - length s) (sym (get_or-append_right s t (length s) p false refl right) ∙ m) in
-              let i : In ys (b.0 / w) = in_from_has ys (b.0 / w) b.1.0 in
-              let out : In xs (b.0 / w) → ⊥ = λ k. not_both xs ys (b.0 / w) (Ordered-from_pairs (λ x y. x < y) (xs ++ ys) (AllPairs-from_increasing (xs ++ ys) rising.rise)) k i in
+              let i : Contains ys (b.0 / w) = Contains-from_has ys (b.0 / w) b.1.0 in
+              let out : Contains xs (b.0 / w) → ⊥ = λ k. not_both xs ys (b.0 / w) (Ordered-from_pairs (λ x y. x < y) (xs ++ ys) (AllPairs-from_increasing (xs ++ ys) rising.rise)) k i in
               let at : place h ys b.0 ≡ p - length s = b.2 in
               (b.0, (has_second xs ys (b.0 / w) i, b.1.1), (let e = place_second b.0 out in omega (arith, e, at, exact, right))))
         ];
@@ -137,14 +122,14 @@ module _ (h : Heap) (xs ys : List ℕ) (some : 0 < h.geometry.w) (rising : AreRe
     where
       at_region : (a : ℕ) (b : Bool) → has xs (a / h.geometry.w) ≡ b → BeginsIn h (xs ++ ys) a → get_or (s ++ t) (place h (xs ++ ys) a) false ≡ true
       at_region a true e b =
-          let i : In xs (a / w) = in_from_has xs (a / w) e in
+          let i : Contains xs (a / w) = Contains-from_has xs (a / w) e in
           let low = place_below h xs some a e in
           ap (λ p. get_or (s ++ t) p false) (place_first a i) ∙ get_or_append_left s t false (place h xs a) (omega (arith, low, exact)) ∙ first.each a (e, b.1)
       at_region a false e b =
-          let out : In xs (a / w) → ⊥ = λ k. true≢false (sym (has_from_in xs (a / w) k) ∙ e) in
-          let i : In ys (a / w) = elim (in_either xs ys (a / w) (in_from_has (xs ++ ys) (a / w) b.0)) [ inl k ↦ absurd (out k) | inr k ↦ k ] in
+          let out : Contains xs (a / w) → ⊥ = λ k. true≢false (sym (has_from_contains xs (a / w) k) ∙ e) in
+          let i : Contains ys (a / w) = elim (Contains-append_cases xs ys (a / w) (Contains-from_has (xs ++ ys) (a / w) b.0)) [ inl k ↦ absurd (out k) | inr k ↦ k ] in
           let behind : place h (xs ++ ys) a ≡ length s + place h ys a = (let e = place_second a out in omega (arith, e, exact)) in
-          ap (λ p. get_or (s ++ t) p false) behind ∙ get_or-append-add s t (place h ys a) false ∙ second.each a (has_from_in ys (a / w) i, b.1)
+          ap (λ p. get_or (s ++ t) p false) behind ∙ get_or-append-add s t (place h ys a) false ∙ second.each a (has_from_contains ys (a / w) i, b.1)
 
       each_of : (a : ℕ) → BeginsIn h (xs ++ ys) a → get_or (s ++ t) (place h (xs ++ ys) a) false ≡ true
       each_of a b = at_region a (has xs (a / h.geometry.w)) refl b

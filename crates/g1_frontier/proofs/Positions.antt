@@ -1,14 +1,14 @@
 -- The table that tells where each region stands in the window.
-use Rattle.std.proofs.Common.{◌≡◌, ◌≢◌, ℕ, ◌+◌, ◌-◌, ◌*◌, ◌/◌, ◌%◌, ◌<◌, ◌≤◌, inl, inr, Bool, true, false, cond, List, length, get_or, set, replicate, refl, sym, ◌∙◌, ap, subst}
+use Rattle.std.proofs.Common.{◌≡◌, ◌≢◌, ℕ, ◌+◌, ◌-◌, ◌*◌, ◌/◌, ◌%◌, ◌<◌, ◌≤◌, inl, inr, Bool, true, false, cond, List, length, get_or, set, replicate, refl, sym, ◌∙◌, ap, subst, Contains}
 use Rattle.std.proofs.Common.{arith, div-add-mod'}
 use Rattle.std.proofs.lemmas.Bool.{cases_lt}
 use Rattle.std.proofs.lemmas.List.{get_or-set_same, get_or-set_other}
 use Rattle.std.proofs.lemmas.List.Kept.{AllPairs-from_increasing}
 use Rattle.std.specs.List.Sorted.{IsStrictlyIncreasing}
+use Rattle.std.proofs.lemmas.List.Elements.{Contains-get_or}
 use Rattle.g1_words.specs.Lists.{has}
-use Rattle.g1_words.proofs.Members.{In, has_from_in, in_from_has}
+use Rattle.g1_words.proofs.Members.{has_from_contains, Contains-from_has}
 use Rattle.g1_words.proofs.Lists.{same_there}
-use Rattle.g1_words.proofs.Indices.{get_or-In}
 use Rattle.g1_frontier.specs.Window.{AreWindowPositions, position}
 use Rattle.g1_frontier.proofs.Places.{stands}
 
@@ -42,10 +42,10 @@ Noted-end window n positions e k r = at (has window r) refl
   where
     at : (b : Bool) → has window r ≡ b → get_or positions r 0 ≡ cond (has window r) (position window r + 1) 0
     at true t =
-        let s = stands window r (in_from_has window r t) in
+        let s = stands window r (Contains-from_has window r t) in
         ap (λ x. get_or positions x 0) (sym s.1) ∙ k.noted (position window r) (omega (arith, s.0, e)) ∙ ap (λ b. cond b (position window r + 1) 0) (sym t)
     at false f =
-        k.other r (λ p below same. not_both (sym (has_from_in window r (subst (In window) same (get_or-In window p 0 (omega (arith, below, e))))) ∙ f))
+        k.other r (λ p below same. not_both (sym (has_from_contains window r (subst (Contains window) same (Contains-get_or window p 0 (omega (arith, below, e))))) ∙ f))
         ∙ ap (λ b. cond b (position window r + 1) 0) (sym f)
       where
         not_both : true ≡ false → ⊥

@@ -3,10 +3,10 @@ use Rattle.std.proofs.Common.{◌≡◌, ◌≤◌, ◌<◌, ℕ, ◌+◌, ◌*�
 use Rattle.std.proofs.Common.{flat_map, map, length, take, drop, get_or, Contains, refl, sym, ap, subst, ◌∙◌, arith, All, append_assoc, append-nil, length-append, length-set, get_or-set_same, get_or-set_other, true≢false}
 use Rattle.std.proofs.lemmas.Bool.{cases_lt}
 use Rattle.std.proofs.lemmas.Nat.{le-div}
-use Rattle.std.proofs.lemmas.List.{map-append, take_more, flat_map_more, length-replicate}
+use Rattle.std.proofs.lemmas.List.{map-append, take_more, flat_map_more, length-replicate, take-append-le}
 use Rattle.std.proofs.lemmas.List.Folds.{flat_map-map}
 use Rattle.std.proofs.lemmas.Grind.{flat_map-append}
-use Rattle.std.proofs.lemmas.List.Elements.{All-append, All-cons, All-nil}
+use Rattle.std.proofs.lemmas.List.Elements.{All-append, All-cons, All-nil, Contains-append_cases}
 use Rattle.g1_words.specs.Geometry.{most_words}
 use Rattle.g1_words.specs.declared.object.Object.{Object}
 use Rattle.g1_words.specs.Heap.{word, object_at, objects, slots}
@@ -16,10 +16,11 @@ use Rattle.g1_words.specs.Live.{Reached, seed, child}
 use Rattle.g1_words.specs.References.{named}
 use Rattle.g1_words.specs.Survivors.{Survivors, firsts, seeds, children}
 use Rattle.g1_words.proofs.Firsts.{Distinct, Distinct-firsts, firsts_member, firsts-append}
-use Rattle.g1_words.proofs.Members.{In, In-from_contains, Contains-from_in, In-append_cases, flat_map_cases}
+use Rattle.g1_words.proofs.Members.{flat_map_cases}
 use Rattle.g1_words.proofs.OneToOne.{reached_object}
 use Rattle.g1_words.proofs.Sound.{sound}
 use Rattle.g1_words.proofs.Lists.{has_more, same_there, all_from_in}
+use Rattle.g1_words.proofs.Indices.{taken_in}
 use Rattle.g1_rem.specs.Slots.{slots_on}
 use Rattle.g1_frontier.specs.declared.queue.Queue.{Queue}
 use Rattle.g1_frontier.specs.declared.scope.Scope.{Scope}
@@ -32,10 +33,10 @@ use Rattle.g1_frontier.proofs.Finding.{same_test}
 use Rattle.g1_frontier.proofs.Marks.{firsts_again, firsts_more}
 use Rattle.g1_frontier.proofs.Places.{past_regions}
 use Rattle.g1_frontier.proofs.Names.{size_small}
-use Rattle.g1_frontier.proofs.Scopes.{apart, below, some_words, all_of_map}
+use Rattle.g1_frontier.proofs.Scopes.{apart, below, some_words, all_of_map, Contains-drop}
 use Rattle.g1_frontier.proofs.Searching.{distinct_few}
 use Rattle.g1_frontier.proofs.Seeds.{filter_flat, flat_same, leads_named, seeds_named}
-use Rattle.g1_frontier.proofs.Turns.{take_longer, take_parts, in_front, in_rest, ends}
+use Rattle.g1_frontier.proofs.Turns.{take_parts, ends}
 use mathlib.Core.List.{map-map}
 
 -- ---- first occurrences
@@ -92,7 +93,7 @@ module _ (s : Scope) (ok : IsScope s) where
   pub found_small : (q : Queue) → HasFound s q → length q.found.items ≤ most_words
   found_small q f =
       let found : List ℕ = q.found.items in
-      let in_window : (a : ℕ) → In found a → inside s a ≡ true = λ a i. let c = Contains-from_in found a i in subst (λ b. inside s b ≡ true) c.2 (f.within c.0 a c.1) in
+      let in_window : (a : ℕ) → Contains found a → inside s a ≡ true = λ a i. subst (λ b. inside s b ≡ true) i.2 (f.within i.0 a i.1) in
       let few = distinct_few found (s.heap.now.geometry.n * s.heap.now.geometry.w) (subst Distinct (sym f.once) (Distinct-firsts found)) (λ a i. inside_below a (in_window a i)) in
       omega (arith, few, ok.valid.limits.words_most)
 
@@ -168,8 +169,8 @@ module _ (s : Scope) (ok : IsScope s) where
   object_children : (a : ℕ) → object_names s (object_at s.heap.now a) ≡ children s.heap.now s.window.now a
   object_children a = sym (filter_flat (inside s) (λ p. named (word s.heap.now p)) (slots (object_at s.heap.now a)))
 
-  in_found : (q : Queue) (xs : List ℕ) (a : ℕ) → q.found.items ≡ firsts xs → Contains q.found.items a → In xs a
-  in_found q xs a e i = firsts_member xs a (subst (λ l. In l a) e (In-from_contains q.found.items a i))
+  in_found : (q : Queue) (xs : List ℕ) (a : ℕ) → q.found.items ≡ firsts xs → Contains q.found.items a → Contains xs a
+  in_found q xs a e i = firsts_member xs a (subst (λ l. Contains l a) e i)
 
   -- the seeds are found
   pub begun : (cards : List ℕ) → AreCards s.heap.now cards → AreOutside s.heap.now s.window.now cards → LeadIn s.heap.now s.window.now cards →
@@ -185,7 +186,7 @@ module _ (s : Scope) (ok : IsScope s) where
         queue = y.queue;
         from = omega arith;
         in_order = e ∙ ap firsts (sym (append-nil (seeds h s.window.now)));
-        reached = λ x i. seed (Contains-from_in (seeds h s.window.now) x (in_found c (seeds h s.window.now) x e i));
+        reached = λ x i. seed (in_found c (seeds h s.window.now) x e i);
       }
 
   -- n of what was found are searched, from one on
@@ -193,8 +194,8 @@ module _ (s : Scope) (ok : IsScope s) where
     abbrev batch : List ℕ
     batch = take n (drop from a.found.items)
 
-    batch_reached : (c : ℕ) → In (take n (drop from a.found.items)) c → Reached (seeds s.heap.now s.window.now) (children s.heap.now s.window.now) c
-    batch_reached c i = u.reached c (Contains-from_in a.found.items c (in_rest from a.found.items c (in_front n (drop from a.found.items) c i)))
+    batch_reached : (c : ℕ) → Contains (take n (drop from a.found.items)) c → Reached (seeds s.heap.now s.window.now) (children s.heap.now s.window.now) c
+    batch_reached c i = u.reached c (Contains-drop from a.found.items c (taken_in n (drop from a.found.items) c i))
 
     -- they are objects
     pub batch_objects : All (λ c. Contains (objects s.heap.now) (object_at s.heap.now c)) (take n (drop from a.found.items))
@@ -219,7 +220,7 @@ module _ (s : Scope) (ok : IsScope s) where
         → HasNoted s (flat_map (object_names s) (map (object_at s.heap.now) (take n (drop from a.found.items)))) a b
         → take to b.found.items ≡ take from a.found.items ++ take n (drop from a.found.items)
     batch_behind to sum b le x =
-        ap (take to) (found_stays b x) ∙ take_longer to a.found.items behind le ∙ ap (λ k. take k a.found.items) (sym sum) ∙ take_parts from n a.found.items
+        ap (take to) (found_stays b x) ∙ take-append-le to a.found.items behind le ∙ ap (λ k. take k a.found.items) (sym sum) ∙ take_parts from n a.found.items
 
     -- its sizes are listed behind those before
     pub batch_sized : (to : ℕ) → from + n ≡ to → (b : Queue) → to ≤ length a.found.items
@@ -252,12 +253,12 @@ module _ (s : Scope) (ok : IsScope s) where
           in_order =
               e ∙ ap (λ l. firsts (l ++ more)) u.in_order ∙ firsts_more (first_seeds ++ front) more
               ∙ ap firsts (append_assoc first_seeds front more ∙ ap (λ l. first_seeds ++ l) whole);
-          reached = λ c i. elim (In-append_cases a.found.items more c (in_found b (a.found.items ++ more) c e i)) [
-            | inl j ↦ u.reached c (Contains-from_in a.found.items c j)
-            | inr j ↦ let m = flat_map_cases next_of batch c j in child (batch_reached m.0 m.1) (Contains-from_in (next_of m.0) c m.2)
+          reached = λ c i. elim (Contains-append_cases a.found.items more c (in_found b (a.found.items ++ more) c e i)) [
+            | inl j ↦ u.reached c j
+            | inr j ↦ let m = flat_map_cases next_of batch c j in child (batch_reached m.0 m.1) m.2
           ];
         }
 
   -- all are searched
   pub searched : (from : ℕ) (q : Queue) → IsUnderWay s from q → length q.found.items ≤ from → Survivors s.heap.now s.window.now q.found.items
-  searched from q u le = ends first_seeds next_of q.found.items from le u.in_order (λ a i. u.reached a (Contains-from_in q.found.items a i))
+  searched from q u le = ends first_seeds next_of q.found.items from le u.in_order u.reached

@@ -1,5 +1,5 @@
 -- The ranks of a round, and what it names.
-use Rattle.std.proofs.Common.{◌≡◌, ℕ, zero, suc, ◌+◌, ◌-◌, ◌<◌, ◌≤◌, ◌%◌, ◌^◌, inl, inr, Bool, true, false, cond, List, [], ◌∷◌, ◌++◌, map, filter, flat_map, length, get_or, sum_by, arith}
+use Rattle.std.proofs.Common.{◌≡◌, ℕ, zero, suc, ◌+◌, ◌-◌, ◌<◌, ◌≤◌, ◌%◌, ◌^◌, inl, inr, Bool, true, false, cond, List, [], ◌∷◌, ◌++◌, map, filter, flat_map, length, get_or, sum_by, arith, Contains}
 use Rattle.std.proofs.Common.{refl, sym, ap, subst, ◌∙◌, append_assoc, length-append, eqb}
 use Rattle.std.specs.List.{range_with_len}
 use Rattle.std.proofs.lemmas.List.Sums.{sum_by-cons}
@@ -7,11 +7,12 @@ use Rattle.std.proofs.lemmas.Grind.{flat_map-append}
 use Rattle.std.proofs.lemmas.List.Kept.{AllPairs-from_increasing}
 use Rattle.std.proofs.lemmas.List.Folds.{flat_map-map}
 use Rattle.std.proofs.lemmas.List.{map-append}
+use Rattle.std.proofs.lemmas.List.Elements.{Contains-append_cases}
 use Rattle.g1_words.specs.Heap.{Heap, word, slots, object_at, card_of}
 use Rattle.g1_words.specs.References.{named}
 use Rattle.g1_words.specs.Survivors.{in_set, children, seeds}
 use Rattle.g1_words.specs.Valid.{IsValid}
-use Rattle.g1_words.proofs.Members.{In, In-append_cases, map_cases, flat_map_cases}
+use Rattle.g1_words.proofs.Members.{map_cases, flat_map_cases, Contains-later, none_contains}
 use Rattle.g1_words.proofs.Ordered.{Ordered, Ordered-from_pairs}
 use Rattle.g1_words.proofs.Rising.{Ordered-append, Ordered-flat_map, Ordered-filter, Ordered-range}
 use Rattle.g1_words.proofs.Computed.{range_above, range_below}
@@ -27,11 +28,11 @@ use Rattle.g1_frontier.proofs.Seeds.{filter_flat, map_flat, seeds_named, slots_o
 module _ (h : Heap) (window : List ℕ) where
   -- ---- one word
 
-  aims_rank : (rank x : ℕ) (q : ℕ × ℕ) → In (aims h window rank x) q → q.0 ≡ rank
+  aims_rank : (rank x : ℕ) (q : ℕ × ℕ) → Contains (aims h window rank x) q → q.0 ≡ rank
   aims_rank rank x q i = let m = map_cases (λ a. (rank, a)) (filter (in_set h window) (named x)) q i in sym (ap (λ (r : ℕ × ℕ). r.0) m.2)
 
   aims_ordered_at : (rank a : ℕ) (b : Bool) → Ordered RankLess (map (λ a. (rank, a)) (cond b (a ∷ []) []))
-  aims_ordered_at rank a true = ((λ y i. absurd i), tt)
+  aims_ordered_at rank a true = ((λ y i. absurd (none_contains y i)), tt)
   aims_ordered_at rank a false = tt
 
   aims_ordered : (rank x : ℕ) → Ordered RankLess (aims h window rank x)
@@ -58,7 +59,7 @@ module _ (h : Heap) (window : List ℕ) where
         same [] = refl
         same (y ∷ ys) = λ i. addresses_back (rank y) (filter (in_set h window) (named (word_at y))) i ++ same ys i
 
-    aimed_rank : (xs : List ℕ) (q : ℕ × ℕ) → In (flat_map (λ p. aims h window (rank p) (word_at p)) xs) q → (p : ℕ) × In xs p × (q.0 ≡ rank p)
+    aimed_rank : (xs : List ℕ) (q : ℕ × ℕ) → Contains (flat_map (λ p. aims h window (rank p) (word_at p)) xs) q → (p : ℕ) × Contains xs p × (q.0 ≡ rank p)
     aimed_rank xs q i = let m = flat_map_cases (λ p. aims h window (rank p) (word_at p)) xs q i in (m.0, m.1, aims_rank (rank m.0) (word_at m.0) q m.2)
 
     aimed_ordered : (xs : List ℕ) → Ordered (λ x y. rank x < rank y) xs → Ordered RankLess (flat_map (λ p. aims h window (rank p) (word_at p)) xs)
@@ -68,16 +69,16 @@ module _ (h : Heap) (window : List ℕ) where
 
   -- ---- objects
 
-  range_ranks : (base a n : ℕ) (xs : List ℕ) → ((p : ℕ) → In xs p → a ≤ p) → Ordered (λ x y. x < y) xs → Ordered (λ x y. base + (x - a) < base + (y - a)) xs
+  range_ranks : (base a n : ℕ) (xs : List ℕ) → ((p : ℕ) → Contains xs p → a ≤ p) → Ordered (λ x y. x < y) xs → Ordered (λ x y. base + (x - a) < base + (y - a)) xs
   range_ranks base a n [] low o = tt
-  range_ranks base a n (x ∷ xs) low o = ((λ y i. omega (arith, o.0 y i, low x (inl refl))), range_ranks base a n xs (λ p i. low p (inr i)) o.1)
+  range_ranks base a n (x ∷ xs) low o = ((λ y i. omega (arith, o.0 y i, low x (zero, omega arith, refl))), range_ranks base a n xs (λ p i. low p (suc i.0, omega (arith, i.1), i.2)) o.1)
 
   object_ordered : (a base : ℕ) → Ordered RankLess (pairs h window (Object a base))
   object_ordered a base =
       aimed_ordered (λ p. base + (p - (a + 1))) (word h) (slots (object_at h a))
       (range_ranks base (a + 1) (word h a % 2 ^ 32) (slots (object_at h a)) (λ p i. range_above (a + 1) (word h a % 2 ^ 32) p i) (Ordered-range (a + 1) (word h a % 2 ^ 32)))
 
-  object_range : (a base : ℕ) (q : ℕ × ℕ) → In (pairs h window (Object a base)) q → (base ≤ q.0) × (q.0 < base + slot_count h a)
+  object_range : (a base : ℕ) (q : ℕ × ℕ) → Contains (pairs h window (Object a base)) q → (base ≤ q.0) × (q.0 < base + slot_count h a)
   object_range a base q i =
       let m = aimed_rank (λ p. base + (p - (a + 1))) (word h) (slots (object_at h a)) q i in
       let low = range_above (a + 1) (word h a % 2 ^ 32) m.0 m.1 in
@@ -85,9 +86,9 @@ module _ (h : Heap) (window : List ℕ) where
       let e = m.2 in
       (omega (arith, e), omega (arith, e, low, high))
 
-  pub objects_range : (base : ℕ) (all_of : List ℕ) (q : ℕ × ℕ) → In (all_pairs h window (object_items h base all_of)) q → (base ≤ q.0) × (q.0 < base + sum_by (slot_count h) all_of)
-  objects_range base [] q i = absurd i
-  objects_range base (a ∷ rest) q i = elim (In-append_cases (pairs h window (Object a base)) (all_pairs h window (object_items h (base + slot_count h a) rest)) q i) [
+  pub objects_range : (base : ℕ) (all_of : List ℕ) (q : ℕ × ℕ) → Contains (all_pairs h window (object_items h base all_of)) q → (base ≤ q.0) × (q.0 < base + sum_by (slot_count h) all_of)
+  objects_range base [] q i = absurd (omega (arith, i.1))
+  objects_range base (a ∷ rest) q i = elim (Contains-append_cases (pairs h window (Object a base)) (all_pairs h window (object_items h (base + slot_count h a) rest)) q i) [
     | inl k ↦ let r = object_range a base q k in let s = sum_by-cons (slot_count h) a rest in (r.0, omega (arith, r.1, s))
     | inr k ↦ let r = objects_range (base + slot_count h a) rest q k in let s = sum_by-cons (slot_count h) a rest in (omega (arith, r.0), omega (arith, r.1, s))
   ]
@@ -104,10 +105,10 @@ module _ (h : Heap) (window : List ℕ) where
       map-append (λ (q : ℕ × ℕ). q.1) (pairs h window (Object a base)) (all_pairs h window (object_items h (base + slot_count h a) rest))
       ∙ (λ i. aimed_names (λ p. base + (p - (a + 1))) (word h) (slots (object_at h a)) i ++ objects_name (base + slot_count h a) rest i)
 
-  pub objects_some : (base : ℕ) (all_of : List ℕ) (i : Item) → In (object_items h base all_of) i → (a : ℕ) × (b : ℕ) × In all_of a × (Object a b ≡ i)
-  objects_some base [] i k = absurd k
-  objects_some base (a ∷ rest) i (inl e) = (a, base, inl refl, e)
-  objects_some base (a ∷ rest) i (inr k) = let m = objects_some (base + slot_count h a) rest i k in (m.0, m.1, inr m.2, m.3)
+  pub objects_some : (base : ℕ) (all_of : List ℕ) (i : Item) → Contains (object_items h base all_of) i → (a : ℕ) × (b : ℕ) × Contains all_of a × (Object a b ≡ i)
+  objects_some base [] i k = absurd (omega (arith, k.1))
+  objects_some base (a ∷ rest) i (zero, b, e) = (a, base, (zero, omega arith, refl), e)
+  objects_some base (a ∷ rest) i (suc j, b, e) = let m = objects_some (base + slot_count h a) rest i (j, omega (arith, b), e) in (m.0, m.1, Contains-later a rest m.0 m.2, m.3)
 
   pub objects_count : (base : ℕ) (all_of : List ℕ) → length (object_items h base all_of) ≡ length all_of
   objects_count base [] = refl
@@ -135,9 +136,9 @@ module _ (h : Heap) (window : List ℕ) where
       ∙ aimed_names (λ n. n) (λ n. get_or h.roots n 0) (range_with_len 0 (length h.roots))
       ∙ ap (filter (in_set h window)) (read_range named [] h.roots)
 
-  roots_rank : (n : ℕ) (q : ℕ × ℕ) → In (all_pairs h window (root_items n)) q → q.0 < n
+  roots_rank : (n : ℕ) (q : ℕ × ℕ) → Contains (all_pairs h window (root_items n)) q → q.0 < n
   roots_rank n q i =
-      let m = aimed_rank (λ n. n) (λ n. get_or h.roots n 0) (range_with_len 0 n) q (subst (λ l. In l q) (roots_pairs (range_with_len 0 n)) i) in
+      let m = aimed_rank (λ n. n) (λ n. get_or h.roots n 0) (range_with_len 0 n) q (subst (λ l. Contains l q) (roots_pairs (range_with_len 0 n)) i) in
       let k = range_below 0 n m.0 m.1 in let e = m.2 in omega (arith, k, e)
 
   roots_rise : (n : ℕ) → Ordered RankLess (all_pairs h window (root_items n))
@@ -149,7 +150,7 @@ module _ (h : Heap) (window : List ℕ) where
     cards_pairs : all_pairs h window (map (λ c. Card c base) cards) ≡ flat_map (λ c. flat_map (λ p. aims h window (base + p) (word h p)) (slots_on h c)) cards
     cards_pairs = flat_map-map (pairs h window) (λ c. Card c base) cards
 
-    card_rank : (c : ℕ) (q : ℕ × ℕ) → In (flat_map (λ p. aims h window (base + p) (word h p)) (slots_on h c)) q → (p : ℕ) × In (slots_on h c) p × (q.0 ≡ base + p)
+    card_rank : (c : ℕ) (q : ℕ × ℕ) → Contains (flat_map (λ p. aims h window (base + p) (word h p)) (slots_on h c)) q → (p : ℕ) × Contains (slots_on h c) p × (q.0 ≡ base + p)
     card_rank c q i = aimed_rank (λ p. base + p) (word h) (slots_on h c) q i
 
     shifted : (xs : List ℕ) → Ordered (λ x y. x < y) xs → Ordered (λ x y. base + x < base + y) xs
@@ -162,16 +163,16 @@ module _ (h : Heap) (window : List ℕ) where
         (Ordered-flat_map (λ x y. x < y) RankLess (λ c. flat_map (λ p. aims h window (base + p) (word h p)) (slots_on h c)) cards
         (Ordered-from_pairs (λ x y. x < y) cards (AllPairs-from_increasing cards rising.rise))
         (λ c i. aimed_ordered (λ p. base + p) (word h) (slots_on h c) (shifted (slots_on h c)
-        (Ordered-filter (λ x y. x < y) (λ p. eqb (card_of h p) c) (all_slots h) (slots_ordered h window cards valid rising outside lead_in))))
+        (Ordered-filter (λ x y. x < y) (λ p. eqb (card_of h p) c) (all_slots h) (slots_ordered h valid))))
         (λ c d a b i j lt k l.
         let m = card_rank c a k in
         let n = card_rank d b l in
-        let less = apart h window cards valid rising outside lead_in c d m.0 n.0 lt m.1 n.1 in
+        let less = apart h valid c d m.0 n.0 lt m.1 n.1 in
         let e = m.2 in let f = n.2 in omega (arith, less, e, f)))
 
-    cards_range : (q : ℕ × ℕ) → In (all_pairs h window (map (λ c. Card c base) cards)) q → (base ≤ q.0) × (q.0 < base + length h.words)
+    cards_range : (q : ℕ × ℕ) → Contains (all_pairs h window (map (λ c. Card c base) cards)) q → (base ≤ q.0) × (q.0 < base + length h.words)
     cards_range q i =
-        let m = flat_map_cases (λ c. flat_map (λ p. aims h window (base + p) (word h p)) (slots_on h c)) cards q (subst (λ l. In l q) cards_pairs i) in
+        let m = flat_map_cases (λ c. flat_map (λ p. aims h window (base + p) (word h p)) (slots_on h c)) cards q (subst (λ l. Contains l q) cards_pairs i) in
         let n = card_rank m.0 q m.2 in
         let low = slot_in_words h valid m.0 n.0 n.1 in
         let e = n.2 in (omega (arith, e), omega (arith, e, low))
@@ -197,11 +198,12 @@ module _ (h : Heap) (window : List ℕ) where
         (roots_rise (length h.roots)) (cards_rise valid cards rising outside lead_in (length h.roots))
         (λ q r i j. let a = roots_rank (length h.roots) q i in let b = cards_range valid cards rising outside lead_in (length h.roots) r j in omega (arith, a, b.0)))
 
-    pub first_range : (q : ℕ × ℕ) → In (all_pairs h window (first_items (length h.roots) cards)) q → q.0 < length h.roots + length h.words
-    first_range q i = elim (In-append_cases (all_pairs h window (root_items (length h.roots))) (all_pairs h window (map (λ c. Card c (length h.roots)) cards)) q (subst (λ l. In l q) split i)) [
-      | inl k ↦ let a = roots_rank (length h.roots) q k in omega (arith, a)
-      | inr k ↦ (cards_range valid cards rising outside lead_in (length h.roots) q k).1
-    ]
+    pub first_range : (q : ℕ × ℕ) → Contains (all_pairs h window (first_items (length h.roots) cards)) q → q.0 < length h.roots + length h.words
+    first_range q i = elim (Contains-append_cases (all_pairs h window (root_items (length h.roots))) (all_pairs h window (map (λ c. Card c (length h.roots)) cards)) q
+        (subst (λ l. Contains l q) split i)) [
+          | inl k ↦ let a = roots_rank (length h.roots) q k in omega (arith, a)
+          | inr k ↦ (cards_range valid cards rising outside lead_in (length h.roots) q k).1
+        ]
 
     pub first_name : map (λ (q : ℕ × ℕ). q.1) (all_pairs h window (first_items (length h.roots) cards)) ≡ seeds h window
     first_name =

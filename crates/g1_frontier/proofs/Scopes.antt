@@ -1,5 +1,5 @@
 -- What belongs together in a search, and what is read from it.
-use Rattle.std.proofs.Common.{◌≡◌, ◌≤◌, ◌<◌, ℕ, zero, suc, ◌+◌, ◌*◌, inl, inr, Bool, true, false, cond, List, [], ◌∷◌, length, get_or, take, drop, map, flat_map, arith, refl, sym, ap, subst, ◌∙◌}
+use Rattle.std.proofs.Common.{◌≡◌, ◌≤◌, ◌<◌, ℕ, zero, suc, ◌+◌, ◌*◌, Bool, true, false, cond, List, [], ◌∷◌, length, get_or, take, drop, map, flat_map, arith, refl, sym, ap, subst, ◌∙◌, Contains}
 use Rattle.std.specs.List.{All}
 use Rattle.std.proofs.lemmas.List.Kept.{AllPairs-from_increasing}
 use Rattle.std.proofs.lemmas.List.{take_all, get_or_default}
@@ -9,7 +9,7 @@ use Rattle.g1_words.specs.Geometry.{most_words}
 use Rattle.g1_words.specs.References.{named}
 use Rattle.g1_words.specs.Valid.{IsReference}
 use Rattle.g1_words.proofs.Sound.{reference_named}
-use Rattle.g1_words.proofs.Members.{In, In-flat_map, flat_map_cases}
+use Rattle.g1_words.proofs.Members.{Contains-flat_map, flat_map_cases, map_cases}
 use Rattle.g1_words.proofs.Ordered.{Ordered, Ordered-from_pairs}
 use Rattle.g1_words.proofs.Lists.{all_in, all_from_in}
 use Rattle.g1_frontier.specs.declared.scope.Scope.{Scope}
@@ -36,36 +36,32 @@ names_inside s x a e t = let f : x ≡ suc a = omega (arith, e) in ap (names_in 
 pub read : {A : Type 0} (xs : List A) (i j : ℕ) (o v d : A) → i ≡ j → j < length xs → o ≡ get_or xs i o → o ≡ v → get_or xs j d ≡ v
 read xs i j o v d same lt e f = get_or_default xs j d o lt ∙ ap (λ k. get_or xs k o) (sym same) ∙ sym e ∙ f
 
-pub all_map : {A B : Type 0} (P : B → Type 0) (f : A → B) (xs : List A) → ((x : A) → In xs x → P (f x)) → All P (map f xs)
-all_map P f xs h = all_from_in P (map f xs) (λ y i. let m = Rattle.g1_words.proofs.Members.map_cases f xs y i in subst P m.2 (h m.0 m.1))
+pub all_map : {A B : Type 0} (P : B → Type 0) (f : A → B) (xs : List A) → ((x : A) → Contains xs x → P (f x)) → All P (map f xs)
+all_map P f xs h = all_from_in P (map f xs) (λ y i. let m = map_cases f xs y i in subst P m.2 (h m.0 m.1))
 
 pub all_of_map : {A B : Type 0} (P : B → Type 0) (f : A → B) (xs : List A) → All (λ x. P (f x)) xs → All P (map f xs)
 all_of_map P f xs h = all_map P f xs (λ x i. all_in (λ x. P (f x)) xs x h i)
 
--- a list among those that were put together
-pub part_all : {A : Type 0} (P : ℕ → Type 0) (f : A → List ℕ) (xs : List A) (x : A) → All P (flat_map f xs) → In xs x → All P (f x)
-part_all P f xs x h i = all_from_in P (f x) (λ y j. all_in P (flat_map f xs) y h (In-flat_map f xs x y i j))
-
 -- what holds of lists that were put together holds of each
-pub all_part : {A B : Type 0} (P : B → Type 0) (f : A → List B) (xs : List A) (x : A) → All P (flat_map f xs) → In xs x → All P (f x)
-all_part P f xs x h i = all_from_in P (f x) (λ y j. all_in P (flat_map f xs) y h (In-flat_map f xs x y i j))
+pub all_part : {A B : Type 0} (P : B → Type 0) (f : A → List B) (xs : List A) (x : A) → All P (flat_map f xs) → Contains xs x → All P (f x)
+all_part P f xs x h i = all_from_in P (f x) (λ y j. all_in P (flat_map f xs) y h (Contains-flat_map f xs x y i j))
 
-pub all_some : {A B : Type 0} (P : B → Type 0) (f : A → List B) (xs ys : List A) → ((x : A) → In ys x → In xs x) → All P (flat_map f xs) → All P (flat_map f ys)
-all_some P f xs ys s h = all_from_in P (flat_map f ys) (λ y j. let m = flat_map_cases f ys y j in all_in P (flat_map f xs) y h (In-flat_map f xs m.0 y (s m.0 m.1) m.2))
+pub all_some : {A B : Type 0} (P : B → Type 0) (f : A → List B) (xs ys : List A) → ((x : A) → Contains ys x → Contains xs x) → All P (flat_map f xs) → All P (flat_map f ys)
+all_some P f xs ys s h = all_from_in P (flat_map f ys) (λ y j. let m = flat_map_cases f ys y j in all_in P (flat_map f xs) y h (Contains-flat_map f xs m.0 y (s m.0 m.1) m.2))
 
-pub In-drop : {A : Type 0} (n : ℕ) (xs : List A) (x : A) → In (drop n xs) x → In xs x
-In-drop zero xs x i = i
-In-drop (suc n) [] x i = i
-In-drop (suc n) (y ∷ ys) x i = inr (In-drop n ys x i)
+pub Contains-drop : {A : Type 0} (n : ℕ) (xs : List A) (x : A) → Contains (drop n xs) x → Contains xs x
+Contains-drop zero xs x i = i
+Contains-drop (suc n) [] x i = i
+Contains-drop (suc n) (y ∷ ys) x i = let m = Contains-drop n ys x i in (suc m.0, omega (arith, m.1), m.2)
 
 -- ---- counts
 
-rising_from : (lo bound : ℕ) (xs : List ℕ) → Ordered (λ x y. x < y) xs → ((x : ℕ) → In xs x → lo ≤ x) → ((x : ℕ) → In xs x → x < bound) → lo ≤ bound → lo + length xs ≤ bound
+rising_from : (lo bound : ℕ) (xs : List ℕ) → Ordered (λ x y. x < y) xs → ((x : ℕ) → Contains xs x → lo ≤ x) → ((x : ℕ) → Contains xs x → x < bound) → lo ≤ bound → lo + length xs ≤ bound
 rising_from lo bound [] o low high le = omega (arith, le)
 rising_from lo bound (x ∷ xs) o low high le =
-    let a = low x (inl refl) in
-    let b = high x (inl refl) in
-    let r = rising_from (x + 1) bound xs o.1 (λ y i. let k = o.0 y i in omega (arith, k)) (λ y i. high y (inr i)) (omega (arith, b)) in
+    let a = low x (zero, omega arith, refl) in
+    let b = high x (zero, omega arith, refl) in
+    let r = rising_from (x + 1) bound xs o.1 (λ y i. let k = o.0 y i in omega (arith, k)) (λ y i. high y (suc i.0, omega (arith, i.1), i.2)) (omega (arith, b)) in
     omega (arith, a, r)
 
 -- there are no more than the bound
@@ -106,4 +102,4 @@ module _ (s : Scope) (ok : IsScope s) where
   pub begins : (x a : ℕ) → IsReference s.heap.now x → x ≡ a + 1 → inside s a ≡ true → BeginsIn s.heap.now s.window.now a
   begins x a r e i =
       let f : suc a ≡ x = omega (arith, e) in
-      (i, reference_named s.heap.now x a ok.valid r (subst (λ y. In (named y) a) f (inl refl)))
+      (i, reference_named s.heap.now x a ok.valid r (subst (λ y. Contains (named y) a) f (zero, omega arith, refl)))

@@ -1,5 +1,5 @@
 -- A search from round to round.
-use Rattle.std.proofs.Common.{◌≡◌, ◌≢◌, ℕ, suc, ◌+◌, ◌*◌, ◌<◌, ◌≤◌, ◌^◌, inl, inr, ◌⊎◌, List, [], ◌∷◌, ◌++◌, map, flat_map, length, take, drop, sum_by, refl, sym, ap, subst, ◌∙◌}
+use Rattle.std.proofs.Common.{◌≡◌, ◌≢◌, ℕ, suc, ◌+◌, ◌*◌, ◌<◌, ◌≤◌, ◌^◌, inl, inr, ◌⊎◌, List, [], ◌∷◌, ◌++◌, map, flat_map, length, take, drop, sum_by, refl, sym, ap, subst, ◌∙◌, zero}
 use Rattle.std.proofs.Common.{arith, All, Contains, length-append, get_or, take-append-drop}
 use Rattle.std.specs.List.{range_with_len}
 use Rattle.std.proofs.Math.Nat.{div-le_self, mul-le-mul_right}
@@ -19,7 +19,7 @@ use Rattle.g1_words.specs.Survivors.{seeds, children, firsts}
 use Rattle.g1_words.specs.Valid.{IsValid}
 use Rattle.g1_words.proofs.Computed.{range_above, range_below}
 use Rattle.g1_words.proofs.Firsts.{Distinct, Distinct-firsts}
-use Rattle.g1_words.proofs.Members.{In, In-from_contains, Contains-from_in, flat_map_cases, in_from_has}
+use Rattle.g1_words.proofs.Members.{flat_map_cases, Contains-from_has}
 use Rattle.g1_words.proofs.OneToOne.{reached_object}
 use Rattle.g1_words.proofs.Ordered.{Ordered, Ordered-from_pairs, pairs_from_ordered}
 use Rattle.g1_words.proofs.Rising.{Ordered-flat_map, Ordered-range, IsBefore, objects_apart}
@@ -40,8 +40,8 @@ use Rattle.g1_frontier.proofs.Names.{object_in_words}
 use Rattle.g1_frontier.proofs.Claimed.{all_begin}
 use Rattle.g1_frontier.specs.Numbers.{BeginsIn, IsNumbering}
 use Rattle.g1_frontier.proofs.Ranks.{objects_range, objects_rise, objects_name, objects_some, objects_count, first_rise, first_range, first_name}
-use Rattle.g1_frontier.proofs.Scopes.{all_map, rising_few}
-use Rattle.g1_frontier.proofs.Turns.{length_rest, take_front, in_rest, begins, begins_reached, turn, turn_reached}
+use Rattle.g1_frontier.proofs.Scopes.{all_map, rising_few, Contains-drop}
+use Rattle.g1_frontier.proofs.Turns.{length_rest, take_front, begins, begins_reached, turn, turn_reached}
 
 -- ---- lists of items
 
@@ -72,16 +72,17 @@ items_more h base all_of i lt = sym (items_snoc h base (take i all_of) (get_or a
 -- ---- slots are few
 
 -- different numbers below a bound are no more than it
-pub distinct_few : (all_of : List ℕ) (bound : ℕ) → Distinct all_of → ((a : ℕ) → In all_of a → a < bound) → length all_of ≤ bound
+pub distinct_few : (all_of : List ℕ) (bound : ℕ) → Distinct all_of → ((a : ℕ) → Contains all_of a → a < bound) → length all_of ≤ bound
 distinct_few all_of bound d low =
-    length-le_from_distinct_below all_of bound (IsDistinct-from_AllPairs Decides-eqb all_of (pairs_from_ordered (λ x y. x ≢ y) all_of (Distinct-differ all_of d))) (λ q e. low q (in_from_has all_of q e))
+    length-le_from_distinct_below all_of bound
+    (IsDistinct-from_AllPairs Decides-eqb all_of (pairs_from_ordered (λ x y. x ≢ y) all_of (Distinct-differ all_of d))) (λ q e. low q (Contains-from_has all_of q e))
 
-either : {A : Type 0} (R : A → A → Type 0) (xs : List A) (x y : A) → Ordered R xs → In xs x → In xs y → (x ≡ y) ⊎ (R x y ⊎ R y x)
-either R [] x y o i j = absurd i
-either R (z ∷ zs) x y o (inl e) (inl f) = inl (sym e ∙ f)
-either R (z ∷ zs) x y o (inl e) (inr j) = inr (inl (subst (λ w. R w y) e (o.0 y j)))
-either R (z ∷ zs) x y o (inr i) (inl f) = inr (inr (subst (λ w. R w x) f (o.0 x i)))
-either R (z ∷ zs) x y o (inr i) (inr j) = either R zs x y o.1 i j
+either : {A : Type 0} (R : A → A → Type 0) (xs : List A) (x y : A) → Ordered R xs → Contains xs x → Contains xs y → (x ≡ y) ⊎ (R x y ⊎ R y x)
+either R [] x y o i j = absurd (omega (arith, i.1))
+either R (z ∷ zs) x y o (zero, b, e) (zero, lt, f) = inl (sym e ∙ f)
+either R (z ∷ zs) x y o (zero, b, e) (suc k, lt, eq) = inr (inl (subst (λ w. R w y) e (o.0 y (k, omega (arith, lt), eq))))
+either R (z ∷ zs) x y o (suc k, b, e) (zero, lt, f) = inr (inr (subst (λ w. R w x) f (o.0 x (k, omega (arith, b), e))))
+either R (z ∷ zs) x y o (suc k, b, e) (suc n, lt, eq) = either R zs x y o.1 (k, omega (arith, b), e) (n, omega (arith, lt), eq)
 
 range_differs : (xs : List ℕ) → Ordered (λ x y. x < y) xs → Ordered (λ x y. x ≢ y) xs
 range_differs [] o = tt
@@ -99,8 +100,8 @@ module _ (h : Heap) (valid : IsValid h) where
       let s = sum_by-cons (slot_count h) a all_of in
       let t = total_is all_of in omega (arith, l, r, s, t)
 
-  module _ (all_of : List ℕ) (distinct : Distinct all_of) (are : (a : ℕ) → In all_of a → Contains (objects h) (object_at h a)) where
-    slots_differ : (a b p q : ℕ) → In all_of a → In all_of b → a ≢ b → In (slots_at a) p → In (slots_at b) q → p ≢ q
+  module _ (all_of : List ℕ) (distinct : Distinct all_of) (are : (a : ℕ) → Contains all_of a → Contains (objects h) (object_at h a)) where
+    slots_differ : (a b p q : ℕ) → Contains all_of a → Contains all_of b → a ≢ b → Contains (slots_at a) p → Contains (slots_at b) q → p ≢ q
     slots_differ a b p q i j ne k l e =
         let ap_low = range_above (a + 1) (slot_count h a) p k in
         let ap_high = range_below (a + 1) (slot_count h a) p k in
@@ -109,7 +110,7 @@ module _ (h : Heap) (valid : IsValid h) where
         let fa = (sound h valid).slots_fit (object_at h a) (are a i) in
         let fb = (sound h valid).slots_fit (object_at h b) (are b j) in
         elim (either IsBefore (objects h) (object_at h a) (object_at h b) (Ordered-from_pairs IsBefore (objects h) (objects_apart h valid))
-        (In-from_contains (objects h) (object_at h a) (are a i)) (In-from_contains (objects h) (object_at h b) (are b j))) [
+        (are a i) (are b j)) [
           | inl same ↦ ne (ap (λ (o : Object). o.at) same)
           | inr (inl before) ↦ omega (arith, ap_high, bq_low, fa, before, e)
           | inr (inr before) ↦ omega (arith, ap_low, bq_high, fb, before, e)
@@ -122,7 +123,7 @@ module _ (h : Heap) (valid : IsValid h) where
         Ordered-flat_map (λ x y. x ≢ y) (λ x y. x ≢ y) (λ a. slots (object_at h a)) all_of (Distinct-differ all_of distinct)
         (λ a i. range_differs (slots (object_at h a)) (Ordered-range (a + 1) (slot_count h a))) (λ a b p q i j ne k l. slots_differ a b p q i j ne k l) in
         let few = length-le_from_distinct_below all (length h.words) (IsDistinct-from_AllPairs Decides-eqb all (pairs_from_ordered (λ x y. x ≢ y) all apart))
-        (λ q e. let m = flat_map_cases (λ a. slots (object_at h a)) all_of q (in_from_has all q e) in
+        (λ q e. let m = flat_map_cases (λ a. slots (object_at h a)) all_of q (Contains-from_has all q e) in
         let high = range_below (m.0 + 1) (slot_count h m.0) q m.2 in
         let fit = object_in_words h valid m.0 (are m.0 m.1) in omega (arith, high, fit.1)) in
         let t = total_is all_of in omega (arith, few, t)
@@ -143,13 +144,13 @@ module _ (h : Heap) (valid : IsValid h) where
     abbrev firsts_of : List Item
     firsts_of = first_items (length h.roots) cards
 
-    in_first : (P : Item → Type 0) → ((n : ℕ) → n < length h.roots → P (Root n)) → ((c : ℕ) → In cards c → P (Card c (length h.roots))) → All P (first_items (length h.roots) cards)
+    in_first : (P : Item → Type 0) → ((n : ℕ) → n < length h.roots → P (Root n)) → ((c : ℕ) → Contains cards c → P (Card c (length h.roots))) → All P (first_items (length h.roots) cards)
     in_first P f g =
         All-append P (root_items (length h.roots)) (map (λ c. Card c (length h.roots)) cards)
         (all_map P Root (range_with_len 0 (length h.roots)) (λ n i. f n (range_below_zero n i)))
         (all_map P (λ c. Card c (length h.roots)) cards g)
       where
-        range_below_zero : (n : ℕ) → In (range_with_len 0 (length h.roots)) n → n < length h.roots
+        range_below_zero : (n : ℕ) → Contains (range_with_len 0 (length h.roots)) n → n < length h.roots
         range_below_zero n i = let k = range_below 0 (length h.roots) n i in omega (arith, k)
 
     pub first_are_items : All (IsItem h) (first_items (length h.roots) cards)
@@ -170,7 +171,7 @@ module _ (h : Heap) (valid : IsValid h) where
     pub first_rises : Rises (all_pairs h window (first_items (length h.roots) cards))
     first_rises = pairs_from_ordered RankLess (all_pairs h window (first_items (length h.roots) cards)) (first_rise h window valid cards rising outside lead_in)
 
-    small : (q : ℕ × ℕ) → In ps q → q.0 < length h.roots + length h.words
+    small : (q : ℕ × ℕ) → Contains ps q → q.0 < length h.roots + length h.words
     small q i = first_range h window valid cards rising outside lead_in q i
 
     pub first_ranks : AreRanks (all_pairs h window (first_items (length h.roots) cards))
@@ -184,8 +185,8 @@ module _ (h : Heap) (valid : IsValid h) where
     first_search count number numbers s seat whole places adds found from next =
         let apart : (a b : ℕ) → BeginsIn h window a → BeginsIn h window b → number b ≡ number a → b ≡ a = λ a b t u e. numbers.apart a b t u e in
         let rise : Ordered RankLess ps = first_rise h window valid cards rising outside lead_in in
-        let within : (q : ℕ × ℕ) → In ps q → BeginsIn h window q.1 = λ q i. all_begin h window (first_items (length h.roots) cards) q valid first_are_items i in
-        let low : (q : ℕ × ℕ) → In ps q → q.0 < 18446744073709551615 = λ q i. let k = small q i in omega (arith, k, valid.root_count, valid.word_count, valid.limits.words_most) in
+        let within : (q : ℕ × ℕ) → Contains ps q → BeginsIn h window q.1 = λ q i. all_begin h window (first_items (length h.roots) cards) q valid first_are_items i in
+        let low : (q : ℕ × ℕ) → Contains ps q → q.0 < 18446744073709551615 = λ q i. let k = small q i in omega (arith, k, valid.root_count, valid.word_count, valid.limits.words_most) in
         let on = found_on number (BeginsIn h window) apart ps [] [] s.seat.hand.offers 0 adds rise low within (All-nil (λ (o : Offer). o.rank < 0)) (λ q i. omega arith) (λ a t. refl) refl in
         let named : map (λ (q : ℕ × ℕ). q.1) ps ≡ seeds h window = first_name h window valid cards rising outside lead_in in
         let e : s.found.items ≡ firsts ([] ++ seeds h window) = found ∙ on ∙ ap (λ l. firsts ([] ++ l)) named in
@@ -200,7 +201,7 @@ module _ (h : Heap) (valid : IsValid h) where
           next = let z : sum_by (slot_count h) (take s.from s.found.items) ≡ 0 = ap (sum_by (slot_count h)) none in omega (arith, next, z);
           from = omega (arith, from);
           in_order = begins (seeds h window) (children h window) s.found.items e ∙ ap (λ l. firsts (seeds h window ++ flat_map (children h window) l)) (sym none);
-          reached = λ a c. begins_reached (seeds h window) (children h window) s.found.items e a (In-from_contains s.found.items a c);
+          reached = begins_reached (seeds h window) (children h window) s.found.items e;
         }
 
   -- ---- a further round
@@ -218,8 +219,8 @@ module _ (h : Heap) (valid : IsValid h) where
     once : s.found.items ≡ firsts s.found.items
     once = r.in_order ∙ sym (firsts_again (seeds h window ++ flat_map (children h window) (take s.from s.found.items))) ∙ ap firsts (sym r.in_order)
 
-    pub found_objects : (a : ℕ) → In s.found.items a → Contains (objects h) (object_at h a)
-    found_objects a i = reached_object h window (sound h valid) a (r.reached a (Contains-from_in s.found.items a i))
+    pub found_objects : (a : ℕ) → Contains s.found.items a → Contains (objects h) (object_at h a)
+    found_objects a i = reached_object h window (sound h valid) a (r.reached a i)
 
     pub found_few : length s.found.items ≤ length h.words
     found_few = object_total s.found.items distinct found_objects
@@ -228,7 +229,7 @@ module _ (h : Heap) (valid : IsValid h) where
     total_parts = sym (sum_by-append (slot_count h) (take s.from s.found.items) (drop s.from s.found.items)) ∙ ap (sum_by (slot_count h)) (take-append-drop s.from s.found.items)
 
     pub rest_objects : All (λ a. Contains (objects h) (object_at h a)) (drop s.from s.found.items)
-    rest_objects = all_from_in (λ a. Contains (objects h) (object_at h a)) (drop s.from s.found.items) (λ a i. found_objects a (in_rest s.from s.found.items a i))
+    rest_objects = all_from_in (λ a. Contains (objects h) (object_at h a)) (drop s.from s.found.items) (λ a i. found_objects a (Contains-drop s.from s.found.items a i))
 
     pub ranks_fit : s.next + sum_by (slot_count h) (drop s.from s.found.items) < 2 ^ 32
     ranks_fit =
@@ -243,7 +244,7 @@ module _ (h : Heap) (valid : IsValid h) where
     qs = all_pairs h window (object_items h s.next (drop s.from s.found.items))
 
     pub rest_are_items : All (IsItem h) (object_items h s.next (drop s.from s.found.items))
-    rest_are_items = all_from_in (IsItem h) items (λ i k. let m = objects_some h window s.next rest i k in subst (IsItem h) m.3 (found_objects m.0 (in_rest s.from found m.0 m.2)))
+    rest_are_items = all_from_in (IsItem h) items (λ i k. let m = objects_some h window s.next rest i k in subst (IsItem h) m.3 (found_objects m.0 (Contains-drop s.from found m.0 m.2)))
 
     pub rest_few : length (object_items h s.next (drop s.from s.found.items)) < 2 ^ 32
     rest_few =
@@ -254,7 +255,7 @@ module _ (h : Heap) (valid : IsValid h) where
     pub rest_rises : Rises (all_pairs h window (object_items h s.next (drop s.from s.found.items)))
     rest_rises = pairs_from_ordered RankLess qs (objects_rise h window s.next rest)
 
-    range_of : (q : ℕ × ℕ) → In qs q → (s.next ≤ q.0) × (q.0 < s.next + sum_by (slot_count h) (drop s.from s.found.items))
+    range_of : (q : ℕ × ℕ) → Contains qs q → (s.next ≤ q.0) × (q.0 < s.next + sum_by (slot_count h) (drop s.from s.found.items))
     range_of q i = objects_range h window s.next rest q i
 
     pub rest_ranks : AreRanks (all_pairs h window (object_items h s.next (drop s.from s.found.items)))
@@ -273,9 +274,9 @@ module _ (h : Heap) (valid : IsValid h) where
     next_search numbers t seat whole same adds more from next =
         let apart : (a b : ℕ) → BeginsIn h window a → BeginsIn h window b → number b ≡ number a → b ≡ a = λ a b t u e. numbers.apart a b t u e in
         let rise : Ordered RankLess qs = objects_rise h window s.next rest in
-        let within : (q : ℕ × ℕ) → In qs q → BeginsIn h window q.1 = λ q i. all_begin h window (object_items h s.next rest) q valid rest_are_items i in
-        let low : (q : ℕ × ℕ) → In qs q → q.0 < 18446744073709551615 = λ q i. let k = (range_of q i).1 in let f = ranks_fit in omega (arith, k, f) in
-        let above : (q : ℕ × ℕ) → In qs q → s.next ≤ q.0 = λ q i. (range_of q i).0 in
+        let within : (q : ℕ × ℕ) → Contains qs q → BeginsIn h window q.1 = λ q i. all_begin h window (object_items h s.next rest) q valid rest_are_items i in
+        let low : (q : ℕ × ℕ) → Contains qs q → q.0 < 18446744073709551615 = λ q i. let k = (range_of q i).1 in let f = ranks_fit in omega (arith, k, f) in
+        let above : (q : ℕ × ℕ) → Contains qs q → s.next ≤ q.0 = λ q i. (range_of q i).0 in
         let on = found_on number (BeginsIn h window) apart qs found s.seat.hand.offers t.seat.hand.offers s.next adds rise low within r.ranks above r.claimed once in
         let named : map (λ (q : ℕ × ℕ). q.1) qs ≡ flat_map (children h window) rest = objects_name h window s.next rest in
         let e : t.found.items ≡ firsts (found ++ flat_map (children h window) rest) = more ∙ on ∙ ap (λ l. firsts (found ++ l)) named in
@@ -296,5 +297,5 @@ module _ (h : Heap) (valid : IsValid h) where
           from = omega (arith, from, long, t.found.ok);
           in_order = turn (seeds h window) (children h window) found t.found.items s.from r.in_order e
               ∙ ap (λ n. firsts (seeds h window ++ flat_map (children h window) (take n t.found.items))) (sym from);
-          reached = λ a c. turn_reached (seeds h window) (children h window) found t.found.items s.from (λ b i. r.reached b (Contains-from_in found b i)) e a (In-from_contains t.found.items a c);
+          reached = turn_reached (seeds h window) (children h window) found t.found.items s.from r.reached e;
         }

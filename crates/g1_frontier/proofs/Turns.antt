@@ -1,31 +1,22 @@
 -- The search from round to round.
-use Rattle.std.proofs.Common.{◌≡◌, ℕ, zero, suc, ◌+◌, ◌-◌, ◌≤◌, inr, not, List, [], ◌∷◌, ◌++◌, filter, length, take, drop, refl, sym, ◌∙◌, ap, subst, arith, append_assoc, append-nil}
+use Rattle.std.proofs.Common.{◌≡◌, ℕ, zero, suc, ◌+◌, ◌-◌, ◌≤◌, not, List, [], ◌∷◌, ◌++◌, filter, length, take, drop, refl, sym, ◌∙◌, ap, subst, arith, append_assoc, append-nil, Contains}
 use Rattle.std.proofs.Common.{length-append, ⊎_elim, take-append-drop}
 use Rattle.std.specs.List.{flat_map}
 use Rattle.std.proofs.lemmas.Grind.{flat_map-append}
-use Rattle.std.proofs.lemmas.List.{take-take, drop-take, take_rest}
+use Rattle.std.proofs.lemmas.List.{take-take, drop-take, take_rest, take_all}
+use Rattle.std.proofs.lemmas.List.Elements.{Contains-append_cases}
 use Rattle.g1_words.specs.Lists.{has}
 use Rattle.g1_words.specs.Live.{Reached, seed, child}
 use Rattle.g1_words.specs.Survivors.{firsts, IsBreadthFirst}
-use Rattle.g1_words.proofs.Members.{In, In-from_contains, Contains-from_in, In-append_left, In-append_cases, flat_map_cases}
+use Rattle.g1_words.proofs.Members.{flat_map_cases}
 use Rattle.g1_words.proofs.Firsts.{firsts_member, firsts-append}
 use Rattle.g1_words.proofs.Unique.{all_reached}
 use Rattle.g1_frontier.proofs.Marks.{firsts_again, firsts_more}
-
-pub take_all : (ys : List ℕ) (n : ℕ) → length ys ≤ n → take n ys ≡ ys
-take_all [] zero l = refl
-take_all [] (suc n) l = refl
-take_all (y ∷ ys) zero l = absurd (omega arith)
-take_all (y ∷ ys) (suc n) l = ap (λ l. y ∷ l) (take_all ys n (omega arith))
+use Rattle.g1_frontier.proofs.Scopes.{Contains-drop}
 
 pub take_front : (xs ys : List ℕ) → take (length xs) (xs ++ ys) ≡ xs
 take_front [] ys = refl
 take_front (x ∷ xs) ys = ap (λ l. x ∷ l) (take_front xs ys)
-
-pub take_longer : (n : ℕ) (xs ys : List ℕ) → n ≤ length xs → take n (xs ++ ys) ≡ take n xs
-take_longer zero xs ys le = refl
-take_longer (suc n) [] ys le = absurd (omega (arith, le))
-take_longer (suc n) (x ∷ xs) ys le = ap (λ l. x ∷ l) (take_longer n xs ys (omega (arith, le)))
 
 pub length_rest : (n : ℕ) (ys : List ℕ) → length (drop n ys) ≤ length ys - n
 length_rest zero ys = omega arith
@@ -36,14 +27,6 @@ length_rest (suc n) (y ∷ ys) = let r = length_rest n ys in omega (arith, r)
 pub rest_few : (xs : List ℕ) (i : ℕ) → length (take (length xs - i) (drop i xs)) ≤ length xs
 rest_few xs i = let e : length (take (length xs - i) (drop i xs)) ≡ length (drop i xs) = ap length (take_rest xs i) in let r = length_rest i xs in omega arith
 
-pub in_rest : (n : ℕ) (ys : List ℕ) (a : ℕ) → In (drop n ys) a → In ys a
-in_rest zero ys a h = h
-in_rest (suc n) [] a h = h
-in_rest (suc n) (y ∷ ys) a h = inr (in_rest n ys a h)
-
-pub in_front : (n : ℕ) (ys : List ℕ) (a : ℕ) → In (take n ys) a → In ys a
-in_front n ys a h = subst (λ l. In l a) (take-append-drop n ys) (In-append_left (take n ys) (drop n ys) a h)
-
 -- what two parts take, one behind the other
 pub take_parts : (i n : ℕ) (xs : List ℕ) → take (i + n) xs ≡ take i xs ++ take n (drop i xs)
 take_parts i n xs = sym (take-append-drop i (take (i + n) xs)) ∙ (λ k. take-take i (i + n) xs (omega arith) k ++ drop-take i n xs k)
@@ -52,8 +35,8 @@ module _ (seeds : List ℕ) (children : ℕ → List ℕ) where
   pub begins : (found : List ℕ) → found ≡ firsts ([] ++ seeds) → found ≡ firsts (seeds ++ [])
   begins found e = e ∙ ap firsts (sym (append-nil seeds))
 
-  pub begins_reached : (found : List ℕ) → found ≡ firsts ([] ++ seeds) → (a : ℕ) → In found a → Reached seeds children a
-  begins_reached found e a h = seed (Contains-from_in seeds a (firsts_member seeds a (subst (λ l. In l a) e h)))
+  pub begins_reached : (found : List ℕ) → found ≡ firsts ([] ++ seeds) → (a : ℕ) → Contains found a → Reached seeds children a
+  begins_reached found e a h = seed (firsts_member seeds a (subst (λ l. Contains l a) e h))
 
   again : (found mid : List ℕ) → found ≡ firsts mid → firsts found ≡ found
   again found mid e = ap firsts e ∙ firsts_again mid ∙ sym e
@@ -75,20 +58,20 @@ module _ (seeds : List ℕ) (children : ℕ → List ℕ) where
       let whole : front ++ back ≡ flat_map children found = sym (flat_map-append children (take from found) (drop from found)) ∙ ap (flat_map children) (take-append-drop from found) in
       f ∙ ap (λ l. firsts (l ++ back)) e ∙ firsts_more (seeds ++ front) back ∙ ap firsts (append_assoc seeds front back ∙ ap (λ l. seeds ++ l) (whole ∙ ap (flat_map children) (sym same)))
 
-  pub turn_reached : (found more : List ℕ) (from : ℕ) → ((a : ℕ) → In found a → Reached seeds children a) →
-      more ≡ firsts (found ++ flat_map children (drop from found)) → (a : ℕ) → In more a → Reached seeds children a
+  pub turn_reached : (found more : List ℕ) (from : ℕ) → ((a : ℕ) → Contains found a → Reached seeds children a) →
+      more ≡ firsts (found ++ flat_map children (drop from found)) → (a : ℕ) → Contains more a → Reached seeds children a
   turn_reached found more from r f a h =
-      ⊎_elim (λ (k : In found a). r a k)
-      (λ (k : In (flat_map children (drop from found)) a). let c = flat_map_cases children (drop from found) a k in child (r c.0 (in_rest from found c.0 c.1)) (Contains-from_in (children c.0) a c.2))
-      (In-append_cases found (flat_map children (drop from found)) a (firsts_member (found ++ flat_map children (drop from found)) a (subst (λ l. In l a) f h)))
+      ⊎_elim (r a)
+      (λ (k : Contains (flat_map children (drop from found)) a). let c = flat_map_cases children (drop from found) a k in child (r c.0 (Contains-drop from found c.0 c.1)) c.2)
+      (Contains-append_cases found (flat_map children (drop from found)) a (firsts_member (found ++ flat_map children (drop from found)) a (subst (λ l. Contains l a) f h)))
 
   pub ends : (found : List ℕ) (from : ℕ) → length found ≤ from → found ≡ firsts (seeds ++ flat_map children (take from found)) →
-      ((a : ℕ) → In found a → Reached seeds children a) → IsBreadthFirst seeds children found
+      ((a : ℕ) → Contains found a → Reached seeds children a) → IsBreadthFirst seeds children found
   ends found from le e r =
-      let whole : found ≡ firsts (seeds ++ flat_map children found) = e ∙ ap (λ l. firsts (seeds ++ flat_map children l)) (take_all found from le) in record {
+      let whole : found ≡ firsts (seeds ++ flat_map children found) = e ∙ ap (λ l. firsts (seeds ++ flat_map children l)) (take_all from found le) in record {
         reached = λ a. (
-          (λ h. r a (In-from_contains found a h)),
-          (λ h. Contains-from_in found a (subst (λ l. In l a) (sym whole) (all_reached seeds children found [] (whole ∙ sym (append-nil (firsts (seeds ++ flat_map children found)))) a h))),
+          r a,
+          (λ h. subst (λ l. Contains l a) (sym whole) (all_reached seeds children found [] (whole ∙ sym (append-nil (firsts (seeds ++ flat_map children found)))) a h)),
         );
         in_order = whole;
       }

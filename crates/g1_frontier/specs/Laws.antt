@@ -11,7 +11,8 @@ use Rattle.g1_claim.specs.declared.rule.Offer.{Offer}
 use Rattle.g1_frontier.specs.declared.item.Item.{Item}
 use Rattle.g1_frontier.specs.Window.{AreRegions, AreCards, AreOutside, LeadIn, place}
 use Rattle.g1_frontier.specs.Items.{IsItem, AreRanks, all_pairs}
-use Rattle.g1_frontier.specs.Numbers.{IsNumbering, AreStarts, number_at}
+use Rattle.g1_words.specs.Numbers.{number_at}
+use Rattle.g1_frontier.specs.Numbers.{IsNumbering, AreStarts}
 use Rattle.g1_frontier.specs.Round.{Rises, AreAbove, AddsOffers, winners}
 
 -- the cards are those of the refined sets of the window's regions, without those that lie in the window

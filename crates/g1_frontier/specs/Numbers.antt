@@ -1,10 +1,8 @@
 -- The number of each object of a window, and what any numbering has to be.
-use Rattle.std.specs.Prelude.{◌≡◌, ◌<◌, ◌≤◌, ℕ, Bool, true, false, List, [], ◌∷◌, ◌+◌, ◌-◌, ◌*◌, ◌^◌, map, take, set, length, slice_index_or, Contains, count_ones}
-use Rattle.std.specs.List.{count_by}
+use Rattle.std.specs.Prelude.{◌≡◌, ◌<◌, ◌≤◌, ℕ, Bool, true, false, List, [], ◌∷◌, ◌+◌, ◌-◌, ◌*◌, map, set, length, slice_index_or, Contains}
 use Rattle.g1_words.specs.Heap.{Heap, object_at, objects, objects_in, start}
 use Rattle.g1_words.specs.Marks.{marks_of}
 use Rattle.g1_words.specs.Survivors.{in_set}
-use Rattle.g1_frontier.specs.declared.numbers.Block.{Block}
 use Rattle.g1_frontier.specs.Window.{place}
 
 -- an object of the window begins at the address
@@ -26,24 +24,6 @@ pub record AreStarts (h : Heap) (window : List ℕ) (starts : List Bool) : Type 
 pub record AreBits (h : Heap) (window : List ℕ) (bits : List ℕ) : Type 0 where
   pub starts : AreStarts h window (marks_of (64 * length bits) bits)
   pub few : 64 * length bits < length window * h.geometry.w + 64
-
--- how many of the words before one are marked
-abbrev pub number_at : List Bool → ℕ → ℕ
-number_at starts p = count_by (λ b. b) (take p starts)
-
--- the marks of the blocks' words, one bit each
-abbrev pub starts_of : List Block → List Bool
-starts_of blocks = marks_of (64 * length blocks) (map (λ b. b.starts) blocks)
-
--- each block has the number of marks in the blocks before it, counted on from one
-abbrev pub AreCounted : ℕ → List Block → Type 0
-AreCounted n [] = Unit {0}
-AreCounted n (b ∷ bs) = (b.before ≡ n) × (b.starts < 2 ^ 64) × AreCounted (n + count_ones b.starts) bs
-
--- the number after the blocks' marks, counted on from one
-abbrev pub counted_on : ℕ → List Block → ℕ
-counted_on n [] = n
-counted_on n (b ∷ bs) = counted_on (n + count_ones b.starts) bs
 
 -- the marks, and those at some words beside them
 abbrev pub and_marked : List Bool → List ℕ → List Bool

@@ -8,7 +8,8 @@ use Rattle.g1_rem.specs.Starts.{IsStartsOf}
 use Rattle.g1_frontier.specs.Window.{AreRegions, AreWindowPositions, place}
 use Rattle.g1_frontier.specs.Items.{aims, pairs, all_pairs}
 use Rattle.g1_frontier.specs.declared.item.Item.{Item}
-use Rattle.g1_frontier.specs.Numbers.{IsNumbering, number_at}
+use Rattle.g1_words.specs.Numbers.{number_at}
+use Rattle.g1_frontier.specs.Numbers.{IsNumbering}
 use Rattle.g1_frontier.specs.declared.scope.Numbering.{Numbering}
 use Rattle.g1_frontier.specs.declared.scope.Numbering.TheVariants.{Words, Objects}
 use Rattle.g1_frontier.specs.declared.scope.Scope.{Scope}

@@ -7,52 +7,14 @@ ghost use Rattle.g1_words.specs.Valid.{IsValid};
 ghost use Rattle.g1_work.specs.Ranges.{ordinary_used};
 ghost use Rattle.g1_work.specs.Regions.{slice_of};
 ghost use Rattle.g1_frontier.specs.Window.{AreRegions};
-ghost use Rattle.g1_frontier.specs.Numbers.{AreBits, and_marked, places_from};
+ghost use Rattle.g1_frontier.specs.Numbers.{AreBits, AreStarts, and_marked, places_from};
 
 use g1_rem::objects_end;
+use g1_words::numbers::{Numbers, mark};
 use g1_words::{Fault, Heap, size_at};
 use g1_work::{Make, WORDS_A_THREAD, make_each, threads_for};
 use std::alloc::{AllocError, Global};
-use std::marker::Model;
 use std::thread::Threads;
-
-/// 64 words of a window.
-#[derive(Clone, Copy, Drop)]
-pub struct Block {
-    /// A bit for each of the words, set if an object begins there.
-    pub starts: u64,
-    /// How many objects begin in the blocks before.
-    pub before: u64,
-}
-
-/// The number of each object of a window: how many objects begin at earlier words of the window.
-#[derive(Drop)]
-pub struct Numbers {
-    blocks: Vec<Block>,
-    /// How many objects begin in the window.
-    count: u64,
-}
-
-impl Model for Numbers {
-    ghost use Rattle.std.specs.Prelude.{◌≡◌, ◌≤◌, ◌*◌, List, Bool, length};
-    ghost use Rattle.g1_words.specs.Geometry.{most_words};
-    ghost use Rattle.g1_frontier.specs.Numbers.{starts_of, AreCounted, counted_on};
-
-    ghost Value = { List Bool };
-
-    ghost view = { λ n. starts_of n.blocks.items };
-
-    ghost invariant = { λ n. AreCounted 0 n.blocks.items × (64 * length n.blocks.items ≤ most_words) × (n.count ≡ counted_on 0 n.blocks.items) };
-}
-
-/// Sets the bit of a word.
-fn mark(starts: &mut Vec<u64>, word: u64)
-    requires { word < 64 * length starts.old.items }
-    ensures marked { marks_of (64 * length starts.old.items) starts.new.items ≡ set (marks_of (64 * length starts.old.items) starts.old.items) word true }
-    ensures same { length starts.new.items ≡ length starts.old.items }
-{
-    starts[(word / 64) as usize] |= 1 << (word % 64);
-}
 
 /// Sets the bits of the words at which a region's objects begin. The region's first word is the word
 /// `first` of the window.
@@ -67,7 +29,7 @@ fn mark_region(heap: &Heap, region: u32, first: u64, starts: &mut Vec<u64>)
     let end = objects_end(heap, region);
     let mut at = from;
     'objects: while at < end {
-        mark(starts, first + (at - from));
+        mark(starts, (first + (at - from)) as usize);
         at += size_at(heap, at);
     }
 }
@@ -151,71 +113,29 @@ fn window_words(heap: &Heap, window: &[u32]) -> usize
     words
 }
 
-/// Counts the bits that are set.
-fn count_starts(alloc: Global, starts: &[u64]) -> Result<Numbers, AllocError>
-    requires { 64 * length starts.now ≤ most_words }
-    ensures { IfOk result (λ n. n ≡ marks_of (64 * length starts.now) starts.now) }
+/// Numbers the objects of a window by their headers, with this many workers at most: how many begin
+/// at earlier words of the window. One worker if it is 0.
+///
+/// Each walks over a part of the window.
+///
+/// # Errors
+/// `Fault::Memory` if a growth was refused.
+pub(crate) fn number_window(
+    rt: &(impl Threads + Sync),
+    alloc: Global,
+    heap: &Heap,
+    window: &[u32],
+    workers: u64,
+) -> Result<Numbers, Fault>
+    requires { AreRegions heap.now window.now }
+    ensures few { IfOk result (λ n. length n ≤ most_words) }
+    ensures starts { IfOk result (AreStarts heap.now window.now) }
+    ensures memory { IfErr result (λ e. e ≡ Memory) }
 {
-    let mut blocks = Vec::with_capacity(alloc, starts.len())?;
-    let mut count = 0;
-    for bits in starts {
-        blocks.push(Block {
-            starts: *bits,
-            before: count,
-        })?;
-        count += u64::from(bits.count_ones());
-    }
-    Ok(Numbers { blocks, count })
-}
-
-impl Numbers {
-    ghost use Rattle.std.specs.Prelude.{◌≡◌, ◌<◌, ◌≤◌, length, IfOk, IfErr};
-    ghost use Rattle.g1_words.specs.declared.fault.Fault.TheVariants.{Memory};
-    ghost use Rattle.g1_words.specs.Geometry.{most_words};
-    ghost use Rattle.g1_frontier.specs.Window.{AreRegions};
-    ghost use Rattle.g1_frontier.specs.Numbers.{AreStarts, number_at};
-
-    /// Numbers the objects of a window by their headers, with this many workers at most. One if it
-    /// is 0.
-    ///
-    /// Each walks over a part of the window.
-    ///
-    /// # Errors
-    /// `Fault::Memory` if a growth was refused.
-    pub(crate) fn new_by(
-        rt: &(impl Threads + Sync),
-        alloc: Global,
-        heap: &Heap,
-        window: &[u32],
-        workers: u64,
-    ) -> Result<Numbers, Fault>
-        requires { AreRegions heap.now window.now }
-        ensures few { IfOk result (λ n. length n ≤ most_words) }
-        ensures starts { IfOk result (AreStarts heap.now window.now) }
-        ensures memory { IfErr result (λ e. e ≡ Memory) }
-    {
-        g1_words::laws::valid(heap);
-        let starts = match threads_for(workers, window_words(heap, window), WORDS_A_THREAD) {
-            1 => mark_window(alloc, heap, window)?,
-            threads => mark_by_threads(rt, alloc, heap, window, threads)?,
-        };
-        Ok(count_starts(alloc, starts.as_slice())?)
-    }
-
-    /// How many objects begin in the window.
-    pub fn count(&self) -> u64
-        ensures { result ≡ number_at self.now (length self.now) }
-    {
-        self.count
-    }
-
-    /// How many objects begin before a word of the window.
-    pub fn number(&self, word: u64) -> u64
-        requires { word < length self.now }
-        ensures { result ≡ number_at self.now word }
-    {
-        let block = self.blocks[(word / 64) as usize];
-        let below = block.starts & ((1 << (word % 64)) - 1);
-        block.before + u64::from(below.count_ones())
-    }
+    g1_words::laws::valid(heap);
+    let starts = match threads_for(workers, window_words(heap, window), WORDS_A_THREAD) {
+        1 => mark_window(alloc, heap, window)?,
+        threads => mark_by_threads(rt, alloc, heap, window, threads)?,
+    };
+    Ok(Numbers::new(alloc, starts.as_slice())?)
 }

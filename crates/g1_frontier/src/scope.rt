@@ -2,8 +2,8 @@ ghost use Rattle.std.specs.Prelude.{◌≡◌, ◌≤◌, vec_len, IfOk};
 ghost use Rattle.g1_words.specs.Geometry.{most_regions};
 ghost use Rattle.g1_frontier.specs.Window.{AreRising, AreWindowPositions};
 
-use crate::numbers::Numbers;
 use g1_rem::{Starts, slots_on};
+use g1_words::numbers::Numbers;
 use g1_words::{Heap, region_of};
 use smallvec::SmallVec;
 use std::alloc::{AllocError, Global};
@@ -101,7 +101,7 @@ impl<'a> Scope<'a> {
         let word = self.window_word(address)?;
         match self.numbering {
             Numbering::Words => Some(word),
-            Numbering::Objects(numbers) => Some(numbers.number(word)),
+            Numbering::Objects(numbers) => Some(numbers.before(word)),
         }
     }
 

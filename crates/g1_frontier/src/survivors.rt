@@ -14,7 +14,7 @@ use crate::crew::{Crew, Merging};
 use crate::found::Found;
 use crate::headers::slot_counts_by;
 use crate::item::Item;
-use crate::numbers::Numbers;
+use crate::numbers::number_window;
 use crate::queue::search_alone;
 use crate::round::round_in;
 use crate::scope::{Numbering, Scope, positions};
@@ -353,7 +353,7 @@ fn discover_in<R: Threads + Sync, G: Gate + Sync>(
     // One worker competes with nobody. It marks words, so it needs no claims, and no pass over the
     // window that numbers its objects.
     let numbering = if crew.takes_rounds() {
-        Numbering::Objects(Numbers::new_by(rt, alloc, heap, window, workers)?)
+        Numbering::Objects(number_window(rt, alloc, heap, window, workers)?)
     } else {
         Numbering::Words
     };

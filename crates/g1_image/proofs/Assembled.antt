@@ -8,9 +8,8 @@ use Rattle.std.proofs.lemmas.Bool.{cases_lt, lt-ltb}
 use Rattle.std.proofs.Math.Seq.{drop-append_seam}
 use Rattle.g1_words.specs.Heap.{Heap, free_region, region, start}
 use Rattle.g1_words.specs.declared.region.Region.{Region}
-use Rattle.g1_words.specs.Valid.{IsValid, IsReference, IsShapedBy, AllShaped, MayBePinned}
-use Rattle.g1_words.specs.declared.region.Kind.{Kind}
-use Rattle.g1_words.specs.declared.region.Kind.TheVariants.{Free, Ordinary, HumongousFirst, Continuation}
+use Rattle.g1_words.specs.Valid.{IsValid, IsReference, AllShaped, MayBePinned}
+use Rattle.g1_words.specs.declared.region.Kind.TheVariants.{Free, Ordinary}
 use Rattle.g1_words.specs.declared.fault.Fault.{Fault}
 use Rattle.g1_words.specs.declared.fault.Fault.TheVariants as fault
 use Rattle.g1_words.specs.declared.fault.Stand.{Stand}
@@ -23,6 +22,7 @@ use Rattle.g1_image.specs.Faults.{FileFits, EntryFits, MayFailWithin, entry, IsK
 use Rattle.g1_image.proofs.Stages.{of_table, of_heap, file_fault}
 use Rattle.g1_image.specs.Draft.{IsDraft}
 use Rattle.g1_image.proofs.Words.{table_words-cons}
+use Rattle.g1_words.proofs.Objects.{top_by_kind}
 
 -- the fault of a whole file's table is the bytes'
 pub table_fault : {limits : Limits} (bytes : List ℕ) (f : File) (e : Fault) → FileFits limits f → bytes ≡ file_text f → TableFault f.table f.n e → MayFailWithin limits bytes e
@@ -48,13 +48,6 @@ logs_good f h log same logs good = subst (λ l. LogIsGood (heap_of f) l) logs (s
 pub sets_good : (f : File) (h : Heap) (sets : List (List ℕ)) → h ≡ heap_of f → sets ≡ f.remembered → SetsAreGood h sets → SetsAreGood (heap_of f) f.remembered
 sets_good f h sets same own good = subst (λ l. SetsAreGood (heap_of f) l) own (subst (λ x. SetsAreGood x sets) same good)
 
--- no more words are used than a region has
-top_of : (k : Kind) (h : Heap) (r : ℕ) → IsShapedBy k h r → (region h r).top ≤ h.geometry.w
-top_of Free h r s = omega (arith, s)
-top_of Ordinary h r s = s.1
-top_of HumongousFirst h r s = omega (arith, s.3)
-top_of Continuation h r s = omega (arith, s.5)
-
 take_same : (n : ℕ) (xs : List ℕ) → take n (take n xs) ≡ take n xs
 take_same zero xs = refl
 take_same (suc n) [] = refl
@@ -62,12 +55,6 @@ take_same (suc n) (x ∷ xs) = ap (λ l. x ∷ l) (take_same n xs)
 
 -- the words of the first region
 module _ (w : ℕ) (e : Entry) (es : List Entry) (ws : List ℕ) (le : table_words (e ∷ es) ≤ length ws) (top : e.top ≤ w) where
-  used : List ℕ
-  used = take (min e.top w) ws
-
-  chunk : List ℕ
-  chunk = take (min e.top w) ws ++ replicate (w - e.top) 0
-
   length-front : length (take (min e.top w) ws) ≡ e.top
   length-front = omega (arith, length-take (min e.top w) ws, le, table_words-cons e es, top)
 
@@ -188,7 +175,7 @@ module _ (limits : Limits) (f : File) (fits : FileFits limits f) (shaped : AllSh
   tops : (q : ℕ) → q < length f.table → (slice_index_or f.table q (record { kind = 0; top = 0; flags = 0 })).top ≤ f.w
   tops q lt =
       let s = shaped q (omega (arith, lt, fits.table.how_many)) in
-      omega (arith, top_of (region (heap_of f) q).kind (heap_of f) q s.by_kind, region_top f.table q)
+      omega (arith, top_by_kind (region (heap_of f) q).kind (heap_of f) q s.by_kind, region_top f.table q)
 
   pub zeros : (r i : ℕ) → r < f.n → (region (heap_of f) r).top ≤ i → i < f.w → slice_index (heap_of f).words (start (heap_of f) r + i) ≡ 0
   zeros r i lt ge il =

@@ -1,13 +1,16 @@
 -- Facts of which it can be told whether they hold.
-use Rattle.std.proofs.Common.{◌≡◌, ◌≤◌, ◌<◌, ℕ, zero, suc, ◌⊎◌, inl, inr, List, [], ◌∷◌, length, slice_index, arith, refl, sym, ap, subst, ◌∙◌}
+use Rattle.std.proofs.Common.{◌≡◌, ◌≤◌, ◌<◌, ℕ, zero, suc, ◌⊎◌, inl, inr, List, [], ◌∷◌, length, slice_index, arith, sym, ap, subst, ◌∙◌, Contains}
 use Rattle.std.specs.Prelude.{All, Option, Some, None}
 use Rattle.std.proofs.lemmas.Bool.{cases_lt, cases_eq}
 use Rattle.std.proofs.lemmas.Grind.{get_or_default_zero}
 use Rattle.g1_words.specs.declared.region.Kind.{Kind}
-use Rattle.g1_words.proofs.Members.{In}
 use Rattle.g1_image.specs.Faults.{IsFirstBreach}
 use Rattle.g1_words.specs.Kind.{kind_number, kind_of}
 use Rattle.g1_image.proofs.FileOf.{kind_there}
+use Rattle.g1_words.proofs.Members.{Contains-first}
+use Rattle.g1_words.proofs.Members.{Contains-later}
+use Rattle.g1_words.proofs.Members.{cons_cases}
+use Rattle.g1_words.proofs.Members.{none_contains}
 
 -- it holds, or it doesn't
 abbrev pub Decided : Type 0 → Type 0
@@ -95,13 +98,13 @@ decided_any P d (suc end) = elim (d end) [
 ]
 
 -- a rule of some member of a list
-pub decided_member : {A : Type 0} (P : A → Type 0) → ((x : A) → Decided (P x)) → (xs : List A) → Decided ((x : A) × In xs x × P x)
-decided_member P d [] = inr (λ s. s.1)
+pub decided_member : {A : Type 0} (P : A → Type 0) → ((x : A) → Decided (P x)) → (xs : List A) → Decided ((x : A) × Contains xs x × P x)
+decided_member P d [] = inr (λ s. none_contains s.0 s.1)
 decided_member P d (x ∷ xs) = elim (d x) [
-  | inl p ↦ inl (x, inl refl, p)
+  | inl p ↦ inl (x, Contains-first x xs, p)
   | inr n ↦ elim (decided_member P d xs) [
-    | inl s ↦ inl (s.0, inr s.1, s.2)
-    | inr m ↦ inr (λ s. elim s.1 [ inl e ↦ n (subst P (sym e) s.2) | inr k ↦ m (s.0, k, s.2) ])
+    | inl s ↦ inl (s.0, Contains-later x xs s.0 s.1, s.2)
+    | inr m ↦ inr (λ s. elim (cons_cases x xs s.0 s.1) [ inl e ↦ n (subst P (sym e) s.2) | inr k ↦ m (s.0, k, s.2) ])
   ]
 ]
 

@@ -26,7 +26,7 @@ use Rattle.g1_image.proofs.OneFile.{one_file}
 use Rattle.g1_image.proofs.Drafts.{Bounded, bounded_append, bounded_take}
 
 -- the number of a kind has few bits
-kind_fits : (k : Kind) → kind_number k < 2 ^ 32
+pub kind_fits : (k : Kind) → kind_number k < 2 ^ 32
 kind_fits Free = omega arith
 kind_fits Ordinary = omega arith
 kind_fits HumongousFirst = omega arith
@@ -40,7 +40,7 @@ kind_there HumongousFirst = refl
 kind_there Continuation = refl
 
 -- the flags of a region tell whether it is pinned
-pin_there : (b : Bool) → flags_of b == 1 ≡ b
+pub pin_there : (b : Bool) → flags_of b == 1 ≡ b
 pin_there false = refl
 pin_there true = refl
 
@@ -119,7 +119,7 @@ words_again w (q ∷ qs) words tops e zeros =
     ∙ region_words w q.top words top whole (λ i ge il. (let p : i ≡ 0 * w + i = omega arith in ap (λ k. slice_index words k) p) ∙ zeros 0 i (omega arith) ge il)
 
 -- the regions that their entries tell
-regions_again : (qs : List Region) → map region_of_entry (map entry_of qs) ≡ qs
+pub regions_again : (qs : List Region) → map region_of_entry (map entry_of qs) ≡ qs
 regions_again [] = refl
 regions_again (q ∷ qs) = λ t. record { kind = kind_there q.kind t; top = q.top; pinned = pin_there q.pinned t } ∷ regions_again qs t
 

@@ -14,6 +14,7 @@ use Rattle.g1_words.proofs.Tiling.{Front, Reaches-front, Reaches-rest, Tiles-le,
 use Rattle.g1_words.proofs.Objects.{StandsIn, holds_stands, Within, stands_within, ordinary_has, first_has}
 use Rattle.g1_image.specs.Draft.{ShapedBelow}
 use Rattle.g1_image.specs.Marks.{InRow, StartsIn, StartsBetween, StartsOf, StartsAre, mark, Marked, Marks, StartsAt}
+use Rattle.g1_words.proofs.Sound.{stands_object}
 
 -- a mark that is set, and the others
 pub mark_at : (marks : List Bool) (k a : ℕ) → k < length marks → k ≡ a → mark (set marks k true) a ≡ true
@@ -175,14 +176,8 @@ apart h o q some shaped ho hq lt =
       | inr ge ↦ apart_in (region h ho.place).kind h ho.place hq.place o q refl (shaped ho.place ho.in_heap).by_kind so sq wo wq lt ge
     ]
 
-stands_is : (k : Kind) (h : Heap) (r : ℕ) (o : Object) → StandsIn k h r o → IsObject h.words o
-stands_is Free h r o t = absurd t
-stands_is Ordinary h r o t = t.object
-stands_is HumongousFirst h r o t = t.1
-stands_is Continuation h r o t = absurd t
-
 pub has_header : (h : Heap) (o : Object) → HasObject h o → IsObject h.words o
-has_header h o has = stands_is (region h has.place).kind h has.place o (in_place h o has)
+has_header h o has = stands_object (region h has.place).kind h has.place o (in_place h o has)
 
 pub past_marks : (marks : List Bool) (a : ℕ) → IsTrue (mark marks a) → length marks ≤ a → ⊥
 past_marks [] a t le = let e : false ≡ true = t in cc

@@ -1,9 +1,8 @@
 -- Bytes that wait and bytes that come, sent one part after the other.
-use Rattle.std.proofs.Common.{◌≡◌, ℕ, ◌+◌, ◌-◌, ◌≤◌, ◌<◌, List, [], ◌++◌, Bool, Option, Some, None, Result, Ok, Err, length, take, drop, refl, sym, ap, ◌∙◌, arith, append_assoc, append-nil}
+use Rattle.std.proofs.Common.{◌≡◌, ℕ, ◌+◌, ◌≤◌, ◌<◌, List, [], ◌++◌, Bool, Option, Some, Result, Ok, Err, length, take, drop, refl, sym, ap, ◌∙◌, arith, append_assoc, append-nil}
 use Rattle.std.proofs.Common.{length-append, length-drop, take-append-drop, length-take-le, subst}
 use Rattle.std.specs.Prelude.{OnOk, IfErr}
-use Rattle.std.proofs.lemmas.List.{take-take}
-use Rattle.std.proofs.Math.Seq.{take-add, take-append-add}
+use Rattle.std.proofs.Math.Seq.{take-append-add}
 use lib.Seq.{take-append_seam}
 use Rattle.std.specs.Io.KnownBytes.{Appends}
 use Rattle.std.proofs.KnownBytes.{Appends-nil, Appends-trans}
@@ -12,17 +11,6 @@ use Rattle.g1_words.specs.declared.fault.Fault.TheVariants.{Device}
 use Rattle.g1_words.specs.declared.fault.Device.TheVariants.{Output}
 use Rattle.g1_image.specs.Source.{marked}
 use Rattle.g1_image.specs.Sink.{Sent, SendFails, Writes, output_mark}
-
--- what was written up to a place, and n bytes of what stands behind it, is what is written up to n bytes further
-pub appends_part : (a b c : Option (List ℕ)) (xs : List ℕ) (at n : ℕ) → n ≤ length xs - at → Appends a b (take at xs) → Appends b c (take n (take (length xs - at) (drop at xs)))
-    → Appends a c (take (at + n) xs)
-appends_part None b c xs at n h p q = tt
-appends_part (Some x) None c xs at n h p q = absurd p
-appends_part (Some x) (Some y) None xs at n h p q = absurd q
-appends_part (Some x) (Some y) (Some z) xs at n h p q =
-    let part : take n (take (length xs - at) (drop at xs)) ≡ take n (drop at xs) = take-take n (length xs - at) (drop at xs) h in
-    let whole : take at xs ++ take n (drop at xs) ≡ take (at + n) xs = sym (take-add at n xs) in
-    q ∙ (ap (λ (s : List ℕ). y ++ s) part ∙ (ap (λ (s : List ℕ). s ++ take n (drop at xs)) p ∙ (append_assoc x (take at xs) (take n (drop at xs)) ∙ ap (λ (s : List ℕ). x ++ s) whole)))
 
 -- bytes put over what stands behind the bytes that wait
 pub put_behind : (e n : ℕ) (d dst post : List ℕ) → e ≤ length d → length dst ≡ n → take (e + n) (take e d ++ (dst ++ post)) ≡ take e d ++ dst

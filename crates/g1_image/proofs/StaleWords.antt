@@ -1,15 +1,15 @@
 -- Stale words: lists of them, and the heap with null in each.
-use Rattle.std.proofs.Common.{◌≡◌, ◌≤◌, ◌<◌, ℕ, zero, suc, ◌+◌, ◌^◌, ◌⊎◌, inl, inr, List, [], ◌∷◌, ◌++◌, length, take, set, get_or, slice_index, arith, refl, sym, ap, subst, ◌∙◌}
+use Rattle.std.proofs.Common.{◌≡◌, ◌≤◌, ◌<◌, ℕ, zero, suc, ◌+◌, ◌^◌, ◌⊎◌, inl, inr, List, [], ◌∷◌, ◌++◌, length, take, set, get_or, slice_index, arith, refl, sym, ap, subst, ◌∙◌, Contains}
 use Rattle.std.proofs.Common.{get_or-set_other, get_or-set_same, length-set}
 use Rattle.std.specs.Prelude.{All, slice_index_or}
 use Rattle.std.proofs.lemmas.Bool.{cases_lt, cases_eq}
 use Rattle.std.proofs.lemmas.List.{get_or_default, get_or_past}
+use Rattle.std.proofs.lemmas.List.Elements.{Contains-append_cases, Contains-append_left, Contains-append_right}
 use Rattle.g1_words.specs.Heap.{Heap, region, start, end}
 use Rattle.g1_words.specs.Valid.{IsObject, Tiles, IsFirst, HoldsBy, HasObject, IsReference, IsSlotOf, IsShapedBy, MayBePinned, IsValid}
 use Rattle.g1_words.specs.declared.object.Object.{Object}
 use Rattle.g1_words.specs.declared.region.Kind.{Kind}
 use Rattle.g1_words.specs.declared.region.Kind.TheVariants.{Free, Ordinary, HumongousFirst, Continuation}
-use Rattle.g1_words.proofs.Members.{In, In-from_contains, Contains-from_in, In-append_left, In-append_right, In-append_cases}
 use Rattle.g1_words.proofs.Ordered.{Ordered, Ordered-from_pairs, pairs_from_ordered}
 use Rattle.g1_words.proofs.Rising.{Ordered-append}
 use Rattle.g1_words.proofs.Computed.{holds_are}
@@ -19,58 +19,60 @@ use Rattle.g1_image.specs.Stale.{IsStaleRoot, IsStaleSlot, IsPut, HasLowerPlace,
 use Rattle.g1_image.proofs.DecidedReferences.{decided_reference}
 use Rattle.g1_image.proofs.Rows.{apart, has_header}
 use Rattle.g1_image.proofs.Slots.{ends_within}
+use Rattle.g1_words.proofs.Members.{Contains-later}
+use Rattle.g1_words.proofs.Members.{none_contains}
 
 -- ---- lists of places with their words
 
 -- as `Lists`, by cases on the list
 pub record Gathers (P : ℕ → ℕ → Type 0) (found : List (ℕ × ℕ)) : Type 0 where
-  pub sound : (k x : ℕ) → In found (k, x) → P k x
-  pub whole : (k x : ℕ) → P k x → In found (k, x)
+  pub sound : (k x : ℕ) → Contains found (k, x) → P k x
+  pub whole : (k x : ℕ) → P k x → Contains found (k, x)
   pub rising : Ordered HasLowerPlace found
 
 pub gathers_none : (P : ℕ → ℕ → Type 0) → ((k x : ℕ) → P k x → ⊥) → Gathers P []
-gathers_none P none = record { sound = λ k x m. absurd m; whole = λ k x p. absurd (none k x p); rising = tt }
+gathers_none P none = record { sound = λ k x m. absurd (none_contains (k, x) m); whole = λ k x p. absurd (none k x p); rising = tt }
 
 pub gathers_same : (P Q : ℕ → ℕ → Type 0) (found : List (ℕ × ℕ)) → Gathers P found → ((k x : ℕ) → P k x → Q k x) → ((k x : ℕ) → Q k x → P k x) → Gathers Q found
 gathers_same P Q found g to from = record { sound = λ k x m. to k x (g.sound k x m); whole = λ k x q. g.whole k x (from k x q); rising = g.rising }
 
 module _ (P Q : ℕ → ℕ → Type 0) (found : List (ℕ × ℕ)) (a b : ℕ) (g : Gathers P found) (below : (k x : ℕ) → P k x → k < a) (to : (k x : ℕ) → P k x → Q k x) (here : Q a b)
     (from : (k x : ℕ) → Q k x → P k x ⊎ ((k ≡ a) × (x ≡ b))) where
-  sound_by : (k x : ℕ) → In found (k, x) ⊎ In {A = ℕ × ℕ} ((a, b) ∷ []) (k, x) → Q k x
+  sound_by : (k x : ℕ) → Contains found (k, x) ⊎ Contains {X = ℕ × ℕ} ((a, b) ∷ []) (k, x) → Q k x
   sound_by k x (inl m) = to k x (g.sound k x m)
-  sound_by k x (inr (inl e)) = subst (λ (e : ℕ × ℕ). Q e.0 e.1) e here
-  sound_by k x (inr (inr e)) = absurd e
+  sound_by k x (inr (zero, l, e)) = subst (λ (e : ℕ × ℕ). Q e.0 e.1) e here
+  sound_by k x (inr (suc j, l, e)) = absurd (omega (arith, l))
 
-  whole_by : (k x : ℕ) → P k x ⊎ ((k ≡ a) × (x ≡ b)) → In (found ++ (a, b) ∷ []) (k, x)
-  whole_by k x (inl p) = In-append_left found ((a, b) ∷ []) (k, x) (g.whole k x p)
+  whole_by : (k x : ℕ) → P k x ⊎ ((k ≡ a) × (x ≡ b)) → Contains (found ++ (a, b) ∷ []) (k, x)
+  whole_by k x (inl p) = Contains-append_left found ((a, b) ∷ []) (k, x) (g.whole k x p)
   whole_by k x (inr e) =
       let pair : ℕ → ℕ → ℕ × ℕ = λ u v. (u, v) in
       let same : pair a b ≡ pair k x = λ t. pair (sym e.0 t) (sym e.1 t) in
-      In-append_right found ((a, b) ∷ []) (k, x) (inl same)
+      Contains-append_right found ((a, b) ∷ []) (k, x) (zero, omega arith, same)
 
-  order : (u v : ℕ × ℕ) → In found u → In {A = ℕ × ℕ} ((a, b) ∷ []) v → HasLowerPlace u v
-  order u v m (inl e) = subst (λ (y : ℕ × ℕ). u.0 < y.0) e (below u.0 u.1 (g.sound u.0 u.1 m))
-  order u v m (inr e) = absurd e
+  order : (u v : ℕ × ℕ) → Contains found u → Contains {X = ℕ × ℕ} ((a, b) ∷ []) v → HasLowerPlace u v
+  order u v m (zero, l, e) = subst (λ (y : ℕ × ℕ). u.0 < y.0) e (below u.0 u.1 (g.sound u.0 u.1 m))
+  order u v m (suc k, l, e) = absurd (omega (arith, l))
 
   -- one place more, behind the others
   pub gathers_more : Gathers Q (found ++ (a, b) ∷ [])
   gathers_more = record {
-    sound = λ k x m. sound_by k x (In-append_cases found ((a, b) ∷ []) (k, x) m);
+    sound = λ k x m. sound_by k x (Contains-append_cases found ((a, b) ∷ []) (k, x) m);
     whole = λ k x q. whole_by k x (from k x q);
-    rising = Ordered-append HasLowerPlace found ((a, b) ∷ []) g.rising ((λ y k. absurd k), tt) order;
+    rising = Ordered-append HasLowerPlace found ((a, b) ∷ []) g.rising ((λ y k. absurd (none_contains y k)), tt) order;
   }
 
 pub lists_of : (P : ℕ → ℕ → Type 0) (found : List (ℕ × ℕ)) → Gathers P found → Lists P found
 lists_of P found g = record {
-  sound = λ k d lt. let e : ℕ × ℕ = get_or found k d in g.sound e.0 e.1 (In-from_contains found e (k, lt, get_or_default found k e d lt));
-  whole = λ k x p. Contains-from_in found (k, x) (g.whole k x p);
+  sound = λ k d lt. let e : ℕ × ℕ = get_or found k d in g.sound e.0 e.1 (k, lt, get_or_default found k e d lt);
+  whole = λ k x p. (g.whole k x p);
   rising = pairs_from_ordered HasLowerPlace found g.rising;
 }
 
 pub gathers_of : (P : ℕ → ℕ → Type 0) (found : List (ℕ × ℕ)) → Lists P found → Gathers P found
 gathers_of P found l = record {
-  sound = λ k x m. let c = Contains-from_in found (k, x) m in subst (λ (e : ℕ × ℕ). P e.0 e.1) c.2 (l.sound c.0 (k, x) c.1);
-  whole = λ k x p. In-from_contains found (k, x) (l.whole k x p);
+  sound = λ k x m. let c = m in subst (λ (e : ℕ × ℕ). P e.0 e.1) c.2 (l.sound c.0 (k, x) c.1);
+  whole = λ k x p. (l.whole k x p);
   rising = Ordered-from_pairs HasLowerPlace found l.rising;
 }
 
@@ -123,15 +125,15 @@ nulled_more (e ∷ found) words (suc i) d lt =
     ap (λ k. nulled (take k (e ∷ found)) words) (let s : suc i + 1 ≡ suc (i + 1) = omega arith in s) ∙ nulled_more found (set words e.0 0) i d (omega (arith, lt))
 
 -- a word is as it was, or its place is one of the list
-nulled_cases : (found : List (ℕ × ℕ)) (words : List ℕ) (k : ℕ) → ((x : ℕ) × In found (k, x)) ⊎ (slice_index (nulled found words) k ≡ slice_index words k)
+nulled_cases : (found : List (ℕ × ℕ)) (words : List ℕ) (k : ℕ) → ((x : ℕ) × Contains found (k, x)) ⊎ (slice_index (nulled found words) k ≡ slice_index words k)
 nulled_cases [] words k = inr refl
 nulled_cases (e ∷ found) words k = elim (nulled_cases found (set words e.0 0) k) [
-  | inl m ↦ inl (m.0, inr m.1)
+  | inl m ↦ inl (m.0, Contains-later e found (k, m.0) m.1)
   | inr same ↦ elim (cases_eq k e.0) [
     | inl here ↦
         let pair : ℕ → ℕ → ℕ × ℕ = λ u v. (u, v) in
         let found_here : pair e.0 e.1 ≡ pair k e.1 = λ t. pair (sym here t) e.1 in
-        inl (e.1, inl found_here)
+        inl (e.1, (zero, omega arith, found_here))
     | inr ne ↦ inr (same ∙ get_or-set_other words e.0 k 0 0 ne)
   ]
 ]
@@ -149,12 +151,12 @@ zero_stays : (found : List (ℕ × ℕ)) (words : List ℕ) (k : ℕ) → slice_
 zero_stays [] words k z = z
 zero_stays (e ∷ found) words k z = zero_stays found (set words e.0 0) k (zero_set words e.0 k z)
 
-zero_listed : (found : List (ℕ × ℕ)) (words : List ℕ) (k x : ℕ) → In found (k, x) → k < length words → slice_index (nulled found words) k ≡ 0
-zero_listed [] words k x m lt = absurd m
-zero_listed (e ∷ found) words k x (inl here) lt =
+zero_listed : (found : List (ℕ × ℕ)) (words : List ℕ) (k x : ℕ) → Contains found (k, x) → k < length words → slice_index (nulled found words) k ≡ 0
+zero_listed [] words k x m lt = absurd (omega (arith, m.1))
+zero_listed (e ∷ found) words k x (zero, b, here) lt =
     let at : e.0 ≡ k = ap (λ (p : ℕ × ℕ). p.0) here in
     zero_stays found (set words e.0 0) k (subst (λ i. slice_index (set words e.0 0) i ≡ 0) at (get_or-set_same words e.0 0 0 (omega (arith, at, lt))))
-zero_listed (e ∷ found) words k x (inr m) lt = zero_listed found (set words e.0 0) k x m (omega (arith, lt, length-set words e.0 0))
+zero_listed (e ∷ found) words k x (suc j, b, eq) lt = zero_listed found (set words e.0 0) k x (j, omega (arith, b), eq) (omega (arith, lt, length-set words e.0 0))
 
 small_stays : (found : List (ℕ × ℕ)) (words : List ℕ) → All (λ x. x < 2 ^ 64) words → All (λ x. x < 2 ^ 64) (nulled found words)
 small_stays found words small k d lt =
@@ -184,9 +186,9 @@ module _ (h : Heap) (roots slots : List (ℕ × ℕ)) (draft : IsDraft h) (shape
   object_kept : (o : Object) → HasObject h o → IsObject h.words o → IsObject (nulled slots h.words) o
   object_kept o has is = record { header = header_kept o has ∙ is.header; refs_fit = is.refs_fit; size_fits = is.size_fits }
 
-  tiles_kept : (from : ℕ) (os : List Object) (to : ℕ) → ((o : Object) → In os o → HasObject h o) → Tiles h.words from os to → Tiles (nulled slots h.words) from os to
+  tiles_kept : (from : ℕ) (os : List Object) (to : ℕ) → ((o : Object) → Contains os o → HasObject h o) → Tiles h.words from os to → Tiles (nulled slots h.words) from os to
   tiles_kept from [] to has t = t
-  tiles_kept from (o ∷ os) to has t = (t.0, object_kept o (has o (inl refl)) t.1, tiles_kept (from + o.size) os to (λ q m. has q (inr m)) t.2)
+  tiles_kept from (o ∷ os) to has t = (t.0, object_kept o (has o (zero, omega arith, refl)) t.1, tiles_kept (from + o.size) os to (λ q m. has q (suc m.0, omega (arith, m.1), m.2)) t.2)
 
   first_kept : (r : ℕ) (o : Object) → r < h.geometry.n → IsFirst h r o → IsFirst (without h roots slots) r o
   first_kept r o lt first = record { kind = first.kind; at = first.at; object = object_kept o (first_has h r o lt first) first.object }
@@ -198,7 +200,7 @@ module _ (h : Heap) (roots slots : List (ℕ × ℕ)) (draft : IsDraft h) (shape
     others = os;
     in_heap = lt;
     holds = subst (λ k. HoldsBy k h r os) (sym e) t;
-    one_of = Contains-from_in os o m;
+    one_of = m;
   }) t
   holds_kept HumongousFirst r os lt e (o, first, one) = (o, first_kept r o lt first, one)
   holds_kept Continuation r os lt e t = t
@@ -283,5 +285,5 @@ module _ (h : Heap) (roots slots : List (ℕ × ℕ)) (draft : IsDraft h) (shape
   pub slot_places : All (λ (e : ℕ × ℕ). e.0 < length h.words) slots
   slot_places k d lt =
       let e : ℕ × ℕ = get_or slots k d in
-      let s = stale_slots.sound e.0 e.1 (In-from_contains slots e (k, lt, get_or_default slots k e d lt)) in
+      let s = stale_slots.sound e.0 e.1 (k, lt, get_or_default slots k e d lt) in
       slot_in s.0.0 e.0 s.0.1 s.0.2

@@ -24,7 +24,7 @@ use Rattle.g1_image.proofs.Decided.{Decided, decided_as, decided_both, decided_u
 use Rattle.g1_image.proofs.ToldTexts.{told_u64, told_many, told_numbers, told_entry, told_set}
 
 -- a power of two
-decided_power : (n : ℕ) → Decided (IsPowerOfTwo n)
+pub decided_power : (n : ℕ) → Decided (IsPowerOfTwo n)
 decided_power n = decided_as (ones n ≡ 1) (IsPowerOfTwo n) (power_of_ones (n + 1) n (omega arith)) (λ p. ap ones p.1 ∙ ones_of_power p.0) (decided_eq (ones n) 1)
 
 -- sizes within the bounds

@@ -1,13 +1,14 @@
 -- A walk to which a pair is added is a walk.
 use Rattle.std.proofs.Common.{◌≡◌, ℕ, suc, ◌+◌, ◌<◌, ◌≤◌, ◌++◌, ◌⊎◌, inl, inr, List, [], ◌∷◌, length, set, Contains, IsTrue, refl, sym, ap, subst, ◌∙◌, arith, slice_index, Bool}
 use Rattle.std.proofs.lemmas.Bool.{cases_lt}
-use Rattle.std.proofs.lemmas.List.{get_or_append_left, get_or_push, length_push, length-set}
+use Rattle.std.proofs.lemmas.List.{length-set}
 use Rattle.g1_words.specs.Geometry.{most_words}
 use Rattle.g1_words.specs.Heap.{Heap, object_at, objects}
 use Rattle.g1_words.specs.Survivors.{in_set}
 use Rattle.g1_words.specs.Valid.{IsValid}
 use Rattle.g1_words.proofs.Sound.{object_in}
 use Rattle.g1_same.specs.Walk.{IsIndex}
+use Rattle.g1_same.proofs.Adding.{pushed_length, pushed_new, pushed_old}
 use Rattle.g1_same.proofs.Tables.{index_more, index_few}
 use Rattle.g1_kept.specs.declared.pairs.Pairs.{Pairs}
 use Rattle.g1_kept.specs.Keeps.{MayHoldCopy}
@@ -35,15 +36,6 @@ pub record IsAdded (w v : Pairs) (a b : ℕ) : Type 0 where
   pub after : v.after.items ≡ w.after.items ++ b ∷ []
   pub new_of : v.new_of.items ≡ set w.new_of.items a (suc (length w.before.items))
   pub old_of : v.old_of.items ≡ set w.old_of.items b (suc (length w.before.items))
-
-pushed_old : (xs ys : List ℕ) (x i : ℕ) → ys ≡ xs ++ x ∷ [] → i < length xs → slice_index ys i ≡ slice_index xs i
-pushed_old xs ys x i e p = ap (λ l. slice_index l i) e ∙ get_or_append_left xs (x ∷ []) 0 i p
-
-pushed_new : (xs ys : List ℕ) (x i : ℕ) → ys ≡ xs ++ x ∷ [] → i ≡ length xs → slice_index ys i ≡ x
-pushed_new xs ys x i e p = ap (λ l. slice_index l i) e ∙ get_or_push xs x 0 i (sym p)
-
-pushed_length : (xs ys : List ℕ) (x : ℕ) → ys ≡ xs ++ x ∷ [] → length ys ≡ length xs + 1
-pushed_length xs ys x e = ap length e ∙ length_push xs x
 
 module _ (fill : Bool) (chosen : List ℕ) (g h : Heap) (w v : Pairs) (a b : ℕ) (walk : IsPairWalk fill chosen g h w) (e : IsAdded w v a b) where
   len : length v.before.items ≡ length w.before.items + 1

@@ -6,12 +6,14 @@ use Rattle.g1_words.specs.Heap.{Heap, word, kind, object_at}
 use Rattle.g1_words.specs.Survivors.{in_set}
 use Rattle.g1_words.specs.Valid.{IsValid}
 use Rattle.g1_words.specs.Copy.{renamed}
+use Rattle.g1_same.proofs.Copies.{copied_data, copied_header, copied_slot}
+use Rattle.g1_same.proofs.Heaps.{root_target, slot_target}
 use Rattle.g1_kept.specs.declared.lost.Lost.{Lost}
 use Rattle.g1_kept.specs.declared.lost.Lost.TheVariants as lost
 use Rattle.g1_kept.specs.Keeps.{MayHoldCopy, IsAsItWas, Keeps, Remains, outside as outside_remains, root as root_remains, slot as slot_remains}
 use Rattle.g1_kept.specs.Lost.{Match, outside, root, slot, Disagree, changed, null, split, joined, IsUsedOutside, IsLoss}
 use Rattle.g1_kept.proofs.Regions.{other_top}
-use Rattle.g1_kept.proofs.Remaining.{root_target, slot_target, remains_object, copied_header, copied_slot, copied_data}
+use Rattle.g1_kept.proofs.Remaining.{remains_object}
 
 module _ (fill : Bool) (set : List ℕ) (g h : Heap) (left : IsValid g) (right : IsValid h) (k : Keeps fill set g h) where
   same_header : (a : ℕ) → Remains set g h a → word h (k.rename a) ≡ word g a

@@ -9,10 +9,11 @@ use Rattle.g1_words.specs.Valid.{IsValid}
 use Rattle.g1_words.specs.Live.{Live, seed, child}
 use Rattle.g1_words.specs.Copy.{renamed}
 use Rattle.g1_words.proofs.Sound.{sound}
+use Rattle.g1_same.proofs.Copies.{copied_header, copied_slot}
 use Rattle.g1_same.proofs.Heaps.{root_of, slot_of, object_named, root_names, slot_names, live_object}
 use Rattle.g1_kept.specs.Keeps.{Keeps, Remains, outside, root, slot}
 use Rattle.g1_kept.specs.Laws.{KeepsGraph}
-use Rattle.g1_kept.proofs.Remaining.{remains_object, copied_header, copied_slot}
+use Rattle.g1_kept.proofs.Remaining.{remains_object}
 
 module _ (fill : Bool) (set : List ℕ) (g h : Heap) (left : IsValid g) (right : IsValid h) (k : Keeps fill set g h) where
   -- where an object stands in the heap after, the region is in use

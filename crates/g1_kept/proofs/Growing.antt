@@ -9,13 +9,6 @@ use Rattle.g1_kept.specs.Walk.{ArePaired, HasMorePairs, PairsRoots, PairsSlots, 
 abbrev pub ComparesFirst : List ℕ → Heap → Heap → Pairs → List ℕ → ℕ → Type 0
 ComparesFirst set g h w starts k = (i : ℕ) → i < k → IsCompared set g h w (slice_index starts i) (slice_index starts i)
 
-pub none_then : {X : Type 0} (P : Type 0) (o : Option X) → ((x : X) → o ≡ Some x → ⊥) → IfNone o P → P
-none_then P None none h = h
-none_then P (Some x) none h = absurd (none x refl)
-
-pub some_then : {X : Type 0} (P : X → Type 0) (o : Option X) (x : X) → o ≡ Some x → IfSome o P → P x
-some_then P o x e h = subst (λ o. IfSome o P) e h
-
 -- what follows where nothing was found and nothing failed
 pub ok_none_then : {X E : Type 0} (P Q W G : Type 0) (r : Result (Option X) E) → IfOk r (λ o. IfNone o P) → OnOk r W → OnOk r G → (W → G → P → Q) → IfOk r (λ o. IfNone o Q)
 ok_none_then P Q W G (Ok None) p w g then = then w g p

@@ -4,10 +4,12 @@ use Rattle.std.proofs.lemmas.Bool.{cases_lt, false≢true}
 use Rattle.g1_words.specs.Heap.{Heap, word, object_at}
 use Rattle.g1_words.specs.Survivors.{in_set}
 use Rattle.g1_same.specs.Walk.{IsEarlier, IsNew}
+use Rattle.g1_same.proofs.Adding.{earlier_next}
+use Rattle.g1_same.proofs.First.{way_cases}
 use Rattle.g1_kept.specs.declared.lost.Lost.{Lost}
 use Rattle.g1_kept.specs.declared.lost.Lost.TheVariants as lost
 use Rattle.g1_kept.specs.Keeps.{MayHoldCopy}
-use Rattle.g1_kept.proofs.Places.{places, sooner, later, neither, turn_one, words_one, AreSame, words_there, same_back}
+use Rattle.g1_kept.proofs.Places.{sooner, neither, turn_one, words_one, AreSame, words_there, same_back}
 use Rattle.g1_kept.specs.Order.{IsTurn, AreWords, DoAgree, IsSearch, Clash, changed, null, split, joined, IsLostAt, IsMetFirst}
 
 module _ (fill : Bool) (set : List ℕ) (g h : Heap) where
@@ -34,8 +36,7 @@ module _ (fill : Bool) (set : List ℕ) (g h : Heap) where
                     elim (cases_lt i j.0) [
                       | inl less ↦ (
                         more,
-                        later (slice_index t.froms i) (slice_index t.numbers i) p q
-                            (before_later i j.0 p q (t.rising i j.0 less j.1) j.4),
+                        earlier_next (slice_index t.froms i) (slice_index t.numbers i) p q (before_later i j.0 p q (t.rising i j.0 less j.1) j.4),
                       )
                       | inr ge ↦
                           let one : j.0 ≡ i = omega (arith, le, ge) in
@@ -241,10 +242,10 @@ module _ (fill : Bool) (set : List ℕ) (g h : Heap) where
     same_here l (lost.Pinned r) o p = absurd p
 
 before_that : (a b f n k m : ℕ) → IsEarlier f n k m → IsEarlier a b f n → IsEarlier a b k m
-before_that a b f n k m e d = sooner a b f n k m (later a b f n d) e
+before_that a b f n k m e d = sooner a b f n k m (earlier_next a b f n d) e
 
 pub one_met : (fill : Bool) (set : List ℕ) (g h : Heap) (l m : Lost) → IsMetFirst fill set g h l → IsMetFirst fill set g h m → l ≡ m
-one_met fill set g h l m a b = elim (places a.from a.number b.from b.number) [
+one_met fill set g h l m a b = elim (way_cases a.from a.number b.from b.number) [
   | inl e ↦ absurd (never fill set g h a.olds a.news a.from a.number a.search b.olds b.news b.from b.number b.search
       (λ p q d. before_that p q a.from a.number b.from b.number e d) l e a.here)
   | inr r ↦ elim r [

@@ -1,15 +1,16 @@
 -- The search over the objects outside the set, by address.
-use Rattle.std.proofs.Common.{◌≡◌, ◌≢◌, ℕ, zero, suc, ◌+◌, ◌*◌, ◌<◌, ◌≤◌, inl, inr, List, [], ◌∷◌, ◌++◌, length, flat_map, Contains, IsFalse, refl, sym, ap, subst, ◌∙◌, arith, slice_index, Bool}
+use Rattle.std.proofs.Common.{◌≡◌, ◌≢◌, ℕ, zero, suc, ◌+◌, ◌*◌, ◌<◌, ◌≤◌, inl, inr, List, [], ◌∷◌, length, flat_map, Contains, IsFalse, refl, sym, ap, subst, ◌∙◌, arith, slice_index, Bool}
 use Rattle.std.proofs.Math.Nat.{div-mul-le_self, lt-div-mul-add, mul-le-mul_right}
 use Rattle.std.proofs.lemmas.Bool.{cases_lt}
+use Rattle.std.proofs.lemmas.List.Elements.{Contains-get_or}
 use Rattle.g1_words.specs.declared.object.Object.{Object}
 use Rattle.g1_words.specs.declared.region.Kind.TheVariants.{Free}
 use Rattle.g1_words.specs.Lists.{has}
 use Rattle.g1_words.specs.Heap.{Heap, kind, start, region_of, object_at, objects, objects_in, regions}
 use Rattle.g1_words.specs.Valid.{IsValid}
-use Rattle.g1_words.proofs.Computed.{In-range, in_region_has, has_contains}
-use Rattle.g1_words.proofs.Members.{In, In-from_contains, Contains-from_in, In-append_left, In-map, flat_map_cases, map_cases}
-use Rattle.g1_words.proofs.Indices.{get_or-In}
+use Rattle.g1_words.proofs.Computed.{Contains-range, in_region_has, has_contains}
+use Rattle.g1_words.proofs.Lists.{Ordered-append_left, Ordered-append_right}
+use Rattle.g1_words.proofs.Members.{Contains-map, flat_map_cases, map_cases}
 use Rattle.g1_words.proofs.Objects.{div_between}
 use Rattle.g1_words.proofs.Ordered.{Ordered, Ordered-from_pairs}
 use Rattle.g1_words.proofs.Rising.{IsBefore, objects_apart}
@@ -23,31 +24,23 @@ use Rattle.g1_kept.proofs.Search.{skip_to, turn_outside}
 
 -- ---- the objects of a region rise
 
-ordered_left : {A : Type 0} (R : A → A → Type 0) (xs ys : List A) → Ordered R (xs ++ ys) → Ordered R xs
-ordered_left R [] ys o = tt
-ordered_left R (x ∷ xs) ys o = ((λ y i. o.0 y (In-append_left xs ys y i)), ordered_left R xs ys o.1)
+ordered_part : {A B : Type 0} (R : B → B → Type 0) (f : A → List B) (xs : List A) (x : A) → Contains xs x → Ordered R (flat_map f xs) → Ordered R (f x)
+ordered_part R f [] x i o = absurd (omega (arith, i.1))
+ordered_part R f (y ∷ xs) x (zero, b, e) o = subst (λ z. Ordered R (f z)) e (Ordered-append_left R (f y) (flat_map f xs) o)
+ordered_part R f (y ∷ xs) x (suc k, b, e) o = ordered_part R f xs x (k, omega (arith, b), e) (Ordered-append_right R (f y) (flat_map f xs) o)
 
-ordered_right : {A : Type 0} (R : A → A → Type 0) (xs ys : List A) → Ordered R (xs ++ ys) → Ordered R ys
-ordered_right R [] ys o = o
-ordered_right R (x ∷ xs) ys o = ordered_right R xs ys o.1
-
-ordered_part : {A B : Type 0} (R : B → B → Type 0) (f : A → List B) (xs : List A) (x : A) → In xs x → Ordered R (flat_map f xs) → Ordered R (f x)
-ordered_part R f [] x i o = absurd i
-ordered_part R f (y ∷ xs) x (inl e) o = subst (λ z. Ordered R (f z)) e (ordered_left R (f y) (flat_map f xs) o)
-ordered_part R f (y ∷ xs) x (inr i) o = ordered_part R f xs x i (ordered_right R (f y) (flat_map f xs) o)
-
-rise_of : (os : List Object) → Ordered IsBefore os → ((o : Object) → In os o → 0 < o.size) → (i j : ℕ) → i < j → j < length (starts_of os)
+rise_of : (os : List Object) → Ordered IsBefore os → ((o : Object) → Contains os o → 0 < o.size) → (i j : ℕ) → i < j → j < length (starts_of os)
     → slice_index (starts_of os) i < slice_index (starts_of os) j
 rise_of [] ordered some i j less lt = absurd (omega (arith, lt))
 rise_of (o ∷ os) ordered some i zero less lt = absurd (omega (arith, less))
 rise_of (o ∷ os) ordered some zero (suc j) less lt =
-    let there : In (starts_of os) (slice_index (starts_of os) j) = get_or-In (starts_of os) j 0 (omega (arith, lt)) in
+    let there : Contains (starts_of os) (slice_index (starts_of os) j) = Contains-get_or (starts_of os) j 0 (omega (arith, lt)) in
     let m = map_cases (λ (q : Object). q.at) os (slice_index (starts_of os) j) there in
     let before : o.at + o.size ≤ m.0.at = ordered.0 m.0 m.1 in
-    let size : 0 < o.size = some o (inl refl) in
+    let size : 0 < o.size = some o (zero, omega arith, refl) in
     let is : m.0.at ≡ slice_index (starts_of os) j = m.2 in
     omega (arith, before, size, is)
-rise_of (o ∷ os) ordered some (suc i) (suc j) less lt = rise_of os ordered.1 (λ q k. some q (inr k)) i j (omega (arith, less)) (omega (arith, lt))
+rise_of (o ∷ os) ordered some (suc i) (suc j) less lt = rise_of os ordered.1 (λ q k. some q (suc k.0, omega (arith, k.1), k.2)) i j (omega (arith, less)) (omega (arith, lt))
 
 -- The walk has looked at the first objects of a region, and at nothing that comes after them.
 pub record IsAlong (fill : Bool) (set : List ℕ) (g h : Heap) (w : Pairs) (starts : List ℕ) (r i : ℕ) : Type 0 where
@@ -83,8 +76,8 @@ module _ (fill : Bool) (set : List ℕ) (g h : Heap) (left : IsValid g) (right :
   -- an object outside the set is one of its region's
   object_here : (t r : ℕ) → IsOutside set g h t → region_of g t ≡ r → Contains (objects_in g r) (object_at g t)
   object_here t r o e =
-      let m = flat_map_cases (objects_in g) (regions g) (object_at g t) (In-from_contains (objects g) (object_at g t) o.object) in
-      let c = Contains-from_in (objects_in g m.0) (object_at g t) m.2 in
+      let m = flat_map_cases (objects_in g) (regions g) (object_at g t) o.object in
+      let c = m.2 in
       let there : region_of g t ≡ m.0 = (sound g left).in_region m.0 (object_at g t) c in
       subst (λ z. Contains (objects_in g z) (object_at g t)) (sym there ∙ e) c
 
@@ -102,22 +95,22 @@ module _ (fill : Bool) (set : List ℕ) (g h : Heap) (left : IsValid g) (right :
       (starts : List ℕ) (is : starts ≡ starts_of (objects_in g r)) where
     at_region : (i : ℕ) → i < length starts → region_of g (slice_index starts i) ≡ r
     at_region i p =
-        let m = map_cases (λ (o : Object). o.at) (objects_in g r) (slice_index starts i) (subst (λ l. In l (slice_index starts i)) is (get_or-In starts i 0 p)) in
-        let here : region_of g m.0.at ≡ r = (sound g left).in_region r m.0 (Contains-from_in (objects_in g r) m.0 m.1) in
+        let m = map_cases (λ (o : Object). o.at) (objects_in g r) (slice_index starts i) (subst (λ l. Contains l (slice_index starts i)) is (Contains-get_or starts i 0 p)) in
+        let here : region_of g m.0.at ≡ r = (sound g left).in_region r m.0 m.1 in
         subst (λ z. region_of g z ≡ r) m.2 here
 
     rise : (i j : ℕ) → i < j → j < length starts → slice_index starts i < slice_index starts j
     rise = subst (λ l. (i j : ℕ) → i < j → j < length l → slice_index l i < slice_index l j) (sym is) (rise_of (objects_in g r) ordered some)
       where
-        place : In (regions g) r
-        place = In-range 0 g.geometry.n r (omega arith) (omega (arith, lt))
+        place : Contains (regions g) r
+        place = Contains-range 0 g.geometry.n r (omega arith) (omega (arith, lt))
 
         ordered : Ordered IsBefore (objects_in g r)
         ordered = ordered_part IsBefore (objects_in g) (regions g) r place (Ordered-from_pairs IsBefore (objects g) (objects_apart g left))
 
-        some : (o : Object) → In (objects_in g r) o → 0 < o.size
+        some : (o : Object) → Contains (objects_in g r) o → 0 < o.size
         some o i =
-            let c : Contains (objects g) o = has_contains g o (in_region_has g r o left.shaped lt (Contains-from_in (objects_in g r) o i)) in
+            let c : Contains (objects g) o = has_contains g o (in_region_has g r o left.shaped lt i) in
             let k = (sound g left).slots_fit o c in
             omega (arith, k)
 
@@ -125,7 +118,7 @@ module _ (fill : Bool) (set : List ℕ) (g h : Heap) (left : IsValid g) (right :
     one_of_starts : (t : ℕ) → IsOutside set g h t → start g r ≤ t → t < start g (r + 1) → (j : ℕ) × (j < length starts) × (slice_index starts j ≡ t)
     one_of_starts t o from to =
         let c = object_here t r o (region_is t r from to) in
-        place_of starts t (subst (λ l. In l t) (sym is) (In-map (λ (q : Object). q.at) (objects_in g r) (object_at g t) (In-from_contains (objects_in g r) (object_at g t) c)))
+        place_of starts t (subst (λ l. Contains l t) (sym is) (Contains-map (λ (q : Object). q.at) (objects_in g r) (object_at g t) c))
 
     pub along_start : (w : Pairs) → Searches fill set g h w (suc (start g r)) 0 → IsAlong fill set g h w starts r 0
     along_start w search = record {

@@ -1,43 +1,39 @@
 -- The image after a pause keeps what a pause keeps.
-use Rattle.std.proofs.Common.{◌≡◌, ℕ, ◌/◌, ◌%◌, ◌^◌, ◌<◌, ◌⊎◌, inl, inr, Bool, true, false, not, ◌&&◌, List, get_or, map, filter, flat_map, Contains, refl, sym, ap, subst, ◌∙◌, arith, cond}
-use Rattle.std.proofs.lemmas.Bool.{cases_Bool, false≢true}
+use Rattle.std.proofs.Common.{◌≡◌, ℕ, ◌/◌, ◌%◌, ◌^◌, ◌<◌, ◌⊎◌, inl, inr, Bool, true, false, not, List, filter, Contains, refl, sym, ap, subst, ◌∙◌, arith, cond}
+use Rattle.std.proofs.lemmas.Bool.{cases_Bool, cond-false, cond-true, false≢true}
 use Rattle.std.proofs.lemmas.List.FromFn.{get_or-map-range_with_len}
+use Rattle.std.proofs.lemmas.List.Elements.{Contains-append_left}
 use Rattle.g1_words.specs.declared.object.Object.{Object}
 use Rattle.g1_words.specs.declared.region.Region.{Region}
 use Rattle.g1_words.specs.declared.region.Kind.{Kind}
 use Rattle.g1_words.specs.declared.region.Kind.TheVariants.{Free, Ordinary, HumongousFirst, Continuation}
 use Rattle.g1_words.specs.Lists.{has}
-use Rattle.g1_words.specs.Heap.{Heap, free_region, region, regions, kind, top, word, region_of, slots, object_at, objects, objects_in}
-use Rattle.g1_words.specs.References.{Ref, refs, refs_at, named, root_targets, targets}
+use Rattle.g1_words.specs.Heap.{Heap, free_region, region, regions, kind, top, word, region_of, object_at, objects, objects_in}
+use Rattle.g1_words.specs.References.{root_targets, targets}
 use Rattle.g1_words.specs.Live.{Reached, seed, child}
 use Rattle.g1_words.specs.Survivors.{in_set, seeds, children}
 use Rattle.g1_words.specs.Layout.{HasRoom, forward, kept, free_regions, to_space, need}
 use Rattle.g1_words.specs.Moves.{moved_object}
 use Rattle.g1_words.specs.Valid.{IsValid}
-use Rattle.g1_words.proofs.Members.{In, In-from_contains, Contains-from_in, In-append_left, In-append_right, In-flat_map, flat_map_cases, In-map, In-filter, in_from_has}
+use Rattle.g1_words.proofs.Members.{flat_map_cases, Contains-filter, Contains-from_has}
 use Rattle.g1_words.proofs.Indices.{is_free_region, taken_in}
 use Rattle.g1_words.proofs.Computed.{range_below}
 use Rattle.g1_words.proofs.OneToOne.{outside_stays, survivor_to_free, forward_one_to_one}
-use Rattle.g1_words.proofs.Shapes.{IsBuilt, built}
+use Rattle.g1_words.proofs.Shapes.{built}
 use Rattle.g1_words.proofs.Sound.{IsSound, sound}
 use Rattle.g1_image.specs.Image.{Image}
-use Rattle.g1_after.specs.Moved.{IsMoved, new_region}
+use Rattle.g1_after.specs.Moved.{IsMoved}
 use Rattle.g1_after.specs.Unnamed.{unnamed_regions, heap_without}
 use Rattle.g1_after.specs.Paused.{remaining}
-use Rattle.g1_after.proofs.PausedLaws.{copies_paused, objects_paused}
-use Rattle.g1_after.proofs.RulesMoved.{valid_moved}
-use Rattle.g1_after.proofs.UnnamedRegions.{unnamed_not_free, unnamed_kind}
+use Rattle.g1_after.proofs.ObjectsMoved.{region_moved}
+use Rattle.g1_after.proofs.PausedLaws.{built_between, copies_paused, objects_paused, set_not_freed}
+use Rattle.g1_after.proofs.SameGraphs.{named_from_outside}
+use Rattle.g1_after.proofs.UnnamedRegions.{unnamed_kind}
+use Rattle.g1_after.proofs.ValidMoved.{kept_if}
 use Rattle.g1_kept.specs.Keeps.{IsOfRun, IsFreed, IsAsItWas, KeepsRegion, Remains, outside, root, slot}
 use Rattle.g1_kept.specs.Laws.{PauseKeeps}
-use Rattle.g1_kept.proofs.Remaining.{remains_object, copied_header}
-
-cond_true : {X : Type 0} (b : Bool) (x y : X) → b ≡ true → cond b x y ≡ x
-cond_true true x y e = refl
-cond_true false x y e = cc
-
-cond_false : {X : Type 0} (b : Bool) (x y : X) → b ≡ false → cond b x y ≡ y
-cond_false true x y e = cc
-cond_false false x y e = refl
+use Rattle.g1_same.proofs.Copies.{copied_header}
+use Rattle.g1_kept.proofs.Remaining.{remains_object}
 
 -- a run's kinds
 of_run : (k : Kind) → (k ≡ HumongousFirst) ⊎ (k ≡ Continuation) → IsOfRun k
@@ -58,48 +54,35 @@ module _ (i : Image) (set l : List ℕ) (b : Image) (valid : IsValid i.heap) (ro
   is_sound : IsSound i.heap
   is_sound = sound i.heap valid
 
-  between : IsBuilt b.heap
-  between = valid_moved i set l b (built i.heap valid) room.ordinary room.survivors room.room moved
-
   sizes : after.geometry ≡ i.heap.geometry
   sizes = moved.geometry
 
   -- ---- the table
-
-  moved_region : (r : ℕ) → r < i.heap.geometry.n → region b.heap r ≡ new_region i.heap set l r
-  moved_region r lt = ap (λ t. get_or t r free_region) moved.table ∙ get_or-map-range_with_len (new_region i.heap set l) 0 i.heap.geometry.n r r free_region lt (omega arith)
 
   left_region : (r : ℕ) → r < i.heap.geometry.n → region after r ≡ cond (has freed r) free_region (region b.heap r)
   left_region r lt = get_or-map-range_with_len (λ r. cond (has freed r) free_region (region b.heap r)) 0 b.heap.geometry.n r r free_region
       (omega (arith, lt, ap (λ s. s.n) moved.geometry)) (omega arith)
 
   of_set_free : (r : ℕ) → r < i.heap.geometry.n → has set r ≡ true → region b.heap r ≡ free_region
-  of_set_free r lt e = moved_region r lt ∙ cond_true (has set r) free_region _ e
+  of_set_free r lt e = region_moved i set l b is_sound room moved r lt ∙ cond-true (has set r) free_region _ e
 
   freed_free : (r : ℕ) → r < i.heap.geometry.n → has freed r ≡ true → region after r ≡ free_region
-  freed_free r lt e = left_region r lt ∙ cond_true (has freed r) free_region (region b.heap r) e
+  freed_free r lt e = left_region r lt ∙ cond-true (has freed r) free_region (region b.heap r) e
 
   not_freed_stays : (r : ℕ) → r < i.heap.geometry.n → has freed r ≡ false → region after r ≡ region b.heap r
-  not_freed_stays r lt e = left_region r lt ∙ cond_false (has freed r) free_region (region b.heap r) e
-
-  -- a region of the set is not one of those freed after it
-  set_not_freed : (r : ℕ) → r < i.heap.geometry.n → has set r ≡ true → has freed r ≡ false
-  set_not_freed r lt e = elim (cases_Bool (has freed r)) [
-    | inl t ↦ absurd (unnamed_not_free b.heap between r t (ap (λ (q : Region). q.kind) (of_set_free r lt e)))
-    | inr f ↦ f
-  ]
+  not_freed_stays r lt e = left_region r lt ∙ cond-false (has freed r) free_region (region b.heap r) e
 
   set_region : (r : ℕ) → r < i.heap.geometry.n → has set r ≡ true → kind after r ≡ Free
-  set_region r lt e = ap (λ (q : Region). q.kind) (not_freed_stays r lt (set_not_freed r lt e) ∙ of_set_free r lt e)
+  set_region r lt e = ap (λ (q : Region). q.kind) (not_freed_stays r lt (set_not_freed i set l b valid room moved r e) ∙ of_set_free r lt e)
 
   other_region : (fill : Bool) (r : ℕ) → r < i.heap.geometry.n → has set r ≡ false → (kind i.heap r ≡ Free) ⊎ (IsFreed i.heap after r ⊎ IsAsItWas fill i.heap after r)
   other_region fill r lt out = elim (cases_Bool (has (to_space i.heap l) r)) [
-    | inl t ↦ inl (is_free_region i.heap r (taken_in (need i.heap l) (free_regions i.heap) r (in_from_has (to_space i.heap l) r t))).0
+    | inl t ↦ inl (is_free_region i.heap r (taken_in (need i.heap l) (free_regions i.heap) r (Contains-from_has (to_space i.heap l) r t))).0
     | inr f ↦
-        let same : region b.heap r ≡ region i.heap r = moved_region r lt ∙ cond_false (has set r) free_region _ out ∙ cond_false (has (to_space i.heap l) r) _ (region i.heap r) f in
+        let same : region b.heap r ≡ region i.heap r = region_moved i set l b is_sound room moved r lt ∙ cond-false (has set r) free_region _ out ∙ cond-false (has (to_space i.heap l) r) _ (region i.heap r) f in
         inr (elim (cases_Bool (has freed r)) [
           | inl u ↦
-              let run : IsOfRun (kind i.heap r) = subst IsOfRun (ap (λ (q : Region). q.kind) same) (of_run (kind b.heap r) (unnamed_kind b.heap between r u)) in
+              let run : IsOfRun (kind i.heap r) = subst IsOfRun (ap (λ (q : Region). q.kind) same) (of_run (kind b.heap r) (unnamed_kind b.heap (built_between i set l b valid room moved) r u)) in
               inl (run, ap (λ (q : Region). q.kind) (freed_free r lt u))
           | inr u ↦
               let all : region after r ≡ region i.heap r = not_freed_stays r lt u ∙ same in
@@ -117,8 +100,8 @@ module _ (i : Image) (set l : List ℕ) (b : Image) (valid : IsValid i.heap) (ro
 
   region_in : (a : ℕ) → Contains (objects i.heap) (object_at i.heap a) → region_of i.heap a < i.heap.geometry.n
   region_in a c =
-      let m = flat_map_cases (objects_in i.heap) (regions i.heap) (object_at i.heap a) (In-from_contains (objects i.heap) (object_at i.heap a) c) in
-      let here : region_of i.heap a ≡ m.0 = is_sound.in_region m.0 (object_at i.heap a) (Contains-from_in (objects_in i.heap m.0) (object_at i.heap a) m.2) in
+      let m = flat_map_cases (objects_in i.heap) (regions i.heap) (object_at i.heap a) c in
+      let here : region_of i.heap a ≡ m.0 = is_sound.in_region m.0 (object_at i.heap a) m.2 in
       omega (arith, here, range_below 0 i.heap.geometry.n m.0 m.1)
 
   abbrev Stays : ℕ → Type 0
@@ -128,53 +111,23 @@ module _ (i : Image) (set l : List ℕ) (b : Image) (valid : IsValid i.heap) (ro
   mutual_reached : (a : ℕ) → Stays a → in_set i.heap set a ≡ true → Reached (seeds i.heap set) (children i.heap set) a
   mutual_reached a (outside o) t = absurd (false≢true (sym o.outside ∙ t))
   mutual_reached a (root c also) t =
-      let here : In (filter (in_set i.heap set) (root_targets i.heap)) a = In-filter (in_set i.heap set) (root_targets i.heap) a (In-from_contains (root_targets i.heap) a c) t in
-      seed (Contains-from_in (seeds i.heap set) a (In-append_left (filter (in_set i.heap set) (root_targets i.heap)) _ a here))
+      let here : Contains (filter (in_set i.heap set) (root_targets i.heap)) a = Contains-filter (in_set i.heap set) (root_targets i.heap) a c t in
+      seed (Contains-append_left (filter (in_set i.heap set) (root_targets i.heap)) _ a here)
   mutual_reached x (slot {a = a} r c also) t =
-      let there : In (targets i.heap a) x = In-from_contains (targets i.heap a) x c in
       elim (cases_Bool (in_set i.heap set a)) [
-        | inl u ↦ child (mutual_reached a r u) (Contains-from_in (children i.heap set a) x (In-filter (in_set i.heap set) (targets i.heap a) x there t))
-        | inr u ↦ seed (from_outside a x (remains_object set i.heap after valid a r) u there t)
+        | inl u ↦ child (mutual_reached a r u) (Contains-filter (in_set i.heap set) (targets i.heap a) x c t)
+        | inr u ↦ seed (named_from_outside i.heap set l is_sound room (object_at i.heap a) x (remains_object set i.heap after valid a r) u c t)
       ]
-    where
-      -- a slot of an object outside the set is outside, too
-      slot_outside : (a p : ℕ) → Contains (objects i.heap) (object_at i.heap a) → in_set i.heap set a ≡ false → In (slots (object_at i.heap a)) p → in_set i.heap set p ≡ false
-      slot_outside a p object out here = elim (cases_Bool (in_set i.heap set p)) [
-        | inl u ↦
-            let ordinary : kind i.heap (region_of i.heap p) ≡ Ordinary = room.ordinary (region_of i.heap p) (Contains-from_in set (region_of i.heap p) (in_from_has set (region_of i.heap p) u)) in
-            let home : region_of i.heap p ≡ region_of i.heap a = is_sound.slots_at_home (object_at i.heap a) p object (Contains-from_in (slots (object_at i.heap a)) p here) ordinary in
-            absurd (false≢true (sym out ∙ ap (has set) (sym home) ∙ u))
-        | inr u ↦ u
-      ]
-
-      from_outside : (a x : ℕ) → Contains (objects i.heap) (object_at i.heap a) → in_set i.heap set a ≡ false → In (targets i.heap a) x → in_set i.heap set x ≡ true → Contains (seeds i.heap set) x
-      from_outside a x object out there t =
-          let h : Heap = i.heap in
-          let p = flat_map_cases (λ p. named (word h p)) (slots (object_at h a)) x there in
-          let e : Ref = record { slot = p.0; target = x } in
-          let at : In (refs_at h p.0) e = In-map (λ a. record { slot = p.0; target = a }) (named (word h p.0)) x p.2 in
-          let inside : In (refs h) e = In-flat_map (λ o. flat_map (refs_at h) (slots o)) (objects h) (object_at h a) e
-          (In-from_contains (objects h) (object_at h a) object) (In-flat_map (refs_at h) (slots (object_at h a)) p.0 e p.1 at) in
-          let test : (Ref → Bool) = λ e. in_set h set e.target && not (in_set h set e.slot) in
-          let passes : test e ≡ true = ap (λ b. b && not (in_set h set p.0)) t ∙ ap not (slot_outside a p.0 object out p.1) in
-          let chosen : In (map (λ (e : Ref). e.target) (filter test (refs h))) x = In-map (λ (e : Ref). e.target) (filter test (refs h)) e (In-filter test (refs h) e inside passes) in
-          Contains-from_in (seeds h set) x (In-append_right (filter (in_set h set) (root_targets h)) (map (λ (e : Ref). e.target) (filter test (refs h))) x chosen)
 
   survives : (a : ℕ) → Stays a → in_set i.heap set a ≡ true → Contains l a
   survives a r t = (room.survivors.reached a).1 (mutual_reached a r t)
 
-  kept_there : (a : ℕ) → Stays a → In (kept i.heap set l) (object_at i.heap a)
-  kept_there a r = elim (cases_Bool (in_set i.heap set a)) [
-    | inl t ↦ In-append_right (filter (λ o. not (in_set i.heap set o.at)) (objects i.heap)) (map (object_at i.heap) l) (object_at i.heap a)
-        (In-map (object_at i.heap) l a (In-from_contains l a (survives a r t)))
-    | inr f ↦ In-append_left (filter (λ (o : Object). not (in_set i.heap set o.at)) (objects i.heap)) (map (object_at i.heap) l) (object_at i.heap a)
-        (In-filter (λ (o : Object). not (in_set i.heap set o.at)) (objects i.heap) (object_at i.heap a)
-        (In-from_contains (objects i.heap) (object_at i.heap a) (remains_object set i.heap after valid a r)) (ap not f))
-  ]
+  kept_there : (a : ℕ) → Stays a → Contains (kept i.heap set l) (object_at i.heap a)
+  kept_there a r = kept_if i set l b (built i.heap valid) room moved a (remains_object set i.heap after valid a r) (survives a r)
 
   not_in_freed : (a : ℕ) → Stays a → in_set i.heap freed a ≡ false
   not_in_freed a r = elim (cases_Bool (in_set i.heap set a)) [
-    | inl t ↦ set_not_freed (region_of i.heap a) (region_in a (remains_object set i.heap after valid a r)) t
+    | inl t ↦ set_not_freed i set l b valid room moved (region_of i.heap a) t
     | inr f ↦ outside_not_freed a r f
   ]
     where
@@ -188,8 +141,7 @@ module _ (i : Image) (set l : List ℕ) (b : Image) (valid : IsValid i.heap) (ro
 
   remains_there : (a : ℕ) → Stays a → Contains (remaining i.heap set l freed) (object_at i.heap a)
   remains_there a r =
-      Contains-from_in (remaining i.heap set l freed) (object_at i.heap a)
-      (In-filter (λ (o : Object). not (in_set i.heap freed o.at)) (kept i.heap set l) (object_at i.heap a) (kept_there a r) (ap not (not_in_freed a r)))
+      Contains-filter (λ (o : Object). not (in_set i.heap freed o.at)) (kept i.heap set l) (object_at i.heap a) (kept_there a r) (ap not (not_in_freed a r))
 
 pub pause_keeps : PauseKeeps
 pause_keeps fill i set l j valid room p =
@@ -207,12 +159,12 @@ pause_keeps fill i set l j valid room p =
             (record { of_set = set_region i set l b valid room p.moved r lt; other = other_region i set l b valid room p.moved fill r lt });
       };
       rename = f;
-      stays = λ a out. outside_stays h set l s room.ordinary room.survivors room.room a out;
-      moves = λ a r t. inl (survivor_to_free h set l s room.ordinary room.survivors room.room a
-          (In-from_contains l a (survives i set l b valid room p.moved a (subst (λ z. Remains set h z a) heap r) t)));
-      one_to_one = λ a c ra rc e. forward_one_to_one h set l s room.ordinary room.survivors room.room (object_at h a) (object_at h c)
-          (Contains-from_in (kept h set l) (object_at h a) (kept_there i set l b valid room p.moved a (subst (λ z. Remains set h z a) heap ra)))
-          (Contains-from_in (kept h set l) (object_at h c) (kept_there i set l b valid room p.moved c (subst (λ z. Remains set h z c) heap rc))) e;
+      stays = outside_stays h set l s room;
+      moves = λ a r t. inl (survivor_to_free h set l s room a
+          (survives i set l b valid room p.moved a (subst (λ z. Remains set h z a) heap r) t));
+      one_to_one = λ a c ra rc e. forward_one_to_one h set l s room (object_at h a) (object_at h c)
+          (kept_there i set l b valid room p.moved a (subst (λ z. Remains set h z a) heap ra))
+          (kept_there i set l b valid room p.moved c (subst (λ z. Remains set h z c) heap rc)) e;
       roots = ap (λ (z : Heap). z.roots) heap ∙ p.moved.roots;
       stands = λ a r.
           let c = stays a r in

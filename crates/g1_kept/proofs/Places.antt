@@ -1,26 +1,8 @@
 -- The places of a search, their order, and the objects and words that are there.
-use Rattle.std.proofs.Common.{◌≡◌, ℕ, zero, suc, ◌+◌, ◌<◌, ◌≤◌, ◌⊎◌, inl, inr, List, length, refl, sym, ap, ◌∙◌, arith, slice_index}
-use Rattle.std.proofs.lemmas.Bool.{cases_lt}
+use Rattle.std.proofs.Common.{◌≡◌, ℕ, zero, suc, ◌+◌, ◌<◌, ◌≤◌, inl, inr, List, length, refl, sym, ap, ◌∙◌, arith, slice_index}
 use Rattle.g1_words.specs.Heap.{Heap, word}
 use Rattle.g1_same.specs.Walk.{IsEarlier}
 use Rattle.g1_kept.specs.Order.{IsTurn, AreWords}
-
-pub places : (f m k n : ℕ) → IsEarlier f m k n ⊎ (((f ≡ k) × (m ≡ n)) ⊎ IsEarlier k n f m)
-places f m k n = elim (cases_lt f k) [
-  | inl l ↦ inl (inl l)
-  | inr le ↦ elim (cases_lt k f) [
-    | inl l ↦ inr (inr (inl l))
-    | inr ge ↦
-        let e : f ≡ k = omega (arith, le, ge) in
-        elim (cases_lt m n) [
-          | inl l ↦ inl (inr (e, l))
-          | inr mn ↦ elim (cases_lt n m) [
-            | inl l ↦ inr (inr (inr (sym e, l)))
-            | inr nm ↦ inr (inl (e, omega (arith, mn, nm)))
-          ]
-        ]
-  ]
-]
 
 -- a place that is not after an earlier one is earlier
 pub sooner : (a b c d e f : ℕ) → IsEarlier a b c (d + 1) → IsEarlier c d e f → IsEarlier a b e f
@@ -31,10 +13,6 @@ sooner a b c d e f (inr p) (inr q) = inr (omega (arith, p.0, q.0), omega (arith,
 
 pub here : (a b : ℕ) → IsEarlier a b a (b + 1)
 here a b = inr (refl, omega arith)
-
-pub later : (a b c d : ℕ) → IsEarlier a b c d → IsEarlier a b c (d + 1)
-later a b c d (inl p) = inl p
-later a b c d (inr p) = inr (p.0, omega (arith, p.1))
 
 -- of two places neither of which is after the other
 pub neither : (a b c d : ℕ) → IsEarlier a b c (d + 1) → IsEarlier c d a (b + 1) → (a ≡ c) × (b ≡ d)

@@ -3,16 +3,16 @@ use Rattle.std.proofs.Common.{◌≡◌, ◌≢◌, ℕ, zero, suc, ◌+◌, ◌
 use Rattle.std.proofs.Common.{arith, slice_index, ltb}
 use Rattle.std.proofs.lemmas.Bool.{cases_lt, false≢true, ltb-true, lt-ltb}
 use Rattle.std.proofs.lemmas.List.{length-map}
+use Rattle.std.proofs.lemmas.List.Elements.{Contains-get_or}
 use Rattle.g1_words.specs.declared.object.Object.{Object}
 use Rattle.g1_words.specs.declared.region.Kind.{Kind}
 use Rattle.g1_words.specs.declared.region.Kind.TheVariants.{Free, Ordinary, HumongousFirst, Continuation}
 use Rattle.g1_words.specs.Lists.{has}
 use Rattle.g1_words.specs.Heap.{Heap, free_region, kind, top, start, end, word, region_of, tiles, objects_by, objects_in, objects, object_at, regions}
 use Rattle.g1_words.specs.Valid.{IsValid}
-use Rattle.g1_words.proofs.Members.{In, In-from_contains, Contains-from_in, In-flat_map, map_cases, In-map}
+use Rattle.g1_words.proofs.Members.{Contains-flat_map, Contains-later, map_cases, Contains-map}
 use Rattle.g1_words.proofs.Objects.{div_between, tops_fit}
-use Rattle.g1_words.proofs.Computed.{In-range, in_region_has, has_contains}
-use Rattle.g1_words.proofs.Indices.{get_or-In}
+use Rattle.g1_words.proofs.Computed.{Contains-range, in_region_has, has_contains}
 use Rattle.g1_words.proofs.Shapes.{built}
 use Rattle.g1_words.proofs.Sound.{sound, has_is}
 use Rattle.g1_words.proofs.Standing.{home}
@@ -37,17 +37,18 @@ SameFirst g h starts i = (j : ℕ) → j < i → word g (slice_index starts j) �
 
 along_if : (g h : Heap) (m n from to end : ℕ) (b c : Bool) → (b ≡ true → c ≡ true) → (i : ℕ)
     → ((j : ℕ) → j < length (tiles g m (from + (object_at g from).size) to) → SameFirst g h (starts_of (tiles g m (from + (object_at g from).size) to)) j
-    → In (tiles h n (from + (object_at g from).size) end) (object_at h (slice_index (starts_of (tiles g m (from + (object_at g from).size) to)) j)))
+    → Contains (tiles h n (from + (object_at g from).size) end) (object_at h (slice_index (starts_of (tiles g m (from + (object_at g from).size) to)) j)))
     → i < length (tiles_if g m from to b) → SameFirst g h (starts_of (tiles_if g m from to b)) i
-    → In (tiles_if h n from end c) (object_at h (slice_index (starts_of (tiles_if g m from to b)) i))
+    → Contains (tiles_if h n from end c) (object_at h (slice_index (starts_of (tiles_if g m from to b)) i))
 along_if g h m n from to end false c also i rest lt same = absurd (omega (arith, lt))
 along_if g h m n from to end true false also i rest lt same = absurd (false≢true (also refl))
-along_if g h m n from to end true true also zero rest lt same = inl refl
+along_if g h m n from to end true true also zero rest lt same = (zero, omega arith, refl)
 along_if g h m n from to end true true also (suc i) rest lt same =
     let first : word g from ≡ word h from = same 0 (omega arith) in
     let size : (object_at g from).size ≡ (object_at h from).size = ap (λ x. x / 2 ^ 32) first in
     let there = rest i (omega (arith, lt)) (λ j p. same (suc j) (omega (arith, p))) in
-    inr (subst (λ z. In (tiles h n (from + z) end) (object_at h (slice_index (starts_of (tiles g m (from + (object_at g from).size) to)) i))) size there)
+    let o : Object = object_at h (slice_index (starts_of (tiles g m (from + (object_at g from).size) to)) i) in
+    Contains-later (object_at h from) (tiles h n (from + (object_at h from).size) end) o (subst (λ z. Contains (tiles h n (from + z) end) o) size there)
 
 below_too : (from to end : ℕ) → to ≤ end → ltb from to ≡ true → ltb from end ≡ true
 below_too from to end le e = elim (cases_lt from end) [
@@ -57,21 +58,21 @@ below_too from to end le e = elim (cases_lt from end) [
 
 -- where the headers of the first tiles are the same, the next tile stands at the same place, also if further tiles follow
 along : (g h : Heap) (m n from to end i : ℕ) → m ≤ n → to ≤ end → i < length (tiles g m from to) → SameFirst g h (starts_of (tiles g m from to)) i
-    → In (tiles h n from end) (object_at h (slice_index (starts_of (tiles g m from to)) i))
+    → Contains (tiles h n from end) (object_at h (slice_index (starts_of (tiles g m from to)) i))
 along g h zero n from to end i few low lt same = absurd (omega (arith, lt))
 along g h (suc m) zero from to end i few low lt same = absurd (omega (arith, few))
 along g h (suc m) (suc n) from to end i few low lt same =
     along_if g h m n from to end (ltb from to) (ltb from end) (below_too from to end low) i (λ j. along g h m n (from + (object_at g from).size) to end j (omega (arith, few)) low) lt same
 
 along_region : (k : Kind) (g h : Heap) (r i : ℕ) → h.geometry ≡ g.geometry → top g r ≤ top h r → i < length (objects_by k g r)
-    → SameFirst g h (starts_of (objects_by k g r)) i → In (objects_by k h r) (object_at h (slice_index (starts_of (objects_by k g r)) i))
+    → SameFirst g h (starts_of (objects_by k g r)) i → Contains (objects_by k h r) (object_at h (slice_index (starts_of (objects_by k g r)) i))
 along_region Free g h r i sizes tops lt same = absurd (omega (arith, lt))
 along_region Ordinary g h r i sizes tops lt same =
     let o : Object = object_at h (slice_index (starts_of (tiles g (top g r) (start g r) (end g r))) i) in
-    let there : In (tiles h (top h r) (r * g.geometry.w) (r * g.geometry.w + top h r)) o =
+    let there : Contains (tiles h (top h r) (r * g.geometry.w) (r * g.geometry.w + top h r)) o =
     along g h (top g r) (top h r) (start g r) (end g r) (r * g.geometry.w + top h r) i tops (omega (arith, tops)) lt same in
-    subst (λ s. In (tiles h (top h r) (r * s.w) (r * s.w + top h r)) o) (sym sizes) there
-along_region HumongousFirst g h r zero sizes tops lt same = inl (ap (λ s. object_at h (r * s.w)) sizes)
+    subst (λ s. Contains (tiles h (top h r) (r * s.w) (r * s.w + top h r)) o) (sym sizes) there
+along_region HumongousFirst g h r zero sizes tops lt same = (zero, omega arith, ap (λ s. object_at h (r * s.w)) sizes)
 along_region HumongousFirst g h r (suc i) sizes tops lt same = absurd (omega (arith, lt))
 along_region Continuation g h r i sizes tops lt same = absurd (omega (arith, lt))
 
@@ -119,7 +120,7 @@ not_at_object fill g a valid object (inl free) = (sound g valid).in_used (object
 not_at_object fill g a valid object (inr (may, b)) =
     let o : Object = object_at g a in
     let m = home g (built g valid) o object in
-    let here : region_of g a ≡ m.0 = (sound g valid).in_region m.0 o (Contains-from_in (objects_in g m.0) o m.1) in
+    let here : region_of g a ≡ m.0 = (sound g valid).in_region m.0 o m.1 in
     let size = (sound g valid).slots_fit o object in
     let behind : start g m.0 + top g m.0 ≤ a = subst (λ r. start g r + top g r ≤ a) here b.behind in
     elim m.2.2 [
@@ -138,8 +139,8 @@ module _ (fill : Bool) (set : List ℕ) (g h : Heap) (left : IsValid g) (right :
   -- each address is that of an object of the region
   pub start_object : (i : ℕ) → i < length starts → Contains (objects_in g r) (object_at g (slice_index starts i))
   start_object i p =
-      let m = map_cases (λ (o : Object). o.at) (objects_in g r) (slice_index starts i) (subst (λ l. In l (slice_index starts i)) is (get_or-In starts i 0 p)) in
-      let c = Contains-from_in (objects_in g r) m.0 m.1 in
+      let m = map_cases (λ (o : Object). o.at) (objects_in g r) (slice_index starts i) (subst (λ l. Contains l (slice_index starts i)) is (Contains-get_or starts i 0 p)) in
+      let c = m.1 in
       let same : m.0 ≡ object_at g (slice_index starts i) = has_is g m.0 left (in_region_has g r m.0 left.shaped lt c) ∙ ap (object_at g) m.2 in
       subst (Contains (objects_in g r)) same c
 
@@ -164,15 +165,15 @@ module _ (fill : Bool) (set : List ℕ) (g h : Heap) (left : IsValid g) (right :
       let few : i < length (objects_in g r) = omega (arith, p, ap length is, length-map (objects_in g r) (λ (o : Object). o.at)) in
       let same : SameFirst g h (starts_of (objects_in g r)) i = subst (λ l. SameFirst g h l i) is (λ j q. (compared j q).alike.header) in
       let there = along_region (kind g r) g h r i table.geometry was.filled few same in
-      let here : In (objects_by (kind h r) h r) (object_at h (slice_index (starts_of (objects_in g r)) i)) =
-      subst (λ k. In (objects_by k h r) (object_at h (slice_index (starts_of (objects_in g r)) i))) (sym was.same_kind) there in
-      let place : In (regions h) r = In-range 0 h.geometry.n r (omega arith) (omega (arith, lt, ap (λ s. s.n) table.geometry)) in
+      let here : Contains (objects_by (kind h r) h r) (object_at h (slice_index (starts_of (objects_in g r)) i)) =
+      subst (λ k. Contains (objects_by k h r) (object_at h (slice_index (starts_of (objects_in g r)) i))) (sym was.same_kind) there in
+      let place : Contains (regions h) r = Contains-range 0 h.geometry.n r (omega arith) (omega (arith, lt, ap (λ s. s.n) table.geometry)) in
       let o : Object = object_at h (slice_index (starts_of (objects_in g r)) i) in
-      subst (λ l. Contains (objects h) (object_at h (slice_index l i))) (sym is) (Contains-from_in (objects h) o (In-flat_map (objects_in h) (regions h) r o place here))
+      subst (λ l. Contains (objects h) (object_at h (slice_index l i))) (sym is) (Contains-flat_map (objects_in h) (regions h) r o place here)
 
   -- when all were compared, the region was
   pub region_compared : (w : Pairs) → ComparesFirst set g h w starts (length starts) → ComparesRegion set g h w r
   region_compared w compared a c =
-      let m : In starts a = subst (λ l. In l a) (sym is) (In-map (λ (o : Object). o.at) (objects_in g r) (object_at g a) (In-from_contains (objects_in g r) (object_at g a) c)) in
+      let m : Contains starts a = subst (λ l. Contains l a) (sym is) (Contains-map (λ (o : Object). o.at) (objects_in g r) (object_at g a) c) in
       let k = place_of starts a m in
       subst (λ z. IsCompared set g h w z z) k.2 (compared k.0 k.1)

@@ -9,7 +9,7 @@ use Rattle.g1_words.specs.Heap.{Heap, word, kind, region_of, regions, object_at,
 use Rattle.g1_words.specs.Survivors.{in_set}
 use Rattle.g1_words.specs.Valid.{IsValid}
 use Rattle.g1_words.specs.Copy.{renamed, words_at, renamed_words, IsCopy}
-use Rattle.g1_words.proofs.Members.{In-from_contains, Contains-from_in, flat_map_cases}
+use Rattle.g1_words.proofs.Members.{flat_map_cases}
 use Rattle.g1_words.proofs.Computed.{range_below}
 use Rattle.g1_words.proofs.Sound.{sound, object_in}
 use Rattle.g1_after.proofs.CopyWords.{renamed_word, length-renamed_words}
@@ -92,8 +92,8 @@ module _ (fill : Bool) (set : List ℕ) (g h : Heap) (left : IsValid g) (right :
 
     outside_compared : (a : ℕ) → IsOutside set g h a → IsCompared set g h w a (rename a)
     outside_compared a o =
-        let m = flat_map_cases (objects_in g) (regions g) (object_at g a) (In-from_contains (objects g) (object_at g a) o.object) in
-        let c = Contains-from_in (objects_in g m.0) (object_at g a) m.2 in
+        let m = flat_map_cases (objects_in g) (regions g) (object_at g a) o.object in
+        let c = m.2 in
         let here : region_of g a ≡ m.0 = (sound g left).in_region m.0 (object_at g a) c in
         let lt : m.0 < g.geometry.n = omega (arith, range_below 0 g.geometry.n m.0 m.1) in
         let compared = others m.0 lt (ap (has set) (sym here) ∙ o.outside) (λ e. (sound g left).in_used (object_at g a) o.object (ap (kind g) here ∙ e)) (λ e. o.in_use (ap (kind h) here ∙ e)) a c in

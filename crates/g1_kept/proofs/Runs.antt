@@ -11,9 +11,9 @@ use Rattle.g1_words.specs.Heap.{Heap, kind, start, region_of, word, object_at, o
 use Rattle.g1_words.specs.Valid.{IsValid, IsFirst, IsShapedBy, IsWholeRun}
 use Rattle.g1_words.proofs.Computed.{object_is, has_contains}
 use Rattle.g1_words.proofs.Objects.{first_has, div_between}
+use Rattle.g1_same.proofs.Copies.{copied_header}
 use Rattle.g1_kept.specs.Keeps.{IsAsItWas, Keeps, Remains, outside}
 use Rattle.g1_kept.specs.Laws.{FreesRuns}
-use Rattle.g1_kept.proofs.Remaining.{copied_header}
 
 free≢first : Free ≢ HumongousFirst
 free≢first e = cc

@@ -5,14 +5,12 @@ use Rattle.std.proofs.lemmas.List.{get_or_append_left, get_or_push, length_push}
 use Rattle.g1_words.specs.Heap.{Heap, object_at}
 use Rattle.g1_words.specs.Survivors.{in_set}
 use Rattle.g1_same.specs.Walk.{AreAlike, IsEarlier, IsNew}
+use Rattle.g1_same.proofs.Adding.{earlier_next}
+use Rattle.g1_same.proofs.Order.{earlier_cases}
 use Rattle.g1_kept.specs.Keeps.{MayHoldCopy, IsOutside}
 use Rattle.g1_kept.specs.Lost.{LeadsOut}
 use Rattle.g1_kept.specs.Order.{IsTurn, AreWords, DoAgree, IsSearch}
-use Rattle.g1_kept.proofs.Places.{here, later, turn_one, words_one, AreSame, turn_there, words_there, same_back}
-
-earlier_cases : (f m k n : ℕ) → IsEarlier f m k (n + 1) → IsEarlier f m k n ⊎ ((f ≡ k) × (m ≡ n))
-earlier_cases f m k n (inl e) = inl (inl e)
-earlier_cases f m k n (inr e) = elim (cases_lt m n) [ inl l ↦ inl (inr (e.0, l)) | inr l ↦ inr (e.0, omega (arith, e.1, l)) ]
+use Rattle.g1_kept.proofs.Places.{here, turn_one, words_one, AreSame, turn_there, words_there, same_back}
 
 -- what is before the next row is before this one, or in it
 row_cases : (f m k : ℕ) → IsEarlier f m (suc k) 0 → (f < k) ⊎ (f ≡ k)
@@ -92,7 +90,7 @@ module _ (fill : Bool) (set : List ℕ) (g h : Heap) (olds news : List ℕ) wher
         → (LeadsOut set g x × (y ≡ x)) ⊎ ((i : ℕ) × (i < length olds) × (x ≡ suc (slice_index olds i)) × (y ≡ suc (slice_index news i)))
         → IsSearch fill set g h olds news f (n + 1)
     words_on x y w agree = move f (n + 1)
-        (λ a b e. later a b f n e)
+        (λ a b e. earlier_next a b f n e)
         (λ a b u v e w'. elim (earlier_cases a b f n e) [
           | inl d ↦ inl d
           | inr d ↦
@@ -108,7 +106,7 @@ module _ (fill : Bool) (set : List ℕ) (g h : Heap) (olds news : List ℕ) wher
         ])
       where
         found : DoAgree set g olds news s.froms s.numbers f n x y
-        found = elim agree [ inl o ↦ inl o | inr o ↦ inr (o.0, o.1, o.2, o.3, later (slice_index s.froms o.0) (slice_index s.numbers o.0) f n (s.below o.0 o.1)) ]
+        found = elim agree [ inl o ↦ inl o | inr o ↦ inr (o.0, o.1, o.2, o.3, earlier_next (slice_index s.froms o.0) (slice_index s.numbers o.0) f n (s.below o.0 o.1)) ]
 
     -- to the next row
     pub row_on : ((t : ℕ) → f ≡ suc t → 0 < n) → ((m x y : ℕ) → n ≤ m → AreWords set g h olds news f m x y → ⊥) → IsSearch fill set g h olds news (suc f) 0
@@ -129,7 +127,7 @@ module _ (fill : Bool) (set : List ℕ) (g h : Heap) (olds news : List ℕ) wher
   -- past the headers and the data words of two objects
   pub contents_on : (t a b : ℕ) → IsSearch fill set g h olds news (suc t) 0 → IsTurn set g h olds news t a b → AreAlike g h a b → IsSearch fill set g h olds news (suc t) 1
   contents_on t a b s turn alike = move (suc t) 0 s (suc t) 1
-      (λ k m e. later k m (suc t) 0 e)
+      (λ k m e. earlier_next k m (suc t) 0 e)
       (λ k m x y e w. elim (earlier_cases k m (suc t) 0 e) [
         | inl d ↦ inl d
         | inr d ↦ absurd (words_some t x y (subst (λ z. AreWords set g h olds news z 0 x y) d.0 (subst (λ z. AreWords set g h olds news k z x y) d.1 w)))
@@ -323,7 +321,7 @@ module _ (fill : Bool) (set : List ℕ) (g h : Heap) (olds news : List ℕ) (f n
           place_last (λ p q. IsEarlier (slice_index froms i) (slice_index numbers i) p q) j e (place_of (λ p q. IsEarlier p q f n) i l' (s.below i l'))
     ];
     below = λ i lt. elim (cases i lt) [
-      | inl l ↦ place_of (λ p q. IsEarlier p q f (n + 1)) i l (later (slice_index s.froms i) (slice_index s.numbers i) f n (s.below i l))
+      | inl l ↦ place_of (λ p q. IsEarlier p q f (n + 1)) i l (earlier_next (slice_index s.froms i) (slice_index s.numbers i) f n (s.below i l))
       | inr e ↦ place_last (λ p q. IsEarlier p q f (n + 1)) i e (here f n)
     ];
     agree = λ k m x y e w. elim (earlier_cases k m f n e) [

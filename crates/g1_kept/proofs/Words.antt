@@ -12,9 +12,6 @@ use Rattle.g1_kept.specs.Order.{Clash}
 use Rattle.g1_kept.specs.Order as order
 use Rattle.g1_kept.specs.Walk.{IsPairWalk, ArePaired}
 
-pub some : (n : ℕ) → n ≢ 0 → n ≡ suc (n - 1)
-some n h = omega arith
-
 module _ {fill : Bool} {set : List ℕ} {g h : Heap} {w : Pairs} {a b i j : ℕ} (walk : IsPairWalk fill set g h w) (read : IsRead w.new_of.items w.old_of.items a b i j) where
   in_before : i ≢ 0 → (i - 1 < length w.before.items) × (slice_index w.before.items (i - 1) ≡ a)
   in_before some = subst (λ m. (m - 1 < length w.before.items) × (slice_index w.before.items (m - 1) ≡ a)) (sym read.is_i)

@@ -1,14 +1,15 @@
 -- What is asked of survivors makes them fit.
-use Rattle.std.proofs.Common.{◌≡◌, ℕ, zero, suc, inl, inr, ◌+◌, ◌<◌, ◌≤◌, List, [], ◌∷◌, length, get_or, All, refl, sym, ◌∙◌, ap, subst, arith}
+use Rattle.std.proofs.Common.{◌≡◌, ℕ, zero, suc, inl, inr, ◌+◌, ◌<◌, ◌≤◌, List, length, get_or, All, sym, ◌∙◌, ap, subst, arith}
 use Rattle.std.proofs.lemmas.Bool.{cases_lt}
 use Rattle.std.proofs.lemmas.Bool.Decides.{Decides-eqb}
-use Rattle.std.proofs.lemmas.List.{get_or_default}
+use Rattle.std.proofs.lemmas.List.{get_or_default, get_or_past}
 use Rattle.std.specs.List.Sorted.{IsStrictlyIncreasing}
 use Rattle.std.proofs.lemmas.Map.Made.{IsDistinct-from_AllPairs}
 use Rattle.std.proofs.lemmas.Map.Steps.{length-le_from_distinct_below}
 use Rattle.g1_words.proofs.Bounds.{object_within}
 use Rattle.g1_words.proofs.Computed.{contains_has}
-use Rattle.g1_words.proofs.Members.{Contains-from_in, in_from_has}
+use Rattle.g1_words.proofs.Lists.{all_in}
+use Rattle.g1_words.proofs.Members.{Contains-from_has}
 use Rattle.g1_words.proofs.Sound.{sound}
 use Rattle.g1_words.specs.Heap.{Heap, free_region, kind, object_at, region, region_of}
 use Rattle.g1_words.specs.Valid.{IsValid}
@@ -45,7 +46,7 @@ module _ (h : Heap) (set l : List ℕ) (valid : IsValid h) (can : CanPlace h set
 
   few : length l ≤ length h.words
   few = length-le_from_distinct_below l (length h.words) (IsDistinct-from_AllPairs Decides-eqb l can.distinct)
-      (λ q e. let c = Contains-from_in l q (in_from_has l q e) in subst (λ a. a < length h.words) c.2 (in_words c.0 q c.1))
+      (λ q e. all_in (λ a. a < length h.words) l q in_words (Contains-from_has l q e))
 
   -- survivors that can be placed can be laid
   pub can_lay : CanLay h l
@@ -61,15 +62,10 @@ module _ (h : Heap) (set l : List ℕ) (valid : IsValid h) (can : CanPlace h set
     | inl lt ↦ lt
     | inr ge ↦
         let n = valid.region_count in
-        let free : region h r ≡ free_region = past h.regions r free_region (omega arith) in
+        let free : region h r ≡ free_region = get_or_past h.regions r free_region (omega arith) in
         let clash : Ordinary ≡ Free = sym e ∙ ap (λ q. q.kind) free in
         cc
   ]
-    where
-      past : {A : Type 0} (xs : List A) (r : ℕ) (d : A) → length xs ≤ r → get_or xs r d ≡ d
-      past [] r d le = refl
-      past (x ∷ xs) zero d le = absurd (omega arith)
-      past (x ∷ xs) (suc r) d le = past xs r d (omega arith)
 
   -- the set's regions are the heap's
   pub set_in_heap : All (λ r. r < h.geometry.n) set

@@ -1,27 +1,17 @@
 -- The table of new addresses, as it is written.
-use Rattle.std.proofs.Common.{◌≡◌, ◌≢◌, ℕ, zero, suc, ◌+◌, ◌<◌, Bool, true, false, cond, List, [], ◌∷◌, Option, Some, None, AllPairs, All, inl, inr, length, get_or, set, refl, sym, ◌∙◌, ap, arith}
-use Rattle.std.proofs.Common.{eq-eqb, ne_eqb}
+use Rattle.std.proofs.Common.{◌≡◌, ◌≢◌, ℕ, ◌+◌, ◌<◌, Bool, true, false, List, Option, Some, None, AllPairs, All, inl, inr, length, get_or, set, refl, sym, ◌∙◌, ap, arith, Contains}
 use Rattle.std.proofs.lemmas.Bool.{false≢true, cases_eq}
 use Rattle.std.proofs.lemmas.List.{get_or-set_same, get_or-set_other, get_or_default}
 use Rattle.g1_words.specs.Layout.{moved_to}
-use Rattle.g1_words.proofs.Members.{In, Contains-from_in}
 use Rattle.g1_words.proofs.OneToOne.{moved_stays}
-use Rattle.g1_layout.specs.Numbers.{number_at, number_if, number_of}
+use Rattle.g1_words.specs.Numbers.{number_at, number_if, number_of}
 use Rattle.g1_layout.specs.Words.{AreIndices, AreMarkedTo, ArePlacedTo, HasIndex, index_of, goes_to, told, told_at}
-use Rattle.g1_layout.proofs.Numbering.{number_apart, number_rises}
+use Rattle.g1_words.proofs.Numbering.{number_apart, number_rises}
+use Rattle.g1_layout.proofs.Stretches.{moved_at}
 
 -- of two places of a list without repetition the values differ
 apart : (l : List ℕ) (k i : ℕ) → AllPairs (λ a b. a ≢ b) l → k < i → i < length l → get_or l k 0 ≢ get_or l i 0
 apart l k i d lt within = d k i 0 lt within
-
--- a survivor's place is its own
-moved_there : (l ps : List ℕ) (k : ℕ) → AllPairs (λ a b. a ≢ b) l → k < length l → length ps ≡ length l → moved_to l ps (get_or l k 0) ≡ get_or ps k 0
-moved_there [] ps k d lt same = absurd (omega (arith, lt))
-moved_there (x ∷ l) [] k d lt same = absurd (omega (arith, same))
-moved_there (x ∷ l) (p ∷ ps) zero d lt same = ap (λ b. cond b p (moved_to l ps x)) (eq-eqb x x refl)
-moved_there (x ∷ l) (p ∷ ps) (suc k) d lt same =
-    ap (λ b. cond b p (moved_to l ps (get_or l k 0))) (ne_eqb x (get_or l k 0) (d 0 (suc k) 0 (omega arith) (omega (arith, lt))))
-    ∙ moved_there l ps k (λ i j e less within. d (suc i) (suc j) e (omega (arith, less)) (omega (arith, within))) (omega (arith, lt)) (omega (arith, same))
 
 module _ (w : ℕ) (positions : List (Option ℕ)) (l : List ℕ) (marks : List Bool) (indices : AreIndices w positions (length marks)) (m : AreMarkedTo w positions l (length l) marks)
     (ps : List ℕ) where
@@ -52,18 +42,18 @@ module _ (w : ℕ) (positions : List (Option ℕ)) (l : List ℕ) (marks : List 
       → (a : ℕ) → goes_to w positions marks by a ≡ moved_to l ps a
   goes_where_moved by d same has so a = at (index_of w positions a) refl
     where
-      stays : (In l a → ⊥) → a ≡ moved_to l ps a
+      stays : (Contains l a → ⊥) → a ≡ moved_to l ps a
       stays out = sym (moved_stays l ps a out)
 
       -- the address of a member has an index
-      index_there : In l a → (k : ℕ) × ((k < length l) × (get_or l k 0 ≡ a))
-      index_there in_l = let c = Contains-from_in l a in_l in (c.0, (c.1, get_or_default l c.0 0 a c.1 ∙ c.2))
+      index_there : Contains l a → (k : ℕ) × ((k < length l) × (get_or l k 0 ≡ a))
+      index_there c = (c.0, (c.1, get_or_default l c.0 0 a c.1 ∙ c.2))
 
       marked : (j : ℕ) (b : Bool) → index_of w positions a ≡ Some j → get_or marks j false ≡ b → told (number_if b (number_at marks j)) by a ≡ moved_to l ps a
       marked j true e f =
           let k = m.only j f in
           let is : get_or l k.0 0 ≡ a = indices.one_to_one (get_or l k.0 0) a j k.1.1 e in
-          so k.0 j k.1.0 k.1.1 ∙ sym (moved_there l ps k.0 d k.1.0 same) ∙ ap (moved_to l ps) is
+          so k.0 j k.1.0 k.1.1 ∙ sym (moved_at l ps k.0 k.1.0 same d) ∙ ap (moved_to l ps) is
       marked j false e f = stays (λ in_l. let k = index_there in_l in false≢true (sym f ∙ m.each k.0 j k.1.0 (ap (index_of w positions) k.1.1 ∙ e)))
 
       at : (x : Option ℕ) → index_of w positions a ≡ x → told_at x marks by a ≡ moved_to l ps a

@@ -1,5 +1,5 @@
 -- Survivors are laid into the row one after another.
-use Rattle.std.proofs.Common.{◌≡◌, ℕ, zero, suc, ◌+◌, ◌*◌, ◌/◌, ◌%◌, ◌<◌, ◌≤◌, inl, Bool, true, false, cond, List, [], ◌∷◌, ◌++◌, length, get_or, drop, map, All, refl, sym, ◌∙◌, ap, subst}
+use Rattle.std.proofs.Common.{◌≡◌, ℕ, zero, suc, ◌+◌, ◌*◌, ◌/◌, ◌%◌, ◌<◌, ◌≤◌, Bool, true, false, cond, List, [], ◌∷◌, ◌++◌, length, get_or, drop, map, All, refl, sym, ◌∙◌, ap, subst}
 use Rattle.std.proofs.Common.{arith, leb, append_assoc}
 use Rattle.std.proofs.Math.Nat.{div-mul-le_self}
 use Rattle.std.proofs.lemmas.List.{get_or-take}
@@ -71,7 +71,7 @@ pub Laying-in_need : (h : Heap) (l : List ℕ) (i end s : ℕ) → 0 < h.geometr
 Laying-in_need h l i end s pos can k lt e =
     let q = next_fit h.geometry.w end s in
     let f : Fitting h.geometry.w (s ∷ left_from h l (i + 1)) = subst (Fitting h.geometry.w) (left_from-cons h l i s lt e) (fitting-drop h i l (all_fitting h l can)) in
-    let below = spot_below h.geometry.w pos end (s ∷ left_from h l (i + 1)) f (q, s) (inl refl) in
+    let below = spot_below h.geometry.w pos end (s ∷ left_from h l (i + 1)) f (q, s) (zero, omega arith, refl) in
     let whole : laid_end h.geometry.w end (s ∷ left_from h l (i + 1)) ≡ laid_end h.geometry.w 0 (sizes_of h l) = ap (laid_end h.geometry.w end) (sym (left_from-cons h l i s lt e)) ∙ k.rest in
     region_below h.geometry.w pos q (laid_end h.geometry.w 0 (sizes_of h l)) (omega (arith, f.0))
 

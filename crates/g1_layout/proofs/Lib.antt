@@ -1,7 +1,6 @@
 pub mod Lists
 pub mod Laying
 pub mod Counted
-pub mod Numbering
 pub mod Forwarding
 pub mod Positions
 pub mod Running

@@ -1,5 +1,5 @@
 -- The survivors that stand in one region are a stretch of the list.
-use Rattle.std.proofs.Common.{◌≡◌, ℕ, zero, suc, ◌+◌, ◌-◌, ◌*◌, ◌/◌, ◌%◌, ◌<◌, ◌≤◌, ◌⊎◌, inl, inr, Bool, true, false, cond, List, [], ◌∷◌, All, length, get_or, map, filter, fold, max}
+use Rattle.std.proofs.Common.{◌≡◌, ℕ, zero, suc, ◌+◌, ◌-◌, ◌*◌, ◌/◌, ◌%◌, ◌<◌, ◌≤◌, ◌⊎◌, inl, inr, Bool, true, false, cond, List, [], ◌∷◌, All, length, get_or, map, filter, fold, max, Contains}
 use Rattle.std.proofs.Common.{zip, count_by, refl, sym, ◌∙◌, ap, subst, arith, eqb, eqb-true, eq-eqb, ltb, mod-lt, div-add-mod'}
 use Rattle.std.proofs.lemmas.Bool.{cases_lt, lt-ltb, le-ltb, ltb-true}
 use Rattle.std.proofs.lemmas.List.{get_or-map, length-map, get_or_default}
@@ -7,10 +7,10 @@ use Rattle.std.proofs.lemmas.List.Sums.{count_by-le-length, sum_by-cons}
 use Rattle.std.proofs.lemmas.Nat.{le-div}
 use Rattle.std.proofs.lemmas.Slice.Zip.{get_or-zip, length-zip}
 use Rattle.std.proofs.Math.Nat.{div-mul-le_self, mul-le-mul_right}
+use Rattle.std.proofs.lemmas.List.Elements.{Contains-get_or}
 use Rattle.g1_words.specs.Geometry.{most_words}
 use Rattle.g1_words.proofs.Computed.{range_below}
-use Rattle.g1_words.proofs.Indices.{get_or-In}
-use Rattle.g1_words.proofs.Members.{In, In-filter, In-map, Contains-from_in, filter_member, map_cases}
+use Rattle.g1_words.proofs.Members.{Contains-filter, Contains-map, filter_member, map_cases}
 use Rattle.g1_words.proofs.NextFit.{distinct_places, free_distinct, region_below, region_of_row, spot_below, spot_fits, spots, spots_apart}
 use Rattle.g1_words.proofs.Ordered.{Ordered, Ordered-from_pairs, pairs_from_ordered}
 use Rattle.g1_words.specs.Heap.{Heap, is_free, kind, object_at, region_of, regions, start}
@@ -31,11 +31,11 @@ module _ (w t : ℕ) where
   not_before : (q : ℕ) → ltb (q / w) t ≡ false → t ≤ q / w
   not_before q e = elim (cases_lt (q / w) t) [ inl less ↦ let f : false ≡ true = sym e ∙ lt-ltb (q / w) t less in cc | inr ge ↦ ge ]
 
-  pub none_before : (qs : List ℕ) → ((q : ℕ) → In qs q → t ≤ q / w) → count_before w t qs ≡ 0
+  pub none_before : (qs : List ℕ) → ((q : ℕ) → Contains qs q → t ≤ q / w) → count_before w t qs ≡ 0
   none_before [] f = refl
   none_before (q ∷ qs) f =
-      let a = count_more q qs false (le-ltb (q / w) t (f q (inl refl))) in
-      let b = none_before qs (λ x k. f x (inr k)) in
+      let a = count_more q qs false (le-ltb (q / w) t (f q (zero, omega arith, refl))) in
+      let b = none_before qs (λ x k. f x (suc k.0, omega (arith, k.1), k.2)) in
       omega arith
 
   before_at : (q : ℕ) (qs : List ℕ) (k : ℕ) (b : Bool) → ltb (q / w) t ≡ b → Ordered (λ x y. x / w ≤ y / w) (q ∷ qs) → k < cond b 1 0 + count_before w t qs
@@ -57,7 +57,7 @@ module _ (w t : ℕ) where
   after_at q qs zero true e o lt le rest = absurd (omega arith)
   after_at q qs (suc k) true e o lt le rest = rest k (omega arith) (omega arith)
   after_at q qs zero false e o lt le rest = not_before q e
-  after_at q qs (suc k) false e o lt le rest = let here = not_before q e in let a = o.0 (get_or qs k 0) (get_or-In qs k 0 (omega arith)) in omega arith
+  after_at q qs (suc k) false e o lt le rest = let here = not_before q e in let a = o.0 (get_or qs k 0) (Contains-get_or qs k 0 (omega arith)) in omega arith
 
   -- and the others don't
   pub after_lies : (qs : List ℕ) (k : ℕ) → Ordered (λ x y. x / w ≤ y / w) qs → k < length qs → count_before w t qs ≤ k → t ≤ get_or qs k 0 / w
@@ -70,17 +70,17 @@ fold_above : (a : ℕ) (xs : List ℕ) → a ≤ fold (λ m x. max m x) a xs
 fold_above a [] = omega arith
 fold_above a (x ∷ xs) = let k = fold_above (max a x) xs in omega arith
 
-fold_member : (a : ℕ) (xs : List ℕ) (x : ℕ) → In xs x → x ≤ fold (λ m x. max m x) a xs
-fold_member a [] x h = absurd h
-fold_member a (y ∷ xs) x (inl e) = let k = fold_above (max a y) xs in omega arith
-fold_member a (y ∷ xs) x (inr h) = fold_member (max a y) xs x h
+fold_member : (a : ℕ) (xs : List ℕ) (x : ℕ) → Contains xs x → x ≤ fold (λ m x. max m x) a xs
+fold_member a [] x h = absurd (omega (arith, h.1))
+fold_member a (y ∷ xs) x (zero, b, e) = let k = fold_above (max a y) xs in omega arith
+fold_member a (y ∷ xs) x (suc k, b, e) = fold_member (max a y) xs x (k, omega (arith, b), e)
 
-fold_most : (a m : ℕ) (xs : List ℕ) → a ≤ m → ((x : ℕ) → In xs x → x ≤ m) → fold (λ m x. max m x) a xs ≤ m
+fold_most : (a m : ℕ) (xs : List ℕ) → a ≤ m → ((x : ℕ) → Contains xs x → x ≤ m) → fold (λ m x. max m x) a xs ≤ m
 fold_most a m [] le f = le
-fold_most a m (x ∷ xs) le f = let k = f x (inl refl) in fold_most (max a x) m xs (omega arith) (λ y h. f y (inr h))
+fold_most a m (x ∷ xs) le f = let k = f x (zero, omega arith, refl) in fold_most (max a x) m xs (omega arith) (λ y h. f y (suc h.0, omega (arith, h.1), h.2))
 
 -- a bound of all that is one of them, or 0
-pub greatest_is : (m : ℕ) (xs : List ℕ) → ((x : ℕ) → In xs x → x ≤ m) → (m ≡ 0) ⊎ In xs m → fold (λ m x. max m x) 0 xs ≡ m
+pub greatest_is : (m : ℕ) (xs : List ℕ) → ((x : ℕ) → Contains xs x → x ≤ m) → (m ≡ 0) ⊎ Contains xs m → fold (λ m x. max m x) 0 xs ≡ m
 greatest_is m xs f (inl e) = let a = fold_most 0 m xs (omega arith) f in omega arith
 greatest_is m xs f (inr h) = let a = fold_most 0 m xs (omega arith) f in let b = fold_member 0 xs m h in omega arith
 
@@ -109,13 +109,13 @@ module _ (h : Heap) (l : List ℕ) (pos : 0 < h.geometry.w) (can : CanLay h l) (
   pub size_is : (k : ℕ) → k < length l → size k ≡ (object_at h (get_or l k 0)).size
   size_is k lt = get_or-map (λ a. (object_at h a).size) l k 0 0 lt
 
-  spot_in : (k : ℕ) → k < length l → In (spots h.geometry.w pos 0 (sizes_of h l)) (row k, size k)
+  spot_in : (k : ℕ) → k < length l → Contains (spots h.geometry.w pos 0 (sizes_of h l)) (row k, size k)
   spot_in k lt =
       let qs : List ℕ = laid h.geometry.w 0 (sizes_of h l) in
       let a = count_row in
       let b = count_sizes in
       let n = length-zip qs (sizes_of h l) in
-      subst (In (zip qs (sizes_of h l))) (get_or-zip qs (sizes_of h l) k (0, 0) (omega arith) (omega arith)) (get_or-In (zip qs (sizes_of h l)) k (0, 0) (omega arith))
+      subst (Contains (zip qs (sizes_of h l))) (get_or-zip qs (sizes_of h l) k (0, 0) (omega arith) (omega arith)) (Contains-get_or (zip qs (sizes_of h l)) k (0, 0) (omega arith))
 
   pub fits : (k : ℕ) → k < length l → (0 < size k) × (row k % h.geometry.w + size k ≤ h.geometry.w)
   fits k lt = spot_fits h.geometry.w pos 0 (sizes_of h l) (all_fitting h l can) (row k, size k) (spot_in k lt)
@@ -166,7 +166,7 @@ module _ (h : Heap) (l : List ℕ) (pos : 0 < h.geometry.w) (can : CanLay h l) (
       let t : ℕ = row k / h.geometry.w in
       let r : ℕ = get_or (free_regions h) t 0 in
       let a = needed k lt in
-      let there = filter_member (λ r. is_free (kind h r)) (regions h) r (get_or-In (free_regions h) t 0 (omega arith)) in
+      let there = filter_member (λ r. is_free (kind h r)) (regions h) r (Contains-get_or (free_regions h) t 0 (omega arith)) in
       let below = range_below 0 h.geometry.n r there.0 in
       let rows : (r + 1) * h.geometry.w ≤ h.geometry.n * h.geometry.w = mul-le-mul_right h.geometry.w (omega arith) in
       let offset = mod-lt (row k) pos in
@@ -226,23 +226,22 @@ module _ (h : Heap) (l : List ℕ) (pos : 0 < h.geometry.w) (can : CanLay h l) (
     place_there : (k : ℕ) → k < length l → row k / h.geometry.w ≡ t → get_or (places h l) k 0 ≡ region * h.geometry.w + row k % h.geometry.w
     place_there k lt e = place_is k lt ∙ ap (λ q. get_or (free_regions h) q 0 * h.geometry.w + row k % h.geometry.w) e
 
-    pair_at : (x : ℕ × ℕ) → In (zip (places h l) (sizes_of h l)) x → (k : ℕ) × (k < length l) × (x ≡ (get_or (places h l) k 0, size k))
-    pair_at x i =
-        let c = Contains-from_in (zip (places h l) (sizes_of h l)) x i in
+    pair_at : (x : ℕ × ℕ) → Contains (zip (places h l) (sizes_of h l)) x → (k : ℕ) × (k < length l) × (x ≡ (get_or (places h l) k 0, size k))
+    pair_at x c =
         let n = length-zip (places h l) (sizes_of h l) in
         let a = count_places in
         let b = count_sizes in
         let lt : c.0 < length l = omega (arith, c.1) in
         (c.0, lt, sym c.2 ∙ get_or_default (zip (places h l) (sizes_of h l)) c.0 x (0, 0) c.1 ∙ get_or-zip (places h l) (sizes_of h l) c.0 (0, 0) (omega arith) (omega arith))
 
-    pair_in : (k : ℕ) → k < length l → In (zip (places h l) (sizes_of h l)) (get_or (places h l) k 0, size k)
+    pair_in : (k : ℕ) → k < length l → Contains (zip (places h l) (sizes_of h l)) (get_or (places h l) k 0, size k)
     pair_in k lt =
         let n = length-zip (places h l) (sizes_of h l) in
         let a = count_places in
         let b = count_sizes in
-        subst (In (zip (places h l) (sizes_of h l))) (get_or-zip (places h l) (sizes_of h l) k (0, 0) (omega arith) (omega arith)) (get_or-In (zip (places h l) (sizes_of h l)) k (0, 0) (omega arith))
+        subst (Contains (zip (places h l) (sizes_of h l))) (get_or-zip (places h l) (sizes_of h l) k (0, 0) (omega arith) (omega arith)) (Contains-get_or (zip (places h l) (sizes_of h l)) k (0, 0) (omega arith))
 
-    below_last : (from to end : ℕ) → from ≡ laid_before h l t → to ≡ laid_before h l (t + 1) → Last from to end → (y : ℕ) → In ends_of y → y ≤ end
+    below_last : (from to end : ℕ) → from ≡ laid_before h l t → to ≡ laid_before h l (t + 1) → Last from to end → (y : ℕ) → Contains ends_of y → y ≤ end
     below_last from to end f g last y i =
         let m = map_cases (λ (x : ℕ × ℕ). x.0 + x.1 - start h region) (filter (λ x. eqb (region_of h x.0) region) (zip (places h l) (sizes_of h l))) y i in
         let p = filter_member (λ (x : ℕ × ℕ). eqb (region_of h x.0) region) (zip (places h l) (sizes_of h l)) m.0 m.1 in
@@ -275,9 +274,9 @@ module _ (h : Heap) (l : List ℕ) (pos : 0 < h.geometry.w) (can : CanLay h l) (
           let s = stretch_lies k (omega arith) (omega arith) in
           let ends : end ≡ get_or (places h l) k 0 + size k - region * h.geometry.w = last.1 k (omega arith) (omega arith) in
           let z : (get_or (places h l) k 0) / h.geometry.w ≡ region = place_region k s.0 ∙ ap (λ q. get_or (free_regions h) q 0) s.1 in
-          inr (subst (In ends_of) (sym ends) (In-map (λ (x : ℕ × ℕ). x.0 + x.1 - start h region)
+          inr (subst (Contains ends_of) (sym ends) (Contains-map (λ (x : ℕ × ℕ). x.0 + x.1 - start h region)
           (filter (λ x. eqb (region_of h x.0) region) (zip (places h l) (sizes_of h l))) (get_or (places h l) k 0, size k)
-          (In-filter (λ (x : ℕ × ℕ). eqb (region_of h x.0) region) (zip (places h l) (sizes_of h l)) (get_or (places h l) k 0, size k) (pair_in k s.0)
+          (Contains-filter (λ (x : ℕ × ℕ). eqb (region_of h x.0) region) (zip (places h l) (sizes_of h l)) (get_or (places h l) k 0, size k) (pair_in k s.0)
           (eq-eqb (get_or (places h l) k 0 / h.geometry.w) region z))))
     ]))
 

@@ -1,6 +1,5 @@
 pub mod Placed
 pub mod Batch
-pub mod Numbers
 pub mod Words
 pub mod Forwards
 pub mod Plan

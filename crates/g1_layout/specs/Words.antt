@@ -1,6 +1,6 @@
 -- The table that tells new addresses: a mark for each word of the set's regions, found by arithmetic, and a place for each mark.
 use Rattle.std.specs.Prelude.{◌≡◌, ◌<◌, ℕ, Bool, false, true, ◌+◌, ◌*◌, ◌/◌, ◌%◌, List, Option, Some, None, length, slice_index, slice_index_or}
-use Rattle.g1_layout.specs.Numbers.{number_at, number_of}
+use Rattle.g1_words.specs.Numbers.{number_at, number_of}
 
 -- by region number: the position of the region in the set, and none for any other region
 pub record ArePositions (set : List ℕ) (positions : List (Option ℕ)) : Type 0 where

@@ -18,7 +18,6 @@
 pub mod laws;
 mod measuring;
 mod new_addresses;
-mod numbers;
 mod placing;
 mod plan;
 

@@ -1,5 +1,6 @@
 ghost use Rattle.std.specs.Prelude.{◌≡◌, ◌≤◌, ◌<◌, ◌+◌, ◌*◌, ◌^◌, length, sum, IfOk, IfSome};
 ghost use Rattle.g1_words.specs.Layout.{next_fit, need, free_regions, sizes_of};
+ghost use Rattle.g1_words.specs.Valid.{IsValid};
 ghost use Rattle.g1_layout.specs.Placed.{CanLay};
 
 use g1_words::{Geometry, Heap, region_of, size_at};
@@ -72,7 +73,8 @@ pub(crate) fn measure_sized(heap: &Heap, survivors: &[u64], sizes: &[u32]) -> (u
 
 /// The number of free regions.
 pub(crate) fn free_count(heap: &Heap) -> u64
-    ensures { result ≡ length (free_regions heap.now) }
+    ensures count { result ≡ length (free_regions heap.now) }
+    ensures valid { IsValid heap.now }
 {
     let regions = heap.geometry().regions() as u32;
     let mut count: u64 = 0;

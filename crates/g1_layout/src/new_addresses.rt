@@ -2,10 +2,10 @@ ghost use Rattle.std.specs.Prelude.{◌≡◌, ◌≤◌, ◌<◌, ◌+◌, ◌*
 ghost use Rattle.std.specs.List.Sorted.{IsStrictlyIncreasing};
 ghost use Rattle.g1_words.specs.Geometry.{most_words};
 ghost use Rattle.g1_words.specs.Marks.{marks_of};
-ghost use Rattle.g1_layout.specs.Numbers.{number_at};
+ghost use Rattle.g1_words.specs.Numbers.{number_at};
 ghost use Rattle.g1_layout.specs.Words.{ArePositions, AreIndices, AreMarkedTo, ArePlacedTo, HasIndex, index_of};
 
-use crate::numbers::{Numbers, mark};
+use g1_words::numbers::{Numbers, mark};
 use g1_words::{Geometry, region_of};
 use std::alloc::{AllocError, Global};
 

@@ -169,9 +169,8 @@ pub fn place(alloc: Global, heap: &Heap, set: &[u32], survivors: &[u64]) -> Resu
     ensures room { length (free_regions heap.now) < need heap.now survivors.now → result ≡ Err (Fault.Room (need heap.now survivors.now) (length (free_regions heap.now))) }
     ensures memory { need heap.now survivors.now ≤ length (free_regions heap.now) → IfErr result (λ e. e ≡ Fault.Memory) }
 {
-    g1_words::laws::valid(heap);
-    let Measured { need, words, sizes } = measure(alloc, heap, survivors);
     let free = free_count(heap);
+    let Measured { need, words, sizes } = measure(alloc, heap, survivors);
     if need > free {
         return Err(Fault::Room { need, free });
     }
@@ -218,9 +217,8 @@ pub fn place_sized(
     ensures room { length (free_regions heap.now) < need heap.now survivors.now → result ≡ Err (Fault.Room (need heap.now survivors.now) (length (free_regions heap.now))) }
     ensures memory { need heap.now survivors.now ≤ length (free_regions heap.now) → IfErr result (λ e. e ≡ Fault.Memory) }
 {
-    g1_words::laws::valid(heap);
-    let (regions, words) = measure_sized(heap, survivors, sizes);
     let free = free_count(heap);
+    let (regions, words) = measure_sized(heap, survivors, sizes);
     if regions > free {
         return Err(Fault::Room {
             need: regions,

@@ -13,9 +13,9 @@ use Rattle.g1_words.specs.Live.{bytes_where, IsLiveBytes}
 use Rattle.g1_words.specs.Survivors.{firsts, seeds, children, Survivors}
 use Rattle.g1_words.specs.Valid.{IsValid}
 use Rattle.g1_words.proofs.Bounds.{object_within}
-use Rattle.g1_words.proofs.Computed.{contains_has, In-range, range_below}
+use Rattle.g1_words.proofs.Computed.{contains_has, Contains-range, range_below}
 use Rattle.g1_words.proofs.Firsts.{Distinct, Distinct-firsts, Distinct-apart}
-use Rattle.g1_words.proofs.Members.{In, In-from_contains, Contains-from_in, In-flat_map, flat_map_cases, has_from_in, in_from_has}
+use Rattle.g1_words.proofs.Members.{Contains-flat_map, flat_map_cases, has_from_contains, Contains-from_has}
 use Rattle.g1_words.proofs.OneToOne.{reached_object}
 use Rattle.g1_frontier.proofs.Marks.{firsts_again}
 use Rattle.g1_words.proofs.Ordered.{Ordered, Ordered-from_pairs}
@@ -73,10 +73,10 @@ split_at (x ∷ xs) (suc i) d lt =
 module _ (h : Heap) (valid : IsValid h) where
   region_ordered : (r : ℕ) → r < h.geometry.n → Ordered IsBefore (objects_in h r)
   region_ordered r lt = ordered_part IsBefore (objects_in h) (regions h) r (Ordered-from_pairs IsBefore (objects h) (objects_apart h valid))
-      (In-range 0 h.geometry.n r (omega arith) (omega (arith, lt)))
+      (Contains-range 0 h.geometry.n r (omega arith) (omega (arith, lt)))
 
-  of_heap : (r : ℕ) (o : Object) → r < h.geometry.n → In (objects_in h r) o → Contains (objects h) o
-  of_heap r o lt i = Contains-from_in (objects h) o (In-flat_map (objects_in h) (regions h) r o (In-range 0 h.geometry.n r (omega arith) (omega (arith, lt))) i)
+  of_heap : (r : ℕ) (o : Object) → r < h.geometry.n → Contains (objects_in h r) o → Contains (objects h) o
+  of_heap r o lt i = Contains-flat_map (objects_in h) (regions h) r o (Contains-range 0 h.geometry.n r (omega arith) (omega (arith, lt))) i
 
   -- a region's objects take no more words than the heap has
   sizes_few : (test : ℕ → Bool) (r : ℕ) → r < h.geometry.n → sizes (filter (λ o. test o.at) (objects_in h r)) ≤ most_words
@@ -92,8 +92,8 @@ module _ (h : Heap) (valid : IsValid h) where
     -- it lies in a region of the heap, and its header among the words
     pub region_there : region_of h a < h.geometry.n
     region_there =
-        let m = flat_map_cases (objects_in h) (regions h) (object_at h a) (In-from_contains (objects h) (object_at h a) object) in
-        let e = (sound h valid).in_region m.0 (object_at h a) (Contains-from_in (objects_in h m.0) (object_at h a) m.2) in
+        let m = flat_map_cases (objects_in h) (regions h) (object_at h a) object in
+        let e = (sound h valid).in_region m.0 (object_at h a) m.2 in
         omega (arith, range_below 0 h.geometry.n m.0 m.1, e)
 
     pub word_there : a < length h.words
@@ -102,20 +102,20 @@ module _ (h : Heap) (valid : IsValid h) where
         let end = object_within h valid (object_at h a) (contains_has h (object_at h a) valid.shaped object) in
         omega (arith, fit, end, valid.word_count)
 
-    in_its_region : In (objects_in h (region_of h a)) (object_at h a)
+    in_its_region : Contains (objects_in h (region_of h a)) (object_at h a)
     in_its_region =
-        let m = flat_map_cases (objects_in h) (regions h) (object_at h a) (In-from_contains (objects h) (object_at h a) object) in
-        let e : region_of h a ≡ m.0 = (sound h valid).in_region m.0 (object_at h a) (Contains-from_in (objects_in h m.0) (object_at h a) m.2) in
-        subst (λ r. In (objects_in h r) (object_at h a)) (sym e) m.2
+        let m = flat_map_cases (objects_in h) (regions h) (object_at h a) object in
+        let e : region_of h a ≡ m.0 = (sound h valid).in_region m.0 (object_at h a) m.2 in
+        subst (λ r. Contains (objects_in h r) (object_at h a)) (sym e) m.2
 
     sizes_here : sizes (filter (λ o. eqb o.at a) (objects_in h (region_of h a))) ≡ (object_at h a).size
     sizes_here = sizes_one (object_at h a) (objects_in h (region_of h a)) (region_ordered (region_of h a) region_there)
         (λ o i. let fit = (sound h valid).slots_fit o (of_heap (region_of h a) o region_there i) in omega (arith, fit)) in_its_region
 
     sizes_else : (r : ℕ) → r ≢ region_of h a → sizes (filter (λ o. eqb o.at a) (objects_in h r)) ≡ 0
-    sizes_else r d = sizes_none a (objects_in h r) (λ o i e. d (sym ((sound h valid).in_region r o (Contains-from_in (objects_in h r) o i)) ∙ ap (region_of h) e))
+    sizes_else r d = sizes_none a (objects_in h r) (λ o i e. d (sym ((sound h valid).in_region r o i) ∙ ap (region_of h) e))
 
-    module _ (front : List ℕ) (new : In front a → ⊥) where
+    module _ (front : List ℕ) (new : Contains front a → ⊥) where
       pub bytes_here : bytes_where h (has (front ++ a ∷ [])) (region_of h a) ≡ bytes_where h (has front) (region_of h a) + 8 * (word h a / 2 ^ 32)
       bytes_here = let k = sizes_more front a (objects_in h (region_of h a)) new in let s = sizes_here in omega (arith, k, s)
 
@@ -149,14 +149,14 @@ module _ (h : Heap) (valid : IsValid h) where
       ∙ ap (bytes_where h (has addresses)) (let e : r ≡ 0 + r = omega arith in e))
 
 -- an address of a list without repeats isn't among those before it
-pub not_before : (xs : List ℕ) (i : ℕ) → xs ≡ firsts xs → i < length xs → In (take i xs) (get_or xs i 0) → ⊥
+pub not_before : (xs : List ℕ) (i : ℕ) → xs ≡ firsts xs → i < length xs → Contains (take i xs) (get_or xs i 0) → ⊥
 not_before xs i e lt k =
     Distinct-apart (take i xs) (get_or xs i 0) (drop (i + 1) xs) (subst Distinct (split_at xs i 0 lt) (subst Distinct (sym e) (Distinct-firsts xs))) k
 
 -- the roots reach exactly the survivors of the used regions
 module _ (h : Heap) (valid : IsValid h) (live : List ℕ) (found : Survivors h (used h) live) where
-  pub found_objects : (a : ℕ) → In live a → Contains (objects h) (object_at h a)
-  found_objects a i = reached_object h (used h) (sound h valid) a ((found.reached a).0 (Contains-from_in live a i))
+  pub found_objects : (a : ℕ) → Contains live a → Contains (objects h) (object_at h a)
+  found_objects a i = reached_object h (used h) (sound h valid) a ((found.reached a).0 i)
 
   pub found_once : live ≡ firsts live
   found_once = found.in_order ∙ sym (ap firsts found.in_order ∙ firsts_again (seeds h (used h) ++ flat_map (children h (used h)) live))
@@ -165,8 +165,8 @@ module _ (h : Heap) (valid : IsValid h) (live : List ℕ) (found : Survivors h (
   live_counted bytes e = record {
     test = has live;
     passes = λ a. (
-      (λ t. live_from_reached h valid a ((found.reached a).0 (Contains-from_in live a (in_from_has live a t)))),
-      (λ l. has_from_in live a (In-from_contains live a ((found.reached a).1 (reached_from_live h valid a l)))),
+      (λ t. live_from_reached h valid a ((found.reached a).0 (Contains-from_has live a t))),
+      (λ l. has_from_contains live a ((found.reached a).1 (reached_from_live h valid a l))),
     );
     bytes = e;
   }

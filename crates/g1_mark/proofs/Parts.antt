@@ -1,10 +1,11 @@
 -- Objects counted in parts.
-use Rattle.std.proofs.Common.{◌≡◌, ◌<◌, ℕ, ◌+◌, ◌*◌, inl, inr, Bool, true, false, cond, ◌||◌, List, [], ◌∷◌, ◌++◌, ◌^◌, map, filter, length, take, drop, slice_index, arith, refl, sym, ap, subst, ◌∙◌}
+use Rattle.std.proofs.Common.{◌≡◌, ◌<◌, ℕ, ◌+◌, ◌*◌, Bool, true, false, cond, ◌||◌, List, [], ◌∷◌, ◌++◌, ◌^◌, map, filter, length, take, drop, slice_index, arith, refl, sym, ap, subst, ◌∙◌, Contains, zero, suc}
 use Rattle.std.specs.Prelude.{Result, Ok, Err, IfOk}
 use Rattle.std.specs.Global.{Vec}
 use Rattle.std.proofs.Math.Seq.{take-add}
 use Rattle.std.proofs.lemmas.List.{take-append-drop}
 use Rattle.std.proofs.lemmas.List.FromFn.{get_or-map-range_with_len, length-map-range_with_len}
+use Rattle.std.proofs.lemmas.List.Elements.{Contains-append_left, Contains-append_right}
 use Rattle.g1_words.specs.declared.object.Object.{Object}
 use Rattle.g1_words.specs.Heap.{Heap, regions, objects_in}
 use Rattle.g1_words.specs.Lists.{has}
@@ -12,7 +13,7 @@ use Rattle.g1_words.specs.Live.{bytes_where}
 use Rattle.g1_words.specs.Survivors.{firsts}
 use Rattle.g1_words.specs.Valid.{IsValid}
 use Rattle.g1_words.proofs.Firsts.{Distinct, Distinct-firsts}
-use Rattle.g1_words.proofs.Members.{In, In-append_left, In-append_right, in_from_has}
+use Rattle.g1_words.proofs.Members.{Contains-from_has, none_contains}
 use Rattle.g1_words.proofs.Lists.{has_both, firsts_distinct}
 use Rattle.g1_mark.proofs.Counting.{AreBytesOf, bytes_few}
 use Rattle.g1_mark.proofs.Sums.{sizes, size_kept}
@@ -21,16 +22,16 @@ use Rattle.g1_mark.proofs.Sums.{sizes, size_kept}
 
 left_apart : (xs ys : List ℕ) → Distinct (xs ++ ys) → Distinct xs
 left_apart [] ys d = tt
-left_apart (x ∷ xs) ys d = ((λ i. d.0 (In-append_left xs ys x i)), left_apart xs ys d.1)
+left_apart (x ∷ xs) ys d = ((λ i. d.0 (Contains-append_left xs ys x i)), left_apart xs ys d.1)
 
 right_apart : (xs ys : List ℕ) → Distinct (xs ++ ys) → Distinct ys
 right_apart [] ys d = d
 right_apart (x ∷ xs) ys d = right_apart xs ys d.1
 
-both_apart : (xs ys : List ℕ) → Distinct (xs ++ ys) → (x : ℕ) → In xs x → In ys x → ⊥
-both_apart [] ys d x i j = i
-both_apart (y ∷ xs) ys d x (inl e) j = d.0 (In-append_right xs ys y (subst (In ys) (sym e) j))
-both_apart (y ∷ xs) ys d x (inr i) j = both_apart xs ys d.1 x i j
+both_apart : (xs ys : List ℕ) → Distinct (xs ++ ys) → (x : ℕ) → Contains xs x → Contains ys x → ⊥
+both_apart [] ys d x i j = none_contains x i
+both_apart (y ∷ xs) ys d x (zero, b, e) j = d.0 (Contains-append_right xs ys y (subst (Contains ys) (sym e) j))
+both_apart (y ∷ xs) ys d x (suc k, b, e) j = both_apart xs ys d.1 x (k, omega (arith, b), e) j
 
 module _ (xs : List ℕ) (once : xs ≡ firsts xs) where
   whole_apart : Distinct xs
@@ -53,18 +54,18 @@ module _ (xs : List ℕ) (once : xs ≡ firsts xs) where
       sym (firsts_distinct (take size (drop start xs)) (left_apart (take size (drop start xs)) (drop size (drop start xs)) (subst Distinct (sym (take-append-drop size (drop start xs))) behind)))
 
   -- nothing stands in a chunk and before it
-  chunk_new : (n size x : ℕ) → In (take (n * size) xs) x → In (take size (drop (n * size) xs)) x → ⊥
+  chunk_new : (n size x : ℕ) → Contains (take (n * size) xs) x → Contains (take size (drop (n * size) xs)) x → ⊥
   chunk_new n size = both_apart (take (n * size) xs) (take size (drop (n * size) xs)) (chunks_apart n size)
 
 -- ---- sums over two lists
 
-one_of_both : (v w : List ℕ) (n x : ℕ) (b c : Bool) → (In v x → In w x → ⊥) → has v x ≡ b → has w x ≡ c → cond (b || c) n 0 ≡ cond b n 0 + cond c n 0
-one_of_both v w n x true true d e f = absurd (d (in_from_has v x e) (in_from_has w x f))
+one_of_both : (v w : List ℕ) (n x : ℕ) (b c : Bool) → (Contains v x → Contains w x → ⊥) → has v x ≡ b → has w x ≡ c → cond (b || c) n 0 ≡ cond b n 0 + cond c n 0
+one_of_both v w n x true true d e f = absurd (d (Contains-from_has v x e) (Contains-from_has w x f))
 one_of_both v w n x true false d e f = omega arith
 one_of_both v w n x false true d e f = omega arith
 one_of_both v w n x false false d e f = omega arith
 
-sizes_both : (v w : List ℕ) (os : List Object) → ((x : ℕ) → In v x → In w x → ⊥)
+sizes_both : (v w : List ℕ) (os : List Object) → ((x : ℕ) → Contains v x → Contains w x → ⊥)
     → sizes (filter (λ o. has (v ++ w) o.at) os) ≡ sizes (filter (λ o. has v o.at) os) + sizes (filter (λ o. has w o.at) os)
 sizes_both v w [] d = omega arith
 sizes_both v w (o ∷ os) d =
@@ -77,7 +78,7 @@ sizes_both v w (o ∷ os) d =
     omega (arith, rest, both, left, right, here)
 
 module _ (h : Heap) where
-  bytes_both : (v w : List ℕ) (r : ℕ) → ((x : ℕ) → In v x → In w x → ⊥) → bytes_where h (has (v ++ w)) r ≡ bytes_where h (has v) r + bytes_where h (has w) r
+  bytes_both : (v w : List ℕ) (r : ℕ) → ((x : ℕ) → Contains v x → Contains w x → ⊥) → bytes_where h (has (v ++ w)) r ≡ bytes_where h (has v) r + bytes_where h (has w) r
   bytes_both v w r d = let k = sizes_both v w (objects_in h r) d in omega (arith, k)
 
   module _ (xs : List ℕ) (once : xs ≡ firsts xs) (n size : ℕ) (bytes more : List ℕ) (before : AreBytesOf h (take (n * size) xs) bytes)

@@ -1,12 +1,13 @@
 -- What is reached in the used regions is what the roots reach.
 use Rattle.std.proofs.Common.{◌≡◌, ℕ, inl, inr, Bool, true, false, not, ◌&&◌, map, filter, Contains, subst}
 use Rattle.std.proofs.lemmas.Bool.{false≢true, and_parts}
+use Rattle.std.proofs.lemmas.List.Elements.{Contains-append_cases, Contains-append_left}
 use Rattle.g1_words.specs.Heap.{Heap, object_at, objects}
 use Rattle.g1_words.specs.Live.{Reached, seed, child, Live}
 use Rattle.g1_words.specs.References.{Ref, refs, root_targets, targets}
 use Rattle.g1_words.specs.Survivors.{in_set, seeds, children}
 use Rattle.g1_words.specs.Valid.{IsValid}
-use Rattle.g1_words.proofs.Members.{In, In-from_contains, Contains-from_in, In-append_left, In-append_cases, In-filter, filter_member, map_cases}
+use Rattle.g1_words.proofs.Members.{Contains-filter, filter_member, map_cases}
 use Rattle.g1_words.proofs.OneToOne.{reached_object, target_in_refs}
 use Rattle.g1_words.proofs.Sound.{sound}
 use Rattle.g1_mark.specs.Marked.{used}
@@ -22,8 +23,8 @@ module _ (h : Heap) (valid : IsValid h) where
 
   pub live_from_reached : (a : ℕ) → Reached (seeds h (used h)) (children h (used h)) a → Live h a
   live_from_reached a (seed c) =
-      elim (In-append_cases (filter (in_set h (used h)) (root_targets h)) (map (λ (e : Ref). e.target) (filter crosses (refs h))) a (In-from_contains (seeds h (used h)) a c)) [
-        | inl k ↦ seed (Contains-from_in (root_targets h) a (filter_member (in_set h (used h)) (root_targets h) a k).0)
+      elim (Contains-append_cases (filter (in_set h (used h)) (root_targets h)) (map (λ (e : Ref). e.target) (filter crosses (refs h))) a c) [
+        | inl k ↦ seed (filter_member (in_set h (used h)) (root_targets h) a k).0
         | inr k ↦
             let m = map_cases (λ (e : Ref). e.target) (filter crosses (refs h)) a k in
             let t = filter_member crosses (refs h) m.0 m.1 in
@@ -31,17 +32,17 @@ module _ (h : Heap) (valid : IsValid h) where
             absurd (not_true (in_set h (used h) m.0.slot) out.1 (slot_used h valid m.0 t.0))
       ]
   live_from_reached b (child {a = a} r c) =
-      child (live_from_reached a r) (Contains-from_in (targets h a) b (filter_member (in_set h (used h)) (targets h a) b (In-from_contains (children h (used h) a) b c)).0)
+      child (live_from_reached a r) (filter_member (in_set h (used h)) (targets h a) b c).0
 
   pub reached_from_live : (a : ℕ) → Live h a → Reached (seeds h (used h)) (children h (used h)) a
   reached_from_live a (seed c) =
       let there : in_set h (used h) a ≡ true = object_used h valid (object_at h a) ((sound h valid).root_named a c) in
-      let i : In (filter (in_set h (used h)) (root_targets h)) a = In-filter (in_set h (used h)) (root_targets h) a (In-from_contains (root_targets h) a c) there in
-      seed (Contains-from_in (seeds h (used h)) a (In-append_left (filter (in_set h (used h)) (root_targets h)) (map (λ (e : Ref). e.target) (filter crosses (refs h))) a i))
+      let i : Contains (filter (in_set h (used h)) (root_targets h)) a = Contains-filter (in_set h (used h)) (root_targets h) a c there in
+      seed (Contains-append_left (filter (in_set h (used h)) (root_targets h)) (map (λ (e : Ref). e.target) (filter crosses (refs h))) a i)
   reached_from_live b (child {a = a} r c) =
       let k = reached_from_live a r in
       let o : Contains (objects h) (object_at h a) = reached_object h (used h) (sound h valid) a k in
-      let e = target_in_refs h (used h) (object_at h a) b (In-from_contains (objects h) (object_at h a) o) (In-from_contains (targets h a) b c) in
+      let e = target_in_refs h (used h) (object_at h a) b o c in
       let there : in_set h (used h) b ≡ true = subst (λ x. in_set h (used h) x ≡ true) e.2
-      (object_used h valid (object_at h e.0.target) ((sound h valid).slot_named e.0 (Contains-from_in (refs h) e.0 e.1))) in
-      child k (Contains-from_in (children h (used h) a) b (In-filter (in_set h (used h)) (targets h a) b (In-from_contains (targets h a) b c) there))
+      (object_used h valid (object_at h e.0.target) ((sound h valid).slot_named e.0 e.1)) in
+      child k (Contains-filter (in_set h (used h)) (targets h a) b c there)

@@ -11,8 +11,8 @@ use Rattle.g1_words.specs.Lists.{has}
 use Rattle.g1_words.specs.References.{Ref, refs, refs_at, named}
 use Rattle.g1_words.specs.Survivors.{in_set}
 use Rattle.g1_words.specs.Valid.{IsValid}
-use Rattle.g1_words.proofs.Computed.{In-range, range_below, range_above}
-use Rattle.g1_words.proofs.Members.{In, Contains-from_in, In-filter, filter_member, flat_map_cases, map_cases, has_from_in}
+use Rattle.g1_words.proofs.Computed.{Contains-range, range_below, range_above}
+use Rattle.g1_words.proofs.Members.{Contains-filter, filter_member, flat_map_cases, map_cases, has_from_contains}
 use Rattle.g1_words.proofs.Shapes.{built}
 use Rattle.g1_words.proofs.Sound.{sound}
 use Rattle.g1_words.proofs.Standing.{home, word_used}
@@ -48,7 +48,8 @@ module _ (h : Heap) where
   }
 
   has_used : (r : ℕ) → r < h.geometry.n → kind h r ≢ Free → has (used h) r ≡ true
-  has_used r lt d = has_from_in (used h) r (In-filter (λ r. not (is_free (kind h r))) (regions h) r (In-range 0 h.geometry.n r (omega arith) (omega (arith, lt))) (is_used (kind h r) d))
+  has_used r lt d =
+      has_from_contains (used h) r (Contains-filter (λ r. not (is_free (kind h r))) (regions h) r (Contains-range 0 h.geometry.n r (omega arith) (omega (arith, lt))) (is_used (kind h r) d))
 
   module _ (valid : IsValid h) where
     word_in_used : (o : Object) (m : ℕ) → Contains (objects h) o → m < o.size → in_set h (used h) (o.at + m) ≡ true
@@ -64,7 +65,7 @@ module _ (h : Heap) where
         subst (λ a. in_set h (used h) a ≡ true) e (word_in_used o 0 c (omega (arith, fit)))
 
     -- the slot of a reference
-    pub slot_used : (e : Ref) → In (refs h) e → in_set h (used h) e.slot ≡ true
+    pub slot_used : (e : Ref) → Contains (refs h) e → in_set h (used h) e.slot ≡ true
     slot_used e i =
         let m = flat_map_cases (λ o. flat_map (refs_at h) (slots o)) (objects h) e i in
         let o : Object = m.0 in
@@ -73,7 +74,6 @@ module _ (h : Heap) where
         let at : p.0 ≡ e.slot = ap (λ (x : Ref). x.slot) q.2 in
         let low = range_above (o.at + 1) o.refs p.0 p.1 in
         let high = range_below (o.at + 1) o.refs p.0 p.1 in
-        let c : Contains (objects h) o = Contains-from_in (objects h) o m.1 in
-        let fit = (sound h valid).slots_fit o c in
+        let fit = (sound h valid).slots_fit o m.1 in
         let far : o.at + (p.0 - o.at) ≡ p.0 = omega (arith, low) in
-        subst (λ a. in_set h (used h) a ≡ true) (far ∙ at) (word_in_used o (p.0 - o.at) c (omega (arith, low, high, fit)))
+        subst (λ a. in_set h (used h) a ≡ true) (far ∙ at) (word_in_used o (p.0 - o.at) m.1 (omega (arith, low, high, fit)))

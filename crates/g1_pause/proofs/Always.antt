@@ -29,7 +29,7 @@ use Rattle.g1_choose.proofs.Naming.{accepted_or_bad}
 use Rattle.g1_choose.proofs.OneChoice.{set_exists}
 use Rattle.g1_mark.proofs.Counting.{live_counted}
 use Rattle.g1_pause.proofs.Following.{evacuation_follows}
-use Rattle.g1_pause.proofs.CollectionSets.{set_ordinary}
+use Rattle.g1_pause.proofs.CollectionSets.{set_room}
 
 -- a heap has live bytes
 pub live_bytes_exist : (h : Heap) → IsValid h → (lives : List ℕ) × IsLiveBytes h lives
@@ -47,7 +47,7 @@ module _ (cost : Cost) (i : Image) (tracked : IsTracked i) where
       let e = survivors_exist i.heap set (sound i.heap valid) in
       elim (cases_lt (length (free_regions i.heap)) (need i.heap e.0)) [
         | inl lt ↦ (Err (Room (need i.heap e.0) (length (free_regions i.heap))), no_room set e.0 s e.1 lt)
-        | inr le ↦ (Ok (image_paused i set e.0), done set e.0 s e.1 le (pause_exists i set e.0 valid (record { ordinary = set_ordinary cost i choice set s; survivors = e.1; room = le })))
+        | inr le ↦ (Ok (image_paused i set e.0), done set e.0 s e.1 le (pause_exists i set e.0 valid (set_room cost i choice set e.0 s e.1 le)))
       ]
 
   pub evacuation_exists : (choice : Choice) → (x : Result Image Fault) × IsEvacuated cost choice i x

@@ -1,7 +1,6 @@
 -- What a pause gives follows from what it was given.
 use Rattle.std.proofs.Common.{ℕ, List, Ok, ap, ◌∙◌}
 use Rattle.g1_words.specs.declared.limits.Limits.{Limits}
-use Rattle.g1_words.specs.Layout.{HasRoom}
 use Rattle.g1_image.specs.Image.{Image}
 use Rattle.g1_image.specs.Cards.{IsTracked}
 use Rattle.g1_choose.specs.declared.parameters.Cost.{Cost}
@@ -11,13 +10,12 @@ use Rattle.g1_pause.specs.Follows.{Follows, TextFollowsWithin}
 use Rattle.g1_words.proofs.OneToOne.{forward_one_to_one}
 use Rattle.g1_words.proofs.Sound.{sound}
 use Rattle.g1_after.proofs.PausedLaws.{copies_paused, graph_stays, nothing_into_freed, objects_paused, tracked_paused}
-use Rattle.g1_pause.proofs.CollectionSets.{set_ordinary}
+use Rattle.g1_pause.proofs.CollectionSets.{set_room}
 
 pub evacuation_follows : (cost : Cost) (choice : Choice) (i j : Image) → IsTracked i → IsEvacuated cost choice i (Ok j) → Follows cost choice i j
 evacuation_follows cost choice i j t (done set l s v room m) =
-    let ordinary = set_ordinary cost i choice set s in
     let valid = t.image.heap in
-    let has_room : HasRoom i.heap set l = record { ordinary = ordinary; survivors = v; room = room } in
+    let has_room = set_room cost i choice set l s v room in
     let nothing = nothing_into_freed i set l j valid has_room m in
     record {
       set = set;
@@ -25,7 +23,7 @@ evacuation_follows cost choice i j t (done set l s v room m) =
       chosen = s;
       found = v;
       paused = m;
-      one_to_one = forward_one_to_one i.heap set l (sound i.heap valid) ordinary v room;
+      one_to_one = forward_one_to_one i.heap set l (sound i.heap valid) has_room;
       objects = objects_paused i set l j valid has_room m;
       copies = copies_paused i set l j valid has_room m;
       roots = ap (λ (x : Image). x.heap.roots) m.freed ∙ m.moved.roots;

@@ -1,5 +1,5 @@
 -- What each step of the pause of named regions asks of the steps before it.
-use Rattle.std.proofs.Common.{◌≡◌, ℕ, ◌⊎◌, inl, inr, false, ◌<◌, ◌≤◌, ◌*◌, List, length, map, filter, All, Result, Ok, Err, refl, sym, ◌∙◌, ap, subst, arith}
+use Rattle.std.proofs.Common.{◌≡◌, ℕ, ◌⊎◌, inl, inr, false, ◌<◌, ◌≤◌, ◌*◌, List, length, map, filter, All, Result, Ok, Err, refl, sym, ◌∙◌, ap, subst, arith, Contains}
 use Rattle.std.proofs.lemmas.Bool.{cases_lt}
 use Rattle.std.proofs.lemmas.List.Kept.{IsStrictlyIncreasing-filter}
 use Rattle.g1_words.specs.declared.fault.Fault.{Fault}
@@ -9,7 +9,7 @@ use Rattle.g1_words.specs.Layout.{need, free_regions}
 use Rattle.g1_words.specs.Lists.{has}
 use Rattle.g1_words.specs.Survivors.{in_set, AllOrdinary, Survivors}
 use Rattle.g1_words.specs.Valid.{IsValid}
-use Rattle.g1_words.proofs.Members.{In, In-from_contains, Contains-from_in, filter_member, in_from_has}
+use Rattle.g1_words.proofs.Members.{filter_member, Contains-from_has}
 use Rattle.g1_words.proofs.Computed.{range_below}
 use Rattle.g1_words.proofs.Lists.{all_from_in}
 use Rattle.g1_image.specs.Image.{Image, IsImage}
@@ -36,8 +36,8 @@ named_regions h list set e = subst (AreRegions h) (sym e) (record {
 -- and ordinary ones
 pub named_ordinary : (h : Heap) (list set : List ℕ) → AreTakeable h list → set ≡ filter (has list) (regions h) → AllOrdinary h set
 named_ordinary h list set named e r c =
-    let f = filter_member (has list) (regions h) r (subst (λ xs. In xs r) e (In-from_contains set r c)) in
-    named.ordinary r (Contains-from_in list r (in_from_has list r f.1))
+    let f = filter_member (has list) (regions h) r (subst (λ xs. Contains xs r) e c) in
+    named.ordinary r (Contains-from_has list r f.1)
 
 module _ (i t : Image) (image : i ≡ t) (h : Heap) (its : h ≡ i.heap) (good : IsImage i) (covered : Covered t) (set : List ℕ) (known : AreRegions t.heap set) (ordinary : AllOrdinary t.heap set) where
   heap : h ≡ t.heap

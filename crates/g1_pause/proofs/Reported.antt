@@ -28,7 +28,7 @@ reported cost choice i set l p x valid chosen made same to objects words humongo
   objects = objects;
   words = words;
   between = image_moved i set l;
-  moved = subst (λ y. IsMoved i y l (image_moved i set l)) (sym same) (made_is_moved i set l (built i.heap valid) made.room.ordinary made.room.survivors made.room.room);
+  moved = subst (λ y. IsMoved i y l (image_moved i set l)) (sym same) (made_is_moved i set l (built i.heap valid) made.room);
   humongous = humongous ∙ made.humongous;
 }
 

@@ -9,7 +9,8 @@ use Rattle.g1_words.specs.declared.region.Kind.{Kind}
 use Rattle.g1_words.specs.declared.region.Kind.TheVariants.{Free, Ordinary, HumongousFirst, Continuation}
 use Rattle.g1_words.specs.Heap.{Heap, kind, start, end, objects, objects_in}
 use Rattle.g1_words.specs.Valid.{IsValid, IsShapedBy, IsWholeRun}
-use Rattle.g1_words.proofs.Members.{In, Contains-from_in, flat_map_cases}
+use Rattle.g1_words.proofs.Lists.{range_split}
+use Rattle.g1_words.proofs.Members.{flat_map_cases}
 use Rattle.g1_words.proofs.Computed.{range_above, range_below, in_region_has, has_contains, holds_computed}
 use Rattle.g1_words.proofs.Objects.{StandsIn, holds_stands}
 use Rattle.g1_words.proofs.Sound.{sound}
@@ -17,24 +18,12 @@ use Rattle.g1_words.proofs.Tiling.{Tiles-le, same_object}
 use Rattle.g1_rem.specs.Marks.{Chain, objects_between, objects_from}
 use Rattle.g1_rem.proofs.Order.{Chain-weaken, objects_chain, object_fits}
 
--- a run of numbers, and the run behind it
-run_append : (a n m : ℕ) → range_with_len a n ++ range_with_len (a + n) m ≡ range_with_len a (n + m)
-run_append a zero m =
-    let at : a + 0 ≡ a = omega arith in
-    let count : m ≡ 0 + m = omega arith in
-    ap (λ k. range_with_len k m) at ∙ ap (range_with_len a) count
-run_append a (suc n) m =
-    let at : a + suc n ≡ (a + 1) + n = omega arith in
-    let count : suc (n + m) ≡ suc n + m = omega arith in
-    ap (λ k. a ∷ range_with_len (a + 1) n ++ range_with_len k m) at ∙ ap (λ l. a ∷ l) (run_append (a + 1) n m) ∙ ap (range_with_len a) count
-
 -- numbers that follow one another
 runs_append : (a b c : ℕ) → a ≤ b → b ≤ c → range_with_len a (c - a) ≡ range_with_len a (b - a) ++ range_with_len b (c - b)
 runs_append a b c le more =
     let at : a + (b - a) ≡ b = omega (arith, le) in
-    let whole : (b - a) + (c - b) ≡ c - a = omega (arith, le, more) in
-    sym (subst (λ x. range_with_len a (b - a) ++ range_with_len x (c - b) ≡ range_with_len a (c - a)) at
-    (subst (λ m. range_with_len a (b - a) ++ range_with_len (a + (b - a)) (c - b) ≡ range_with_len a m) whole (run_append a (b - a) (c - b))))
+    let whole : c - a ≡ (b - a) + (c - b) = omega (arith, le, more) in
+    ap (range_with_len a) whole ∙ range_split a (b - a) (c - b) ∙ ap (λ x. range_with_len a (b - a) ++ range_with_len x (c - b)) at
 
 module _ (h : Heap) where
   -- the objects of one range, and those of the next
@@ -60,16 +49,16 @@ Chain-rest lo [] ys c = c
 Chain-rest lo (x ∷ xs) ys c = Chain-rest lo xs ys (Chain-weaken lo (x.at + x.size) (xs ++ ys) (omega (arith, c.0)) c.2)
 
 -- a chain whose objects all stand past an address
-pub Chain-past : (lo hi : ℕ) (os : List Object) → Chain lo os → ((o : Object) → In os o → hi ≤ o.at) → Chain hi os
+pub Chain-past : (lo hi : ℕ) (os : List Object) → Chain lo os → ((o : Object) → Contains os o → hi ≤ o.at) → Chain hi os
 Chain-past lo hi [] c each = tt
-Chain-past lo hi (o ∷ os) c each = (each o (inl refl), c.1, c.2)
+Chain-past lo hi (o ∷ os) c each = (each o (zero, omega arith, refl), c.1, c.2)
 
 module _ (h : Heap) (valid : IsValid h) where
   -- an object of a region from one on stands past that one's first word
-  pub from_past : (r : ℕ) (o : Object) → In (objects_from h r) o → start h r ≤ o.at
+  pub from_past : (r : ℕ) (o : Object) → Contains (objects_from h r) o → start h r ≤ o.at
   from_past r o i =
       let m = flat_map_cases (objects_in h) (range_with_len r (h.geometry.n - r)) o i in
-      let there : o.at / h.geometry.w ≡ m.0 = (sound h valid).in_region m.0 o (Contains-from_in (objects_in h m.0) o m.2) in
+      let there : o.at / h.geometry.w ≡ m.0 = (sound h valid).in_region m.0 o m.2 in
       let below : m.0 * h.geometry.w ≤ o.at = subst (λ x. x * h.geometry.w ≤ o.at) there (div-mul-le_self o.at h.geometry.w) in
       omega (arith, below, mul-le-mul_right h.geometry.w (range_above r (h.geometry.n - r) m.0 m.1))
 
@@ -101,12 +90,12 @@ module _ (h : Heap) (valid : IsValid h) where
   ends_in Continuation r f o lt there other s t = absurd t
 
   -- so do all objects before it
-  pub between_ends : (f : ℕ) (o : Object) → f ≤ h.geometry.n → (0 < f → f < h.geometry.n → kind h f ≡ Continuation → ⊥) → In (objects_between h 0 f) o → o.at + o.size ≤ start h f
+  pub between_ends : (f : ℕ) (o : Object) → f ≤ h.geometry.n → (0 < f → f < h.geometry.n → kind h f ≡ Continuation → ⊥) → Contains (objects_between h 0 f) o → o.at + o.size ≤ start h f
   between_ends f o le other i =
       let m = flat_map_cases (objects_in h) (range_with_len 0 (f - 0)) o i in
       let lt : m.0 < f = omega (arith, range_below 0 (f - 0) m.0 m.1) in
       let there : m.0 < h.geometry.n = omega (arith, lt, le) in
-      let mine : Contains (objects_in h m.0) o = Contains-from_in (objects_in h m.0) o m.2 in
+      let mine : Contains (objects_in h m.0) o = m.2 in
       elim (cases_lt f h.geometry.n) [
         | inl inside ↦ ends_in (kind h m.0) m.0 f o lt inside (other (omega (arith, lt)) inside) (valid.shaped m.0 there).by_kind
             (holds_stands (kind h m.0) h m.0 (objects_in h m.0) o (holds_computed h m.0 valid.shaped there) mine)

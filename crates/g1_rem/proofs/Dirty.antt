@@ -1,5 +1,5 @@
 -- Marks that tell which cards are dirty.
-use Rattle.std.proofs.Common.{◌≡◌, ◌≤◌, ◌<◌, ◌*◌, ◌^◌, ◌∙◌, ℕ, Bool, true, false, inl, inr, List, [], ◌∷◌, ◌++◌, ◌+◌, ◌||◌, length, replicate, slice_index_or, filter, All, arith, sym, ap, subst}
+use Rattle.std.proofs.Common.{◌≡◌, ◌≤◌, ◌<◌, ◌*◌, ◌^◌, ◌∙◌, ℕ, Bool, true, false, inl, inr, List, [], ◌∷◌, ◌++◌, ◌+◌, ◌||◌, length, replicate, slice_index_or, filter, All, arith, sym, ap, subst, Contains}
 use Rattle.std.specs.List.{range_with_len}
 use Rattle.std.specs.List.Sorted.{IsStrictlyIncreasing}
 use Rattle.std.proofs.Math.Nat.{mul-le-mul_left}
@@ -7,8 +7,8 @@ use Rattle.std.proofs.lemmas.Bool.{cases_lt}
 use Rattle.std.proofs.lemmas.List.{length-replicate, get_or-replicate, get_or_past}
 use Rattle.g1_words.specs.Lists.{has}
 use Rattle.g1_words.specs.Marks.{AreMarked, AreUnset}
-use Rattle.g1_words.proofs.Computed.{In-range}
-use Rattle.g1_words.proofs.Members.{In, In-filter, filter_member, has_from_in, in_from_has}
+use Rattle.g1_words.proofs.Computed.{Contains-range}
+use Rattle.g1_words.proofs.Members.{Contains-filter, filter_member, has_from_contains, Contains-from_has, none_contains}
 use Rattle.g1_words.proofs.Indices.{not_has}
 use Rattle.g1_words.proofs.Lists.{filter_range_yes, all_in, all_from_in}
 use Rattle.g1_words.proofs.Logic.{same_test}
@@ -21,7 +21,7 @@ use Rattle.g1_rem.proofs.Marks.{cards_fill}
 use Rattle.g1_rem.proofs.Rising.{Rises-increasing, Rises-filter, Rises-range}
 
 -- the marks of the dirty cards, where each has one
-pub dirty_told : (i : Image) (count : ℕ) (old new : List Bool) → old ≡ replicate count false → AreMarked (has i.log) old new → ((c : ℕ) → In i.log c → c < count) → AreDirty i new
+pub dirty_told : (i : Image) (count : ℕ) (old new : List Bool) → old ≡ replicate count false → AreMarked (has i.log) old new → ((c : ℕ) → Contains i.log c → c < count) → AreDirty i new
 dirty_told i count old new e m below = λ c.
     let len : length old ≡ count = ap length e ∙ length-replicate count false in
     elim (cases_lt c count) [
@@ -30,12 +30,12 @@ dirty_told i count old new e m below = λ c.
     ]
 
 -- a dirty card is one of the heap's
-pub dirty_inside : (i : Image) (c : ℕ) → IsImage i → In i.log c → c < card_count i.heap
+pub dirty_inside : (i : Image) (c : ℕ) → IsImage i → Contains i.log c → c < card_count i.heap
 dirty_inside i c valid k = card_inside i.heap c valid.heap (all_in (IsUsedCard i.heap) i.log c valid.log.used k)
 
 -- an empty log has none
-pub none_dirty : (log : List ℕ) (c n : ℕ) → log ≡ [] → In log c → c < n
-none_dirty log c n e k = absurd (subst (λ l. In l c) e k)
+pub none_dirty : (log : List ℕ) (c n : ℕ) → log ≡ [] → Contains log c → c < n
+none_dirty log c n e k = absurd (none_contains c (subst (λ l. Contains l c) e k))
 
 -- ---- the dirty cards, listed
 
@@ -46,12 +46,12 @@ listed_rising log n = Rises-increasing 0 (filter (has log) (range_with_len 0 n))
 -- all of them are the heap's
 pub listed_inside : (i : Image) (n : ℕ) → IsImage i → All (λ c. c < card_count i.heap) (filter (has i.log) (range_with_len 0 n))
 listed_inside i n valid = all_from_in (λ c. c < card_count i.heap) (filter (has i.log) (range_with_len 0 n))
-    (λ c k. dirty_inside i c valid (in_from_has i.log c (filter_member (has i.log) (range_with_len 0 n) c k).1))
+    (λ c k. dirty_inside i c valid (Contains-from_has i.log c (filter_member (has i.log) (range_with_len 0 n) c k).1))
 
 -- their numbers are small
 pub dirty_small : (i : Image) (c : ℕ) → IsImage i → has i.log c ≡ true → c < 2 ^ 32
 dirty_small i c valid e =
-    let inside : c < card_count i.heap = dirty_inside i c valid (in_from_has i.log c e) in
+    let inside : c < card_count i.heap = dirty_inside i c valid (Contains-from_has i.log c e) in
     let wide : card_count i.heap * 1 ≤ card_count i.heap * i.heap.geometry.k = mul-le-mul_left (card_count i.heap) (let some : 1 ≤ i.heap.geometry.k = omega (arith, valid.heap.limits.k_least) in some) in
     omega (arith, inside, wide, cards_fill i.heap valid.heap, valid.heap.limits.words_most)
 
@@ -76,6 +76,6 @@ module _ (i : Image) (marks : List Bool) (told : AreDirty i marks) where
 -- they are those of the log
 pub listed_same : (i : Image) (marks : List Bool) (c : ℕ) → AreDirty i marks → has (filter (has i.log) (range_with_len 0 (length marks))) c ≡ has i.log c
 listed_same i marks c told = same_test (has (filter (has i.log) (range_with_len 0 (length marks))) c) (has i.log c)
-    (λ e. (filter_member (has i.log) (range_with_len 0 (length marks)) c (in_from_has (filter (has i.log) (range_with_len 0 (length marks))) c e)).1)
-    (λ e. has_from_in (filter (has i.log) (range_with_len 0 (length marks))) c
-    (In-filter (has i.log) (range_with_len 0 (length marks)) c (In-range 0 (length marks) c (omega arith) (omega (arith, marked_below i marks c told e))) e))
+    (λ e. (filter_member (has i.log) (range_with_len 0 (length marks)) c (Contains-from_has (filter (has i.log) (range_with_len 0 (length marks))) c e)).1)
+    (λ e. has_from_contains (filter (has i.log) (range_with_len 0 (length marks))) c
+    (Contains-filter (has i.log) (range_with_len 0 (length marks)) c (Contains-range 0 (length marks) c (omega arith) (omega (arith, marked_below i marks c told e))) e))

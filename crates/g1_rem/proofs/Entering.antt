@@ -12,7 +12,7 @@ use Rattle.std.proofs.Math.ListN.{set, length-set}
 use Rattle.std.proofs.Math.ListN.{drop_of_length-le}
 use Rattle.std.proofs.lemmas.Bool.{cases_lt, ne_eqb, and_parts, or_cases}
 use Rattle.std.proofs.lemmas.List.{get_or_push, take_all, length-append, length-replicate, get_or-replicate}
-use Rattle.std.proofs.lemmas.List.Elements.{filter-append}
+use Rattle.std.proofs.lemmas.List.Elements.{filter-append, Contains-get_or}
 use Rattle.std.proofs.lemmas.List.Folds.{list_any-append}
 use Rattle.std.proofs.Math.Nat.{mul-le-mul_right}
 use Rattle.g1_words.specs.declared.object.Object.{Object}
@@ -20,9 +20,9 @@ use Rattle.g1_words.specs.Heap.{Heap, word, objects, regions, slots, region_of, 
 use Rattle.g1_words.specs.Lists.{has}
 use Rattle.g1_words.specs.Valid.{IsReference, IsValid}
 use Rattle.g1_words.specs.References.{named, refs_at}
-use Rattle.g1_words.proofs.Members.{In, In-from_contains, Contains-from_in, In-filter, filter_member, flat_map_cases, has_from_in, in_from_has}
+use Rattle.g1_words.proofs.Members.{Contains-filter, filter_member, flat_map_cases, has_from_contains, Contains-from_has}
 use Rattle.g1_words.proofs.Sound.{sound}
-use Rattle.g1_words.proofs.Computed.{In-range, contains_has, range_above, range_below}
+use Rattle.g1_words.proofs.Computed.{Contains-range, contains_has, range_above, range_below}
 use Rattle.g1_words.proofs.Lists.{all_from_in, all_in}
 use Rattle.g1_words.proofs.Logic.{same_test}
 use Rattle.g1_image.specs.Image.{Image, IsImage, IsUsedCard, remembered_of}
@@ -83,10 +83,10 @@ pub enters_pass : (h : Heap) (r p : ℕ) (ps : List ℕ) → enters h r ps ≡ f
 enters_pass h r p ps none e = enters_more h r p ps false e ∙ or_none (enters h r ps) ∙ none
 
 -- one of the slots leads into the region
-pub enters_found : (h : Heap) (r p : ℕ) (ps : List ℕ) → In ps p → list_any (leads_into h r) (refs_at h p) ≡ true → enters h r ps ≡ true
-enters_found h r p [] i e = absurd i
-enters_found h r p (q ∷ qs) (inl same) e = ap (λ z. z || enters h r qs) (ap (λ x. list_any (leads_into h r) (refs_at h x)) same ∙ e)
-enters_found h r p (q ∷ qs) (inr i) e = ap (λ z. list_any (leads_into h r) (refs_at h q) || z) (enters_found h r p qs i e) ∙ or_last (list_any (leads_into h r) (refs_at h q)) where
+pub enters_found : (h : Heap) (r p : ℕ) (ps : List ℕ) → Contains ps p → list_any (leads_into h r) (refs_at h p) ≡ true → enters h r ps ≡ true
+enters_found h r p [] i e = absurd (omega (arith, i.1))
+enters_found h r p (q ∷ qs) (zero, b, same) e = ap (λ z. z || enters h r qs) (ap (λ x. list_any (leads_into h r) (refs_at h x)) same ∙ e)
+enters_found h r p (q ∷ qs) (suc k, lt, eq) e = ap (λ z. list_any (leads_into h r) (refs_at h q) || z) (enters_found h r p qs (k, omega (arith, lt), eq) e) ∙ or_last (list_any (leads_into h r) (refs_at h q)) where
   or_last : (b : Bool) → (b || true) ≡ true
   or_last true = refl
   or_last false = refl
@@ -181,26 +181,28 @@ entering_step h ds card old new a g = record {
 -- what the slots on a card hold can be read
 pub slot_good : (h : Heap) (card p : ℕ) → IsValid h → Contains (slots_on h card) p → (p < length h.words) × IsReference h (slice_index h.words p)
 slot_good h card p valid c =
-    let m = filter_member (λ p. eqb (card_of h p) card) (all_slots h) p (In-from_contains (slots_on h card) p c) in
+    let m = filter_member (λ p. eqb (card_of h p) card) (all_slots h) p c in
     let q = flat_map_cases slots (objects h) p m.0 in
     let o : Object = q.0 in
-    let mine : Contains (objects h) o = Contains-from_in (objects h) o q.1 in
+    let mine : Contains (objects h) o = q.1 in
     let fit = object_fits h valid o mine in
     let from = range_above (o.at + 1) o.refs p q.2 in
     let to = range_below (o.at + 1) o.refs p q.2 in
     let has = contains_has h o valid.shaped mine in
-    (omega (arith, fit, to, refs_fit o q.1, valid.word_count), valid.slots o p has (omega (arith, from), omega (arith, to)))
-  where
-    refs_fit : (o : Object) → In (objects h) o → o.refs < o.size
-    refs_fit o i = (sound h valid).slots_fit o (Contains-from_in (objects h) o i)
+    (omega (arith, fit, to, (sound h valid).slots_fit o q.1, valid.word_count), valid.slots o p has (omega (arith, from), omega (arith, to)))
+
+-- so can what one of some slots holds, where each can
+pub slot_read : (h : Heap) (ps : List ℕ) (k : ℕ) → ((p : ℕ) → Contains ps p → (p < length h.words) × IsReference h (slice_index h.words p)) → k < length ps
+    → (slice_index ps k < length h.words) × IsReference h (slice_index h.words (slice_index ps k))
+slot_read h ps k each lt = each (slice_index ps k) (Contains-get_or ps k 0 lt)
 
 -- ---- the refined set
 
 -- the members of a filter are those that pass
 has_filter : (p : ℕ → Bool) (xs : List ℕ) (x : ℕ) → has (filter p xs) x ≡ (has xs x && p x)
 has_filter p xs x = same_test (has (filter p xs) x) (has xs x && p x)
-    (λ e. let m = filter_member p xs x (in_from_has (filter p xs) x e) in both (has xs x) (p x) (has_from_in xs x m.0) m.1)
-    (λ e. let b = and_parts (has xs x) (p x) e in has_from_in (filter p xs) x (In-filter p xs x (in_from_has xs x b.0) b.1))
+    (λ e. let m = filter_member p xs x (Contains-from_has (filter p xs) x e) in both (has xs x) (p x) (has_from_contains xs x m.0) m.1)
+    (λ e. let b = and_parts (has xs x) (p x) e in has_from_contains (filter p xs) x (Contains-filter p xs x (Contains-from_has xs x b.0) b.1))
   where
     both : (a b : Bool) → a ≡ true → b ≡ true → (a && b) ≡ true
     both true b e f = f
@@ -216,11 +218,11 @@ card_inside h c valid used = elim (cases_lt c (card_count h)) [
 -- a refined card is one of the heap's
 refined_inside : (i : Image) (r c : ℕ) → IsImage i → r < i.heap.geometry.n → is_refined i r c ≡ true → c < card_count i.heap
 refined_inside i r c valid lt e = elim (or_cases (has (remembered_of i r) c) (has i.log c && is_exact i.heap r c) e) [
-  | inl f ↦ card_inside i.heap c valid.heap (in_set (Contains-from_in (remembered_of i r) c (in_from_has (remembered_of i r) c f)))
-  | inr f ↦ card_inside i.heap c valid.heap (all_in (IsUsedCard i.heap) i.log c valid.log.used (in_from_has i.log c (and_parts (has i.log c) (is_exact i.heap r c) f).0))
+  | inl f ↦ card_inside i.heap c valid.heap (in_set (Contains-from_has (remembered_of i r) c f))
+  | inr f ↦ card_inside i.heap c valid.heap (all_in (IsUsedCard i.heap) i.log c valid.log.used (Contains-from_has i.log c (and_parts (has i.log c) (is_exact i.heap r c) f).0))
 ] where
   in_set : Contains (remembered_of i r) c → IsUsedCard i.heap c
-  in_set k = all_in (IsUsedCard i.heap) (remembered_of i r) c (λ j d lt'. ((valid.remembered r lt).elsewhere j d lt').0) (In-from_contains (remembered_of i r) c k)
+  in_set k = all_in (IsUsedCard i.heap) (remembered_of i r) c (λ j d lt'. ((valid.remembered r lt).elsewhere j d lt').0) k
 
 -- the one rising list with these members is the refined set
 pub refined_is : (i : Image) (r : ℕ) (zs : List ℕ) → IsImage i → r < i.heap.geometry.n → IsStrictlyIncreasing zs → ((c : ℕ) → has zs c ≡ is_refined i r c) → zs ≡ refined i r
@@ -228,11 +230,11 @@ refined_is i r zs valid lt rising members =
     Rises-one 0 0 zs (refined i r) (increasing-Rises zs 0 rising (λ lt'. omega arith))
     (Rises-filter (is_refined i r) 0 (range_with_len 0 (card_count i.heap)) (Rises-range 0 (card_count i.heap)))
     (λ c m.
-    let e : is_refined i r c ≡ true = sym (members c) ∙ has_from_in zs c m in
-    In-filter (is_refined i r) (range_with_len 0 (card_count i.heap)) c (In-range 0 (card_count i.heap) c (omega arith) (omega (arith, refined_inside i r c valid lt e))) e)
+    let e : is_refined i r c ≡ true = sym (members c) ∙ has_from_contains zs c m in
+    Contains-filter (is_refined i r) (range_with_len 0 (card_count i.heap)) c (Contains-range 0 (card_count i.heap) c (omega arith) (omega (arith, refined_inside i r c valid lt e))) e)
     (λ c m.
     let e = (filter_member (is_refined i r) (range_with_len 0 (card_count i.heap)) c m).1 in
-    in_from_has zs c (members c ∙ e))
+    Contains-from_has zs c (members c ∙ e))
 
 -- ---- what was lent
 

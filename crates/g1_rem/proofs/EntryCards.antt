@@ -10,6 +10,7 @@ use Rattle.g1_words.specs.Marks.{AreMarked, AreUnset}
 use Rattle.g1_words.specs.Survivors.{in_set}
 use Rattle.g1_words.proofs.Computed.{range_below}
 use Rattle.g1_words.proofs.Marked.{any_more, marked_then, marked_from_none}
+use Rattle.g1_words.proofs.Sound.{k_positive, w_positive}
 use Rattle.g1_words.proofs.Lists.{filter_range_no}
 use Rattle.g1_image.specs.Cards.{cards_where}
 use Rattle.g1_rem.specs.Starts.{card_count}
@@ -46,9 +47,7 @@ module _ (h : Heap) (valid : IsValid h) where
   card_home c lt =
       let next : (c + 1) * h.geometry.k ≤ card_count h * h.geometry.k = mul-le-mul_right h.geometry.k (let e : c + 1 ≤ card_count h = omega (arith, lt) in e) in
       let whole = cards_fill h valid in
-      let some : 0 < h.geometry.k = omega (arith, valid.limits.k_least) in
-      let wide : 0 < h.geometry.w = omega (arith, valid.limits.w_least) in
-      (div-lt_iff_lt-mul wide).1 (omega (arith, next, whole, some))
+      (div-lt_iff_lt-mul (w_positive h valid)).1 (omega (arith, next, whole, k_positive h valid))
 
   -- the marks of a set's cards and of its regions tell the cards that lead into it
   pub left_is : (remembered : List (List ℕ)) (set : List ℕ) (count n : ℕ) (old cards before regions : List Bool) → count ≡ card_count h → n ≡ h.geometry.n

@@ -1,5 +1,5 @@
 -- The starts of ranges that follow one another, joined.
-use Rattle.std.proofs.Common.{◌≡◌, ◌<◌, ℕ, zero, suc, ◌+◌, ◌-◌, ◌*◌, ◌/◌, inl, inr, List, [], ◌∷◌, ◌++◌, length, map, flat_map, slice_index, slice_index_or, arith, refl, sym, ap, subst, ◌∙◌}
+use Rattle.std.proofs.Common.{◌≡◌, ℕ, zero, suc, ◌+◌, ◌-◌, ◌*◌, ◌/◌, inl, inr, List, [], ◌∷◌, ◌++◌, length, map, flat_map, slice_index, slice_index_or, arith, refl, sym, ap, subst, ◌∙◌}
 use Rattle.std.specs.Prelude.{Option, None}
 use Rattle.std.specs.List.{range_with_len, AllZip}
 use Rattle.std.specs.Global.{Vec}
@@ -8,6 +8,7 @@ use Rattle.std.proofs.lemmas.List.{get_or_append_left, get_or-append_right, leng
 use Rattle.std.proofs.Math.Nat.{mul-div_cancel}
 use Rattle.g1_words.specs.Heap.{Heap, start}
 use Rattle.g1_words.specs.Valid.{IsValid}
+use Rattle.g1_words.proofs.Sound.{k_positive}
 use Rattle.g1_rem.specs.Starts.{IsOver, IsStartsOf, address_below}
 use Rattle.g1_rem.specs.Ranges.{IsCut, AreStartsBetween}
 
@@ -60,9 +61,8 @@ module _ (h : Heap) where
   -- those of all regions
   pub starts_whole : (n : ℕ) (xs : List (Option ℕ)) → IsValid h → n ≡ h.geometry.n → AreStartsBetween h 0 n xs → IsStartsOf h xs
   starts_whole n xs valid e s =
-      let some : 0 < h.geometry.k = omega (arith, valid.limits.k_least) in
       let words : length xs * h.geometry.k ≡ h.geometry.n * h.geometry.w = (let m = ap (λ x. x * h.geometry.w) e in omega (arith, s.ends, m)) in
       record {
-        one_each = sym (ap (λ x. x / h.geometry.k) (sym words) ∙ mul-div_cancel (length xs) some);
+        one_each = sym (ap (λ x. x / h.geometry.k) (sym words) ∙ mul-div_cancel (length xs) (k_positive h valid));
         each = λ c lt. (let z : start h 0 + c * h.geometry.k ≡ c * h.geometry.k = omega arith in subst (λ x. IsOver h x (slice_index_or xs c None)) z (s.each c lt));
       }

@@ -1,5 +1,5 @@
 -- What leads into one region: the cards so far, the slots ahead, and the lowest slot that isn't covered.
-use Rattle.std.proofs.Common.{◌≡◌, ◌≢◌, ◌≤◌, ◌<◌, ◌⊎◌, inl, inr, ℕ, suc, ◌+◌, ◌-◌, ◌/◌, ◌%◌, ◌^◌, Bool, true, false, not, ◌&&◌, ◌||◌, List, [], ◌∷◌, ◌++◌}
+use Rattle.std.proofs.Common.{◌≡◌, ◌≢◌, ◌≤◌, ◌<◌, inl, inr, ℕ, suc, ◌+◌, ◌-◌, ◌/◌, ◌%◌, ◌^◌, Bool, true, false, not, ◌&&◌, ◌||◌, List, [], ◌∷◌, ◌++◌, zero}
 use Rattle.std.proofs.Common.{map, filter, flat_map, length, slice_index, slice_index_or, replicate, drop, Contains, refl, sym, ap, subst, ◌∙◌, arith, eqb, eqb-true, eq-eqb}
 use Rattle.std.specs.List.{range_with_len, list_any}
 use Rattle.std.specs.List.Sorted.{IsStrictlyIncreasing}
@@ -8,16 +8,17 @@ use Rattle.std.proofs.lemmas.List.{get_or_default}
 use Rattle.std.proofs.lemmas.List.Kept.{AllPairs-from_increasing}
 use Rattle.std.proofs.lemmas.Nat.{le-div}
 use Rattle.std.proofs.Math.Nat.{div-mul-le_self}
+use Rattle.std.proofs.lemmas.List.Elements.{Contains-append_left, Contains-push, Contains-push_cases}
 use Rattle.g1_words.specs.declared.fault.Fault.TheVariants.{Uncovered}
 use Rattle.g1_words.specs.Geometry.{most_words}
 use Rattle.g1_words.specs.Heap.{Heap, word, region_of, card_of, start, objects, objects_in, object_at, slots}
 use Rattle.g1_words.specs.Lists.{has}
 use Rattle.g1_words.specs.References.{Ref, named, refs, refs_at}
 use Rattle.g1_words.specs.Valid.{IsValid, Tiles}
-use Rattle.g1_words.proofs.Members.{In, In-from_contains, Contains-from_in, In-append_left, In-append_right, In-append_cases, In-flat_map, flat_map_cases}
-use Rattle.g1_words.proofs.Members.{In-map, map_cases, In-filter, filter_member, or_true, and_true, any_member}
+use Rattle.g1_words.proofs.Members.{Contains-filter, Contains-first, Contains-flat_map, Contains-later, Contains-map, and_true, any_member, cons_cases, filter_member, flat_map_cases, map_cases, none_contains, or_true}
 use Rattle.g1_words.proofs.Ordered.{Ordered, Ordered-from_pairs, pairs_from_ordered}
-use Rattle.g1_words.proofs.Computed.{In-range, range_below, has_contains}
+use Rattle.g1_words.proofs.Sound.{k_positive}
+use Rattle.g1_words.proofs.Computed.{Contains-range, range_below, has_contains}
 use Rattle.g1_words.proofs.Rising.{Ordered-append, Ordered-filter, Ordered-map, refs_ordered, ref_tells}
 use Rattle.g1_image.specs.Image.{Image, IsImage, remembered_of}
 use Rattle.g1_image.specs.Cards.{leads_into, is_exact, exact, is_covered}
@@ -38,22 +39,22 @@ use Rattle.g1_rem.specs.Entries.{uncovered_into, IsEntryFault}
 
 -- ---- lists
 
-rising_push : (xs : List ℕ) (c : ℕ) → IsStrictlyIncreasing xs → ((x : ℕ) → In xs x → x < c) → IsStrictlyIncreasing (xs ++ c ∷ [])
+rising_push : (xs : List ℕ) (c : ℕ) → IsStrictlyIncreasing xs → ((x : ℕ) → Contains xs x → x < c) → IsStrictlyIncreasing (xs ++ c ∷ [])
 rising_push xs c rising below =
     let o : Ordered (λ (x : ℕ) y. x < y) (xs ++ c ∷ []) =
-    Ordered-append (λ (x : ℕ) y. x < y) xs (c ∷ []) (Ordered-from_pairs (λ (x : ℕ) y. x < y) xs (AllPairs-from_increasing xs rising)) ((λ y i. absurd i), tt)
-    (λ x y i j. elim j [ inl e ↦ subst (λ z. x < z) e (below x i) | inr k ↦ absurd k ]) in
+    Ordered-append (λ (x : ℕ) y. x < y) xs (c ∷ []) (Ordered-from_pairs (λ (x : ℕ) y. x < y) xs (AllPairs-from_increasing xs rising)) ((λ y i. absurd (none_contains y i)), tt)
+    (λ x y i j. elim (cons_cases c [] y j) [ inl e ↦ subst (λ z. x < z) e (below x i) | inr k ↦ absurd (none_contains y k) ]) in
     λ k lt. pairs_from_ordered (λ (x : ℕ) y. x < y) (xs ++ c ∷ []) o k (k + 1) 0 (omega arith) lt
 
 -- a rising list begins with its least member
-begins : (xs : List ℕ) (p : ℕ) → Ordered (λ (x : ℕ) y. x < y) xs → In xs p → ((q : ℕ) → In xs q → p ≤ q) → (rest : List ℕ) × (xs ≡ p ∷ rest)
-begins [] p o i least = absurd i
-begins (x ∷ xs) p o (inl e) least = (xs, ap (λ z. z ∷ xs) e)
-begins (x ∷ xs) p o (inr i) least = let a = o.0 p i in let b = least x (inl refl) in absurd (omega (arith, a, b))
+begins : (xs : List ℕ) (p : ℕ) → Ordered (λ (x : ℕ) y. x < y) xs → Contains xs p → ((q : ℕ) → Contains xs q → p ≤ q) → (rest : List ℕ) × (xs ≡ p ∷ rest)
+begins [] p o i least = absurd (omega (arith, i.1))
+begins (x ∷ xs) p o (zero, b, e) least = (xs, ap (λ z. z ∷ xs) e)
+begins (x ∷ xs) p o (suc k, lt, e) least = let a = o.0 p (k, omega (arith, lt), e) in let b = least x (zero, omega arith, refl) in absurd (omega (arith, a, b))
 
-no_members : (xs : List ℕ) → ((x : ℕ) → In xs x → ⊥) → xs ≡ []
+no_members : (xs : List ℕ) → ((x : ℕ) → Contains xs x → ⊥) → xs ≡ []
 no_members [] never = refl
-no_members (x ∷ xs) never = absurd (never x (inl refl))
+no_members (x ∷ xs) never = absurd (never x (zero, omega arith, refl))
 
 -- the first of a rising list, and the others
 rises_at : (p : ℕ) (rest : List ℕ) → IsStrictlyIncreasing (p ∷ rest) → Rises 0 (p ∷ rest)
@@ -84,24 +85,24 @@ module _ (h : Heap) (valid : IsValid h) (r : ℕ) where
     pub at : ref.slot ≡ p
     pub leads : leads_into h r ref ≡ true
 
-  entry_of : (p : ℕ) → In (all_slots h) p → is_entry h r p ≡ true → Entry p
+  entry_of : (p : ℕ) → Contains (all_slots h) p → is_entry h r p ≡ true → Entry p
   entry_of p i t =
       let m = any_member (leads_into h r) (refs_at h p) t in
       let f = flat_map_cases slots (objects h) p i in
       let a = map_cases (λ a. record { slot = p; target = a }) (named (word h p)) m.0 m.1 in
       record {
         ref = m.0;
-        one_of = Contains-from_in (refs h) m.0 (In-flat_map (λ o. flat_map (refs_at h) (slots o)) (objects h) f.0 m.0 f.1 (In-flat_map (refs_at h) (slots f.0) p m.0 f.2 m.1));
+        one_of = Contains-flat_map (λ o. flat_map (refs_at h) (slots o)) (objects h) f.0 m.0 f.1 (Contains-flat_map (refs_at h) (slots f.0) p m.0 f.2 m.1);
         at = sym (ap (λ (x : Ref). x.slot) a.2);
         leads = m.2;
       }
 
   -- a reference's slot is one of the heap's
-  slot_there : (e : Ref) → Contains (refs h) e → In (all_slots h) e.slot
+  slot_there : (e : Ref) → Contains (refs h) e → Contains (all_slots h) e.slot
   slot_there e k =
       let t = ref_tells h valid e k in
-      In-flat_map slots (objects h) t.0 e.slot (In-from_contains (objects h) t.0 (has_contains h t.0 t.1))
-      (In-range (t.0.at + 1) t.0.refs e.slot (omega (arith, t.2.0)) (omega (arith, t.2.1)))
+      Contains-flat_map slots (objects h) t.0 e.slot (has_contains h t.0 t.1)
+      (Contains-range (t.0.at + 1) t.0.refs e.slot (omega (arith, t.2.0)) (omega (arith, t.2.1)))
 
   -- the slot of a reference that leads in does
   leads_there : (e : Ref) → Contains (refs h) e → leads_into h r e ≡ true → is_entry h r e.slot ≡ true
@@ -110,9 +111,10 @@ module _ (h : Heap) (valid : IsValid h) (r : ℕ) where
       let plus : e.target + 1 ≡ suc e.target = omega arith in
       ap (λ x. list_any (leads_into h r) (map (λ a. record { slot = e.slot; target = a }) (named x))) (w ∙ plus) ∙ ap (λ b. b || false) t
 
-exact_below : (h : Heap) (r c : ℕ) → Contains (exact h r) c → c < card_count h
+-- a card of the exact set is one of the heap's
+pub exact_below : (h : Heap) (r c : ℕ) → Contains (exact h r) c → c < card_count h
 exact_below h r c k =
-    let b = range_below 0 (card_count h) c (filter_member (is_exact h r) (range_with_len 0 (card_count h)) c (In-from_contains (exact h r) c k)).0 in
+    let b = range_below 0 (card_count h) c (filter_member (is_exact h r) (range_with_len 0 (card_count h)) c k).0 in
     omega (arith, b)
 
 -- the marks of a remembered set and of the log
@@ -193,7 +195,7 @@ module _ (i : Image) (good : IsImage i) (r : ℕ) where
     pub leads : leads_into i.heap r ref ≡ true
     pub isnt : is_covered i ref ≡ false
 
-  bare_of : (q : ℕ) → In (uncovered_into i r) q → Bare q
+  bare_of : (q : ℕ) → Contains (uncovered_into i r) q → Bare q
   bare_of q k =
       let test : Ref → Bool = λ e. leads_into i.heap r e && not (is_covered i e) in
       let m = map_cases (λ (e : Ref). e.slot) (filter test (refs i.heap)) q k in
@@ -201,34 +203,34 @@ module _ (i : Image) (good : IsImage i) (r : ℕ) where
       let both = and_true (leads_into i.heap r m.0) (not (is_covered i m.0)) f.1 in
       record {
         ref = m.0;
-        one_of = Contains-from_in (refs i.heap) m.0 f.0;
+        one_of = f.0;
         at = m.2;
         leads = both.0;
         isnt = not-true (is_covered i m.0) both.1;
       }
 
   -- such a slot is still ahead
-  not_yet : (ahead cards : List ℕ) → LeadAhead i r ahead cards → (q : ℕ) → Bare q → In ahead q
+  not_yet : (ahead cards : List ℕ) → LeadAhead i r ahead cards → (q : ℕ) → Bare q → Contains ahead q
   not_yet ahead cards l q b = elim (l.whole b.ref b.one_of b.leads) [
     | inl m ↦ absurd (false≢true (sym b.isnt ∙ shown b.ref b.leads (l.known (card_of i.heap b.ref.slot) m)))
-    | inr m ↦ subst (In ahead) b.at (In-from_contains ahead b.ref.slot m)
+    | inr m ↦ subst (Contains ahead) b.at m
   ]
 
   -- none ahead, and each is covered
   pub all_covered : (cards : List ℕ) → LeadAhead i r [] cards → uncovered_into i r ≡ []
-  all_covered cards l = no_members (uncovered_into i r) (λ q k. not_yet [] cards l q (bare_of q k))
+  all_covered cards l = no_members (uncovered_into i r) (λ q k. none_contains q (not_yet [] cards l q (bare_of q k)))
 
   -- and the cards are the exact set
   pub all_exact : (cards : List ℕ) → LeadAhead i r [] cards → cards ≡ exact i.heap r
   all_exact cards l =
       Rises-one 0 0 cards (exact i.heap r) (increasing-Rises cards 0 l.rising (λ lt. omega arith))
       (Rises-filter (is_exact i.heap r) 0 (range_with_len 0 (card_count i.heap)) (Rises-range 0 (card_count i.heap)))
-      (λ c k. In-from_contains (exact i.heap r) c (l.within c (Contains-from_in cards c k)))
+      l.within
       (λ c k.
-      let p = (exact_tells i.heap good.heap r c).0 (Contains-from_in (exact i.heap r) c k) in
+      let p = (exact_tells i.heap good.heap r c).0 k in
       let leads : leads_into i.heap r p.0 ≡ true = rw (eq-eqb (region_of i.heap p.0.target) r p.2, ne_eqb (region_of i.heap p.0.slot) r p.3) refl in
-      let there : Contains cards (card_of i.heap p.0.slot) = elim (l.whole p.0 p.1 leads) [ inl m ↦ m | inr m ↦ absurd (In-from_contains [] p.0.slot m) ] in
-      In-from_contains cards c (subst (Contains cards) p.4 there))
+      let there : Contains cards (card_of i.heap p.0.slot) = elim (l.whole p.0 p.1 leads) [ inl m ↦ m | inr m ↦ absurd (none_contains p.0.slot m) ] in
+      subst (Contains cards) p.4 there)
 
   uncovered_rise : Ordered (λ (x : ℕ) y. x < y) (uncovered_into i r)
   uncovered_rise =
@@ -238,14 +240,8 @@ module _ (i : Image) (good : IsImage i) (r : ℕ) where
   -- ---- one slot after another
 
   module _ (p : ℕ) (rest cards : List ℕ) (l : LeadAhead i r (p ∷ rest) cards) where
-    later : (q : ℕ) → Contains rest q → Contains (p ∷ rest) q
-    later q k = Contains-from_in (p ∷ rest) q (inr (In-from_contains rest q k))
-
-    first : Contains (p ∷ rest) p
-    first = Contains-from_in (p ∷ rest) p (inl refl)
-
     beyond : (q : ℕ) → Contains rest q → p < q
-    beyond q k = (let a = Rises-above (p + 1) rest q (rises_at p rest l.order).1 (In-from_contains rest q k) in omega (arith, a))
+    beyond q k = let a = Rises-above (p + 1) rest q (rises_at p rest l.order).1 k in omega (arith, a)
 
     -- the slot is passed, if its card is there or it doesn't lead in
     pass : ((e : Ref) → Contains (refs i.heap) e → leads_into i.heap r e ≡ true → p ≡ e.slot → Contains cards (card_of i.heap e.slot)) → LeadAhead i r rest cards
@@ -255,14 +251,14 @@ module _ (i : Image) (good : IsImage i) (r : ℕ) where
       known = l.known;
       whole = λ e k t. elim (l.whole e k t) [
         | inl m ↦ inl m
-        | inr m ↦ elim (In-from_contains (p ∷ rest) e.slot m) [
+        | inr m ↦ elim (cons_cases p rest e.slot m) [
           | inl same ↦ inl (there e k t same)
-          | inr other ↦ inr (Contains-from_in rest e.slot other)
+          | inr other ↦ inr other
         ]
       ];
       order = Rises-increasing (p + 1) rest (rises_at p rest l.order).1;
-      slots = λ q k. l.slots q (later q k);
-      below = λ x q k m. l.below x q k (later q m);
+      slots = λ q k. l.slots q (Contains-later p rest q k);
+      below = λ x q k m. l.below x q k (Contains-later p rest q m);
     }
 
     pub pass_other : false ≡ is_entry i.heap r p → LeadAhead i r rest cards
@@ -275,7 +271,7 @@ module _ (i : Image) (good : IsImage i) (r : ℕ) where
 
     -- what it references
     here : is_entry i.heap r p ≡ true → Entry i.heap good.heap r p
-    here t = entry_of i.heap good.heap r p (In-from_contains (all_slots i.heap) p (l.slots p first)) t
+    here t = entry_of i.heap good.heap r p (l.slots p (Contains-first p rest)) t
 
     -- its card is in the exact set
     leading : is_entry i.heap r p ≡ true → (c : ℕ) → c ≡ card_of i.heap p → Contains (exact i.heap r) c
@@ -285,41 +281,31 @@ module _ (i : Image) (good : IsImage i) (r : ℕ) where
     pub push : is_entry i.heap r p ≡ true → (c : ℕ) (marks : List Bool) (items : List ℕ) → c ≡ card_of i.heap p → (0 < length cards → slice_index cards (length cards - 1) ≡ c → ⊥)
         → AreKnown i r marks → slice_index_or marks c false ≡ true → items ≡ cards ++ c ∷ [] → LeadAhead i r rest items
     push t c marks items at other m marked is = subst (LeadAhead i r rest) (sym is) (record {
-      rising = rising_push cards c l.rising (λ x k. less x (Contains-from_in cards x k));
-      within = λ x k. elim (last x k) [ inl e ↦ subst (Contains (exact i.heap r)) e (leading t c at) | inr old ↦ l.within x old ];
-      known = λ x k. elim (last x k) [
-        | inl e ↦ subst (λ y. is_known i r y ≡ true) e (sym (m c (exact_below i.heap r c (leading t c at))) ∙ marked)
-        | inr old ↦ l.known x old
+      rising = rising_push cards c l.rising less;
+      within = λ x k. elim (Contains-push_cases cards c x k) [ inl old ↦ l.within x old | inr e ↦ subst (Contains (exact i.heap r)) e (leading t c at) ];
+      known = λ x k. elim (Contains-push_cases cards c x k) [
+        | inl old ↦ l.known x old
+        | inr e ↦ subst (λ y. is_known i r y ≡ true) e (sym (m c (exact_below i.heap r c (leading t c at))) ∙ marked)
       ];
       whole = λ e k u. elim (l.whole e k u) [
-        | inl m ↦ inl (front (card_of i.heap e.slot) m)
-        | inr m ↦ elim (In-from_contains (p ∷ rest) e.slot m) [
-          | inl same ↦ inl (subst (Contains (cards ++ c ∷ [])) (at ∙ ap (card_of i.heap) same) (Contains-from_in (cards ++ c ∷ []) c (In-append_right cards (c ∷ []) c (inl refl))))
-          | inr other ↦ inr (Contains-from_in rest e.slot other)
+        | inl m ↦ inl (Contains-append_left cards (c ∷ []) (card_of i.heap e.slot) m)
+        | inr m ↦ elim (cons_cases p rest e.slot m) [
+          | inl same ↦ inl (subst (Contains (cards ++ c ∷ [])) (at ∙ ap (card_of i.heap) same) (Contains-push cards c))
+          | inr other ↦ inr other
         ]
       ];
       order = Rises-increasing (p + 1) rest (rises_at p rest l.order).1;
-      slots = λ q k. l.slots q (later q k);
-      below = λ x q k m. elim (last x k) [
-        | inl e ↦ (let up = le-div (p / i.heap.geometry.k) q i.heap.geometry.k some (omega (arith, div-mul-le_self p i.heap.geometry.k, beyond q m)) in omega (arith, up, e, at))
-        | inr old ↦ l.below x q old (later q m)
+      slots = λ q k. l.slots q (Contains-later p rest q k);
+      below = λ x q k m. elim (Contains-push_cases cards c x k) [
+        | inr e ↦ (
+            let up = le-div (p / i.heap.geometry.k) q i.heap.geometry.k (k_positive i.heap good.heap) (omega (arith, div-mul-le_self p i.heap.geometry.k, beyond q m)) in
+            omega (arith, up, e, at))
+        | inl old ↦ l.below x q old (Contains-later p rest q m)
       ];
     })
       where
-        some : 0 < i.heap.geometry.k
-        some = omega (arith, good.heap.limits.k_least)
-
         less : (x : ℕ) → Contains cards x → x < c
-        less = last_least cards c l.rising (λ x k. (let b = l.below x p k first in omega (arith, b, at))) other
-
-        last : (x : ℕ) → Contains (cards ++ c ∷ []) x → (c ≡ x) ⊎ Contains cards x
-        last x k = elim (In-append_cases cards (c ∷ []) x (In-from_contains (cards ++ c ∷ []) x k)) [
-          | inl m ↦ inr (Contains-from_in cards x m)
-          | inr m ↦ elim m [ inl e ↦ inl e | inr z ↦ absurd z ]
-        ]
-
-        front : (x : ℕ) → Contains cards x → Contains (cards ++ c ∷ []) x
-        front x k = Contains-from_in (cards ++ c ∷ []) x (In-append_left cards (c ∷ []) x (In-from_contains cards x k))
+        less = last_least cards c l.rising (λ x k. let b = l.below x p k (Contains-first p rest) in omega (arith, b, at)) other
 
     -- a slot that isn't covered is the lowest one
     pub entry_fault : is_entry i.heap r p ≡ true → (c : ℕ) (marks : List Bool) → c ≡ card_of i.heap p → AreKnown i r marks → slice_index_or marks c false ≡ false → IsEntryFault i r (Uncovered p)
@@ -330,11 +316,11 @@ module _ (i : Image) (good : IsImage i) (r : ℕ) where
         let home : card_of i.heap e.ref.slot ≡ c = ap (card_of i.heap) e.at ∙ sym at in
         let isnt : is_covered i e.ref ≡ false = bare e.ref e.leads (ap (has (remembered_of i r)) home ∙ neither.0) (ap (has i.log) home ∙ neither.1) in
         let passes : test e.ref ≡ true = rw (e.leads, isnt) refl in
-        let there : In (uncovered_into i r) p = subst (In (uncovered_into i r)) e.at
-        (In-map (λ (x : Ref). x.slot) (filter test (refs i.heap)) e.ref (In-filter test (refs i.heap) e.ref (In-from_contains (refs i.heap) e.ref e.one_of) passes)) in
-        let least : (q : ℕ) → In (uncovered_into i r) q → p ≤ q = λ q k. elim (not_yet (p ∷ rest) cards l q (bare_of q k)) [
+        let there : Contains (uncovered_into i r) p = subst (Contains (uncovered_into i r)) e.at
+        (Contains-map (λ (x : Ref). x.slot) (filter test (refs i.heap)) e.ref (Contains-filter test (refs i.heap) e.ref e.one_of passes)) in
+        let least : (q : ℕ) → Contains (uncovered_into i r) q → p ≤ q = λ q k. elim (cons_cases p rest q (not_yet (p ∷ rest) cards l q (bare_of q k))) [
           | inl same ↦ omega (arith, same)
-          | inr other ↦ (let b = beyond q (Contains-from_in rest q other) in omega (arith, b))
+          | inr other ↦ (let b = beyond q other in omega (arith, b))
         ] in
         let b = begins (uncovered_into i r) p uncovered_rise there least in
         inr (p, b.0, b.1, refl)
@@ -345,12 +331,12 @@ module _ (i : Image) (good : IsImage i) (r : ℕ) where
   pub lead_start : (cards : List ℕ) → cards ≡ [] → LeadAhead i r (flat_map slots (objects_from i.heap 0)) cards
   lead_start cards none = subst (λ os. LeadAhead i r (flat_map slots os) cards) (sym (between_all i.heap)) (subst (LeadAhead i r (all_slots i.heap)) (sym none) (record {
     rising = λ k lt. absurd (omega (arith, lt));
-    within = λ x k. absurd (In-from_contains [] x k);
-    known = λ x k. absurd (In-from_contains [] x k);
-    whole = λ e k t. inr (Contains-from_in (all_slots i.heap) e.slot (slot_there i.heap good.heap r e k));
+    within = λ x k. absurd (none_contains x k);
+    known = λ x k. absurd (none_contains x k);
+    whole = λ e k t. inr (slot_there i.heap good.heap r e k);
     order = Rises-increasing 0 (all_slots i.heap) (all_rise i.heap good.heap);
     slots = λ p k. k;
-    below = λ x p k m. absurd (In-from_contains [] x k);
+    below = λ x p k m. absurd (none_contains x k);
   }))
 
   -- past the last region none is ahead

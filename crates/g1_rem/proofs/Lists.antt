@@ -1,10 +1,8 @@
 -- Tests and filters of lists.
-use Rattle.std.proofs.Common.{◌≡◌, ℕ, Bool, true, List, [], ◌∷◌, filter, inl, refl}
-use Rattle.g1_words.proofs.Members.{In, filter_member}
+use Rattle.std.proofs.Common.{◌≡◌, ℕ, Bool, true, List, [], filter, Contains}
+use Rattle.std.proofs.lemmas.Bool.{false_from_ne_true}
+use Rattle.g1_words.proofs.Lists.{none_passes}
 
 -- a filter that nothing passes
-pub filter_none : (p : ℕ → Bool) (xs : List ℕ) → ((x : ℕ) → In xs x → p x ≡ true → ⊥) → filter p xs ≡ []
-filter_none p xs never = none (filter p xs) (λ x i. let m = filter_member p xs x i in never x m.0 m.1) where
-  none : (ys : List ℕ) → ((x : ℕ) → In ys x → ⊥) → ys ≡ []
-  none [] h = refl
-  none (y ∷ ys) h = absurd (h y (inl refl))
+pub filter_none : (p : ℕ → Bool) (xs : List ℕ) → ((x : ℕ) → Contains xs x → p x ≡ true → ⊥) → filter p xs ≡ []
+filter_none p xs never = none_passes p xs (λ x i. false_from_ne_true (p x) (never x i))

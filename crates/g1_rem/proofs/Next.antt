@@ -5,7 +5,6 @@ use Rattle.std.proofs.Math.Seq.{drop-cons}
 use Rattle.g1_words.specs.declared.object.Object.{Object}
 use Rattle.g1_words.specs.Heap.{Heap, word, objects, objects_in, object_at}
 use Rattle.g1_words.specs.Valid.{HasObject, IsValid}
-use Rattle.g1_words.proofs.Members.{In-from_contains}
 use Rattle.g1_words.proofs.Computed.{in_region_has, has_contains}
 use Rattle.g1_words.proofs.Sound.{has_is}
 use Rattle.g1_rem.proofs.Order.{Chain-above, objects_chain, object_fits}
@@ -37,7 +36,7 @@ next_of h r j at starts valid lt e in_starts f =
     let mine = has_contains h o has in
     let at_is : at ≡ o.at = f ∙ ap (λ l. slice_index l j) e ∙ at_of os j d inside in
     let whole : o ≡ object_at h at = has_is h o valid has ∙ ap (object_at h) (sym at_is) in
-    let c = Chain-above 0 (objects h) o (objects_chain h valid) (In-from_contains (objects h) o mine) in
+    let c = Chain-above 0 (objects h) o (objects_chain h valid) mine in
     let plus : suc j ≡ j + 1 = omega arith in
     record {
       object = o;

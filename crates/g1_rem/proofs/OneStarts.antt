@@ -5,7 +5,6 @@ use Rattle.std.proofs.lemmas.Bool.{cases_lt}
 use Rattle.std.proofs.lemmas.List.{ext_get_or}
 use Rattle.g1_words.specs.Heap.{Heap, objects, object_at}
 use Rattle.g1_words.specs.Valid.{IsValid}
-use Rattle.g1_words.proofs.Members.{In-from_contains}
 use Rattle.g1_rem.specs.Starts.{IsOver}
 use Rattle.g1_rem.specs.Laws.{OneStarts}
 use Rattle.g1_rem.proofs.Order.{Chain-apart, objects_chain}
@@ -16,14 +15,14 @@ one_over h x None None valid a b = refl
 one_over h x None (Some q) valid a b = absurd (a (object_at h q) b.0 b.1)
 one_over h x (Some p) None valid a b = absurd (b (object_at h p) a.0 a.1)
 one_over h x (Some p) (Some q) valid a b = elim (cases_lt p q) [
-  | inl lt ↦ (let k = Chain-apart 0 (objects h) (object_at h p) (object_at h q) (objects_chain h valid)
-      (In-from_contains (objects h) (object_at h p) a.0) (In-from_contains (objects h) (object_at h q) b.0) lt in
-      absurd (omega (arith, k, a.1.to, b.1.from)))
+  | inl lt ↦
+      let k = Chain-apart 0 (objects h) (object_at h p) (object_at h q) (objects_chain h valid) a.0 b.0 lt in
+      absurd (omega (arith, k, a.1.to, b.1.from))
   | inr ge ↦ elim (cases_lt q p) [
-    | inl gt ↦ (let k = Chain-apart 0 (objects h) (object_at h q) (object_at h p) (objects_chain h valid)
-        (In-from_contains (objects h) (object_at h q) b.0) (In-from_contains (objects h) (object_at h p) a.0) gt in
-        absurd (omega (arith, k, b.1.to, a.1.from)))
-    | inr le ↦ (let same : p ≡ q = omega (arith, ge, le) in ap (λ y. Some y) same)
+    | inl gt ↦
+        let k = Chain-apart 0 (objects h) (object_at h q) (object_at h p) (objects_chain h valid) b.0 a.0 gt in
+        absurd (omega (arith, k, b.1.to, a.1.from))
+    | inr le ↦ let same : p ≡ q = omega (arith, ge, le) in ap (λ y. Some y) same
   ]
 ]
 

@@ -14,8 +14,9 @@ use Rattle.g1_words.specs.declared.object.Object.{Object}
 use Rattle.g1_words.specs.Heap.{start, card_of}
 use Rattle.g1_words.specs.Lists.{has}
 use Rattle.g1_words.specs.Valid.{IsValid}
-use Rattle.g1_words.proofs.Members.{In-from_contains, Contains-from_in, has_from_in}
+use Rattle.g1_words.proofs.Members.{has_from_contains}
 use Rattle.g1_words.proofs.Indices.{not_has}
+use Rattle.g1_words.proofs.Sound.{k_positive}
 use Rattle.g1_image.specs.Image.{Image, remembered_of}
 use Rattle.g1_rem.specs.Marks.{objects_from}
 use Rattle.g1_rem.specs.Places.{IsBehind, AreBehind, AreReadyFor}
@@ -23,13 +24,12 @@ use Rattle.g1_rem.proofs.Between.{from_chain}
 
 -- a place before which all cards are below one, and its own card not, tells whether that one is in the set
 pub has_here : (xs : List ℕ) (place x : ℕ) → place < length xs → x ≡ get_or xs place x → has xs x ≡ true
-has_here xs place x lt e = has_from_in xs x (In-from_contains xs x (place, lt, sym e))
+has_here xs place x lt e = has_from_contains xs x (place, lt, sym e)
 
 -- and where its own card is another, the set does not have it
 pub has_not : (xs : List ℕ) (place card : ℕ) → IsStrictlyIncreasing xs → IsBehind xs place card → (place < length xs → card ≤ slice_index xs place)
     → (place < length xs → slice_index xs place ≡ card → ⊥) → has xs card ≡ false
-has_not xs place card rising behind next other = not_has xs card (λ i.
-    let c = Contains-from_in xs card i in
+has_not xs place card rising behind next other = not_has xs card (λ c.
     let at : slice_index xs c.0 ≡ card = get_or_default xs c.0 0 card c.1 ∙ c.2 in
     elim (cases_lt c.0 place) [
       | inl before ↦ (let k = behind.below c.0 before in omega (arith, k, at))
@@ -47,11 +47,9 @@ behind_later i places p q valid le b = record {
   one_each = b.one_each;
   each = λ r lt. record {
     within = (b.each r lt).within;
-    below = λ k lt'. let one = (b.each r lt).below k lt' in omega (arith, one, le-div (p / i.heap.geometry.k) q i.heap.geometry.k some (omega (arith, div-mul-le_self p i.heap.geometry.k, le)));
+    below = λ k lt'. let one = (b.each r lt).below k lt' in omega (arith, one, le-div (p / i.heap.geometry.k) q i.heap.geometry.k (k_positive i.heap valid) (omega (arith, div-mul-le_self p i.heap.geometry.k, le)));
   };
-} where
-  some : 0 < i.heap.geometry.k
-  some = omega (arith, valid.limits.k_least)
+}
 
 -- one place moved on
 pub behind_set : (i : Image) (places : List ℕ) (p r place : ℕ) → r < i.heap.geometry.n → AreBehind i places p →

@@ -1,5 +1,5 @@
 -- The slots between two addresses, object by object.
-use Rattle.std.proofs.Common.{◌≡◌, ◌≤◌, ◌<◌, ℕ, ◌+◌, ◌-◌, ◌/◌, ◌%◌, ◌^◌, ◌⊎◌, inl, inr, true, List, [], ◌∷◌, ◌++◌, length, slice_index, filter, flat_map, max, min, arith, refl}
+use Rattle.std.proofs.Common.{◌≡◌, ◌≤◌, ◌<◌, ℕ, ◌+◌, ◌-◌, ◌/◌, ◌%◌, ◌^◌, ◌⊎◌, inl, inr, true, List, [], ◌∷◌, ◌++◌, length, slice_index, filter, flat_map, max, min, arith, refl, Contains}
 use Rattle.std.proofs.Common.{sym, ap, subst, ◌∙◌, append-nil}
 use Rattle.std.specs.Prelude.{nat_le, nat_lt}
 use Rattle.std.specs.List.{range_with_len}
@@ -12,9 +12,9 @@ use Rattle.g1_words.specs.declared.object.Object.{Object}
 use Rattle.g1_words.specs.Heap.{slots}
 use Rattle.g1_words.specs.Valid.{Tiles}
 use Rattle.g1_words.specs.Walk.{Reaches}
-use Rattle.g1_words.proofs.Members.{In, In-filter, filter_member}
-use Rattle.g1_words.proofs.Tiling.{Tiles-le, Tiles-append, Reaches-front, Front, same_object}
-use Rattle.g1_words.proofs.Computed.{In-range, range_above, range_below, Tiles-length}
+use Rattle.g1_words.proofs.Members.{Contains-filter, filter_member, none_contains}
+use Rattle.g1_words.proofs.Tiling.{Tiles-append, Tiles-one, Reaches-front, Front}
+use Rattle.g1_words.proofs.Computed.{Contains-range, range_above, range_below, Tiles-length}
 use Rattle.g1_rem.specs.Slots.{is_between}
 use Rattle.g1_rem.specs.Marks.{Chain}
 use Rattle.g1_rem.proofs.Rising.{Rises-range, Rises-filter, Rises-one, Rises-above}
@@ -40,27 +40,17 @@ slots_range at refs lo hi first last f l =
     (λ p i.
     let a = range_above first (last - first) p i in
     let b = range_below first (last - first) p i in
-    In-filter (is_between lo hi) (range_with_len (at + 1) refs) p (In-range (at + 1) refs p (omega (arith, a, f)) (omega (arith, a, b, l)))
+    Contains-filter (is_between lo hi) (range_with_len (at + 1) refs) p (Contains-range (at + 1) refs p (omega (arith, a, f)) (omega (arith, a, b, l)))
     (between_is lo hi p (omega (arith, a, f)) (omega (arith, a, b, l))))
     (λ p i.
     let m = filter_member (is_between lo hi) (range_with_len (at + 1) refs) p i in
     let a = range_above (at + 1) refs p m.0 in
     let b = range_below (at + 1) refs p m.0 in
     let t = is_between_there lo hi p m.1 in
-    In-range first (last - first) p (omega (arith, a, t.0, f)) (omega (arith, a, b, t.0, t.1, f, l)))
-
--- two rows between the same addresses are one
-pub Tiles-one : (words : List ℕ) (from : ℕ) (os qs : List Object) (to : ℕ) → Tiles words from os to → Tiles words from qs to → os ≡ qs
-Tiles-one words from [] [] to t u = refl
-Tiles-one words from [] (q ∷ qs) to t u = absurd (omega (arith, t, u.1.refs_fit, Tiles-le words (from + q.size) qs to u.2))
-Tiles-one words from (o ∷ os) [] to t u = absurd (omega (arith, u, t.1.refs_fit, Tiles-le words (from + o.size) os to t.2))
-Tiles-one words from (o ∷ os) (q ∷ qs) to t u =
-    let e : o ≡ q = same_object words o q t.1 u.1 (t.0 ∙ sym u.0) in
-    let rest : os ≡ qs = Tiles-one words (from + o.size) os qs to t.2 (subst (λ x. Tiles words (from + x.size) qs to) (sym e) u.2) in
-    ap (λ x. x ∷ os) e ∙ ap (λ l. q ∷ l) rest
+    Contains-range first (last - first) p (omega (arith, a, t.0, f)) (omega (arith, a, b, t.0, t.1, f, l)))
 
 -- the slots of a row lie in it
-pub slots_above : (words : List ℕ) (from : ℕ) (os : List Object) (to p : ℕ) → Tiles words from os to → In (flat_map slots os) p → from ≤ p
+pub slots_above : (words : List ℕ) (from : ℕ) (os : List Object) (to p : ℕ) → Tiles words from os to → Contains (flat_map slots os) p → from ≤ p
 slots_above words from os to p t i =
     let c : Chain from (os ++ []) = Chain-tiles words from os to [] t tt in
     let d : Chain from os = subst (λ l. Chain from l) (append-nil os) c in
@@ -144,6 +134,6 @@ scan_end words from to lo hi at items s over os t =
     ∙ sym (filter-append (is_between lo hi) (flat_map slots s.before) (flat_map slots after)) ∙ ap (filter (is_between lo hi)) (sym (flat_map-append slots s.before after))
     ∙ ap (λ l. filter (is_between lo hi) (flat_map slots l)) (sym whole)
   where
-    empty : (os : List Object) → length os ≤ 0 → (p : ℕ) → In (flat_map slots os) p → ⊥
-    empty [] le p i = i
+    empty : (os : List Object) → length os ≤ 0 → (p : ℕ) → Contains (flat_map slots os) p → ⊥
+    empty [] le p i = none_contains p i
     empty (o ∷ os) le p i = omega (arith, le)

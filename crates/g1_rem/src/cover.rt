@@ -146,7 +146,6 @@ fn first_of(image: &Image, dirty: &Marks, places: &mut [usize], from: u32, to: u
     requires ready { AreReadyFor image.now places.old (objects_from image.now.heap from) }
     ensures { IsFirstOf (bare_between image.now from to) result }
 {
-    g1_words::laws::valid(image.heap());
     for region in from..to {
         if let Some(p) = first_in(image, dirty, places, region) {
             return Some(p);

@@ -3,7 +3,7 @@ ghost use Rattle.std.specs.List.{range_with_len};
 ghost use Rattle.std.specs.List.Sorted.{IsStrictlyIncreasing};
 ghost use Rattle.g1_words.specs.Heap.{regions};
 ghost use Rattle.g1_words.specs.Lists.{has};
-ghost use Rattle.g1_words.specs.Valid.{IsReference, IsValid};
+ghost use Rattle.g1_words.specs.Valid.{IsReference};
 ghost use Rattle.g1_image.specs.Cards.{is_exact, refined};
 ghost use Rattle.g1_image.specs.Image.{IsImage};
 ghost use Rattle.g1_rem.specs.Cover.{AreDirty};
@@ -21,6 +21,7 @@ use g1_image::Image;
 use g1_words::{Fault, Heap, Marks};
 use g1_work::{MOST_WORKERS, Make, make_each, threads_for};
 use std::alloc::{AllocError, Global};
+use std::marker::Model;
 use std::thread::Threads;
 
 /// A thread is worth starting for this many cards that are merged: a merge takes a few nanoseconds a
@@ -94,41 +95,53 @@ fn add_card(
     Ok(())
 }
 
+/// An image with the objects over the first words of its cards.
+#[derive(Drop)]
+struct Indexed<'a> {
+    image: &'a Image,
+    starts: &'a Starts,
+}
+
+impl<'a> Model for Indexed<'a> {
+    ghost use Rattle.g1_image.specs.Image.{Image as ImageOf};
+    ghost use Rattle.g1_rem.specs.Starts.{IsStartsOf};
+
+    ghost Value = { ImageOf };
+
+    ghost view = { λ x. x.image.now };
+
+    ghost invariant = { λ x. IsStartsOf x.image.now.heap x.starts.now };
+}
+
 /// Adds the dirty cards to the lists of the regions that they lead into.
 fn add_cards(
     alloc: Global,
-    heap: &Heap,
-    starts: &Starts,
+    indexed: &Indexed<'_>,
     dirty: &[u32],
     entering: &mut [Vec<u32>],
 ) -> Result<(), AllocError>
-    requires heap { IsValid heap.now }
-    requires starts { IsStartsOf heap.now starts.now }
     requires rising { IsStrictlyIncreasing dirty.now }
-    requires inside { All (λ c. c < card_count heap.now) dirty.now }
-    requires none { map (λ s. s.items) entering.old ≡ replicate heap.now.geometry.n [] }
-    ensures { OnOk result (AreEntering heap.now dirty.now (map (λ s. s.items) entering.new)) }
+    requires inside { All (λ c. c < card_count indexed.now.heap) dirty.now }
+    requires none { map (λ s. s.items) entering.old ≡ replicate indexed.now.heap.geometry.n [] }
+    ensures { OnOk result (AreEntering indexed.now.heap dirty.now (map (λ s. s.items) entering.new)) }
 {
+    let heap = indexed.image.heap();
     for card in dirty {
-        let slots = slots_on(alloc, heap, starts, *card);
+        let slots = slots_on(alloc, heap, indexed.starts, *card);
         add_card(heap, slots.as_slice(), *card, entering)?;
     }
     Ok(())
 }
 
 /// For each region the dirty cards, rising, that hold a slot which leads into it.
-fn entering_cards(
-    alloc: Global,
-    image: &Image,
-    starts: &Starts,
-) -> Result<Vec<Vec<u32>>, AllocError>
-    requires { IsStartsOf image.now.heap starts.now }
-    ensures { IfOk result (λ v. AreRefining image.now (map (λ s. s.items) v.items)) }
+fn entering_cards(alloc: Global, indexed: &Indexed<'_>) -> Result<Vec<Vec<u32>>, AllocError>
+    ensures { IfOk result (λ v. AreRefining indexed.now (map (λ s. s.items) v.items)) }
 {
+    let image = indexed.image;
     let heap = image.heap();
     let dirty = dirty_cards(alloc, image)?;
     let mut entering = no_cards(alloc, heap.geometry().regions())?;
-    add_cards(alloc, heap, starts, &dirty, &mut entering)?;
+    add_cards(alloc, indexed, &dirty, &mut entering)?;
     Ok(entering)
 }
 
@@ -136,7 +149,7 @@ fn entering_cards(
 fn refined_one(
     alloc: Global,
     image: &Image,
-    region: u32,
+    region: usize,
     entering: &[u32],
 ) -> Result<Vec<u32>, Fault>
     requires region { region < image.now.heap.geometry.n }
@@ -145,7 +158,7 @@ fn refined_one(
     ensures memory { IfErr result (λ e. e ≡ Fault.Memory) }
 {
     let heap = image.heap();
-    merged(alloc, &image.remembered()[region as usize], entering)
+    merged(alloc, &image.remembered()[region], entering)
 }
 
 /// The refined remembered set of each region.
@@ -164,8 +177,7 @@ impl Make for Refining<'_> {
     ghost makes = { λ s r v. v.items ≡ refined s.image.now r };
 
     fn make(&self, alloc: Global, region: usize) -> Result<Vec<u32>, Fault> {
-        g1_words::laws::valid(self.image.heap());
-        refined_one(alloc, self.image, region as u32, &self.entering[region])
+        refined_one(alloc, self.image, region, &self.entering[region])
     }
 }
 
@@ -256,6 +268,7 @@ pub fn refine_by(
     ensures memory { IfErr result (λ e. e ≡ Fault.Memory) }
 {
     let image = image(tracked);
-    let entering = entering_cards(alloc, image, starts)?;
+    let indexed = Indexed { image, starts };
+    let entering = entering_cards(alloc, &indexed)?;
     refined_remembered(rt, alloc, image, &entering, workers)
 }

@@ -1,11 +1,10 @@
 -- Differences that are counted as they are found.
-use Rattle.std.proofs.Common.{◌≡◌, ◌≤◌, ◌<◌, ◌+◌, ◌-◌, ◌^◌, inl, inr, ℕ, Bool, true, false, cond, List, [], ◌∷◌, ◌++◌, map, min, set, slice_index, slice_index_or, refl, sym, ◌∙◌, ap, subst, arith}
+use Rattle.std.proofs.Common.{◌≡◌, ◌≤◌, ◌<◌, ◌+◌, ◌-◌, ◌^◌, inl, inr, ℕ, Bool, true, false, cond, List, [], ◌∷◌, ◌++◌, map, min, set, slice_index, slice_index_or, refl, sym, ◌∙◌, ap, subst, arith, Contains, zero, suc}
 use Rattle.std.specs.Prelude.{◌==◌, ◌⊎◌, count_by}
 use Rattle.std.proofs.lemmas.Bool.{cases_lt}
 use Rattle.std.proofs.lemmas.List.Sums.{sum_by_push}
-use Rattle.std.proofs.lemmas.List.Elements.{Contains-get_or}
+use Rattle.std.proofs.lemmas.List.Elements.{Contains-get_or, Contains-append_cases}
 use Rattle.g1_words.specs.Heap.{Heap}
-use Rattle.g1_words.proofs.Members.{In, In-append_cases, In-from_contains}
 use Rattle.g1_words.proofs.Ordered.{Ordered, pairs_from_ordered}
 use Rattle.g1_words.proofs.Rising.{Ordered-append}
 use Rattle.g1_same.specs.declared.walk.Walk.{Walk}
@@ -18,13 +17,14 @@ use Rattle.g1_same.specs.Behind.{ShowsAt, IsThere}
 use Rattle.g1_same.proofs.Routes.{route_of}
 use Rattle.g1_report.specs.Wording.{Compared}
 use Rattle.g1_report.specs.Listed.{kind_of, count_of, roots_count, all_counts, IsShown, ComesFirst, AreCounts}
+use Rattle.g1_words.proofs.Members.{none_contains}
 
 -- the differences that were found before a way, and their numbers
 pub record IsCounted (s : Compared) (from number : ℕ) (counts : List ℕ) : Type 0 where
   pub found : List Found
-  pub there : (f : Found) → In found f → IsShown s f
+  pub there : (f : Found) → Contains found f → IsShown s f
   pub apart : Ordered ComesFirst found
-  pub earlier : (f : Found) → In found f → IsEarlier f.place.way.from f.place.way.number from number
+  pub earlier : (f : Found) → Contains found f → IsEarlier f.place.way.from f.place.way.number from number
   pub numbers : counts ≡ all_counts s found
 
 -- a path leads to what a walk finds
@@ -92,31 +92,31 @@ numbers_more s found f old new is adds =
     ∙ sym (λ i. roots_count s.before.roots s.after.roots ∷ c 1 i ∷ c 2 i ∷ c 3 i ∷ c 4 i ∷ c 5 i ∷ c 6 i ∷ c 7 i ∷ [])
 
 pub counted_none : (s : Compared) (from number : ℕ) (counts : List ℕ) → counts ≡ all_counts s [] → IsCounted s from number counts
-counted_none s from number counts is = record { found = []; there = λ f i. elim i [ ]; apart = tt; earlier = λ f i. elim i [ ]; numbers = is }
+counted_none s from number counts is = record { found = []; there = λ f i. absurd (none_contains f i); apart = tt; earlier = λ f i. absurd (none_contains f i); numbers = is }
 
 pub counted_more : (s : Compared) (a b k n : ℕ) (old new : List ℕ) (f : Found) → IsCounted s a b old → IsShown s f → (IsEarlier f.place.way.from f.place.way.number a b → ⊥)
     → new ≡ set old (kind_of f.what) (min (slice_index old (kind_of f.what) + 1) (2 ^ 64 - 1)) → k ≡ f.place.way.from → n ≡ f.place.way.number + 1 → IsCounted s k n new
 counted_more s a b k n old new f c there not adds from number = record {
   found = c.found ++ f ∷ [];
-  there = λ e i. elim (In-append_cases c.found (f ∷ []) e i) [ inl j ↦ c.there e j | inr j ↦ subst (IsShown s) (only e j) there ];
-  apart = Ordered-append ComesFirst c.found (f ∷ []) c.apart ((λ e i. elim i [ ]), tt) (λ e d i j. subst (ComesFirst e) (only d j) (before e i));
+  there = λ e i. elim (Contains-append_cases c.found (f ∷ []) e i) [ inl j ↦ c.there e j | inr j ↦ subst (IsShown s) (only e j) there ];
+  apart = Ordered-append ComesFirst c.found (f ∷ []) c.apart ((λ e i. absurd (none_contains e i)), tt) (λ e d i j. subst (ComesFirst e) (only d j) (before e i));
   earlier = λ e i. subst (λ m. IsEarlier e.place.way.from e.place.way.number m n) (sym from) (subst (λ m. IsEarlier e.place.way.from e.place.way.number f.place.way.from m) (sym number) (behind e i));
   numbers = numbers_more s c.found f old new c.numbers adds;
 }
   where
-    only : (e : Found) → In (f ∷ []) e → f ≡ e
-    only e (inl is) = is
-    only e (inr none) = elim none [ ]
+    only : (e : Found) → Contains (f ∷ []) e → f ≡ e
+    only e (zero, b, is) = is
+    only e (suc k, b, eq) = absurd (omega (arith, b))
 
-    before : (e : Found) → In c.found e → ComesFirst e f
+    before : (e : Found) → Contains c.found e → ComesFirst e f
     before e i = earlier_than e.place.way.from e.place.way.number a b f.place.way.from f.place.way.number (c.earlier e i) not
 
     step : (e : Found) → ComesFirst e f → IsEarlier e.place.way.from e.place.way.number f.place.way.from (f.place.way.number + 1)
     step e (inl lt) = inl lt
     step e (inr q) = inr (q.0, omega (arith, q.1))
 
-    behind : (e : Found) → In (c.found ++ f ∷ []) e → IsEarlier e.place.way.from e.place.way.number f.place.way.from (f.place.way.number + 1)
-    behind e i = elim (In-append_cases c.found (f ∷ []) e i) [
+    behind : (e : Found) → Contains (c.found ++ f ∷ []) e → IsEarlier e.place.way.from e.place.way.number f.place.way.from (f.place.way.number + 1)
+    behind e i = elim (Contains-append_cases c.found (f ∷ []) e i) [
       | inl j ↦ step e (before e j)
       | inr j ↦ subst (λ d. IsEarlier d.place.way.from d.place.way.number f.place.way.from (f.place.way.number + 1)) (only e j) (inr (refl, omega arith))
     ]
@@ -124,7 +124,7 @@ counted_more s a b k n old new f c there not adds from number = record {
 pub counted : (s : Compared) (from number : ℕ) (counts : List ℕ) → IsCounted s from number counts → AreCounts s counts
 counted s from number counts c = record {
   found = c.found;
-  there = λ k d lt. c.there (slice_index_or c.found k d) (In-from_contains c.found (slice_index_or c.found k d) (Contains-get_or c.found k d lt));
+  there = λ k d lt. c.there (slice_index_or c.found k d) (Contains-get_or c.found k d lt);
   apart = pairs_from_ordered ComesFirst c.found c.apart;
   numbers = c.numbers;
 }

@@ -1,5 +1,5 @@
 -- What is at an address where no object starts.
-use Rattle.std.proofs.Common.{◌≡◌, ℕ, ◌+◌, ◌-◌, ◌*◌, ◌/◌, ◌%◌, ◌<◌, ◌≤◌, min, inl, inr, List, [], ◌∷◌, ◌++◌, map, length, get_or, take, Contains, refl, sym, ◌∙◌, ap, subst, arith}
+use Rattle.std.proofs.Common.{◌≡◌, ℕ, ◌+◌, ◌-◌, ◌*◌, ◌/◌, ◌%◌, ◌<◌, ◌≤◌, min, inl, inr, List, [], ◌∷◌, ◌++◌, map, length, get_or, take, Contains, refl, sym, ◌∙◌, ap, subst, arith, zero, suc}
 use Rattle.std.specs.Prelude.{if◌then◌else◌, nat_le}
 use Rattle.std.proofs.Math.Nat.{div-add-mod', add-mul}
 use Rattle.std.proofs.lemmas.Bool.{cond-true, cond-false, cases_lt, le-leb, lt-leb}
@@ -8,12 +8,13 @@ use Rattle.g1_words.specs.Heap.{Heap, kind, top, start, end, region_of, object_a
 use Rattle.g1_words.specs.Valid.{IsValid}
 use Rattle.g1_words.specs.declared.object.Object.{Object}
 use Rattle.g1_words.specs.declared.region.Kind.TheVariants.{Ordinary, HumongousFirst, Continuation}
-use Rattle.g1_words.proofs.Members.{In, Contains-from_in}
 use Rattle.g1_words.proofs.Computed.{has_contains, in_region_has}
 use Rattle.g1_words.proofs.Shapes.{IsTiled, BeginsRun, IsBuiltBy, built}
 use Rattle.g1_words.proofs.Standing.{tiled_member, run_object}
 use Rattle.g1_report.specs.declared.location.Location.TheVariants.{Inside}
 use Rattle.g1_report.specs.Location.{IsLocation, GoesOn}
+use Rattle.g1_words.proofs.Members.{Contains-first}
+use Rattle.g1_words.proofs.Members.{Contains-later}
 
 abbrev pub starts : List Object → List ℕ
 starts os = map (λ o. o.at) os
@@ -39,14 +40,14 @@ module _ (a d : ℕ) (l : List ℕ) (i last : ℕ) (lt : i < length l) (is : las
   last_kept less = is ∙ sym (more ∙ cond-false (nat_le (get_or l i 0) a) (get_or l i 0) (last_to a d (take i l)) (lt-leb (get_or l i 0) a less))
 
 -- those of objects above it
-last_above : (a d : ℕ) (os : List Object) → ((o : Object) → In os o → a < o.at) → last_to a d (starts os) ≡ d
+last_above : (a d : ℕ) (os : List Object) → ((o : Object) → Contains os o → a < o.at) → last_to a d (starts os) ≡ d
 last_above a d [] above = refl
 last_above a d (o ∷ os) above =
-    ap (λ s. last_to a s (starts os)) (cond-false (nat_le o.at a) o.at d (lt-leb o.at a (above o (inl refl)))) ∙ last_above a d os (λ p m. above p (inr m))
+    ap (λ s. last_to a s (starts os)) (cond-false (nat_le o.at a) o.at d (lt-leb o.at a (above o (zero, omega arith, refl)))) ∙ last_above a d os (λ p m. above p (suc m.0, omega (arith, m.1), m.2))
 
 -- of objects that fill words without a gap, the last one that does not start above an address goes on to it
 tiled_last : (h : Heap) (a from d : ℕ) (os : List Object) (end : ℕ) → IsTiled h from os end → from ≤ a → a < end
-    → (o : Object) × In os o × (o.at ≡ last_to a d (starts os)) × (o.at ≤ a) × (a < o.at + o.size)
+    → (o : Object) × Contains os o × (o.at ≡ last_to a d (starts os)) × (o.at ≤ a) × (a < o.at + o.size)
 tiled_last h a from d [] end t low high = absurd (omega (arith, t, low, high))
 tiled_last h a from d (o ∷ os) end t low high =
     let at : o.at ≡ from = ap (λ (x : Object). x.at) t.0 in
@@ -54,10 +55,10 @@ tiled_last h a from d (o ∷ os) end t low high =
     elim (cases_lt a (from + o.size)) [
       | inl lt ↦
           let last : last_to a o.at (starts os) ≡ o.at = last_above a o.at os (λ p m. let up = (tiled_member h (from + o.size) os end t.2 p m).0 in omega (arith, up, lt)) in
-          (o, inl refl, sym (ap (λ s. last_to a s (starts os)) here ∙ last), omega (arith, at, low), omega (arith, at, lt))
+          (o, Contains-first o os, sym (ap (λ s. last_to a s (starts os)) here ∙ last), omega (arith, at, low), omega (arith, at, lt))
       | inr ge ↦
           let m = tiled_last h a (from + o.size) (if nat_le o.at a then o.at else d) os end t.2 ge high in
-          (m.0, inr m.1, m.2, m.3, m.4)
+          (m.0, Contains-later o os m.0 m.1, m.2, m.3, m.4)
     ]
 
 module _ (h : Heap) (valid : IsValid h) where
@@ -68,7 +69,7 @@ module _ (h : Heap) (valid : IsValid h) where
   begun r lt first =
       let w : 0 < h.geometry.w = omega (arith, valid.limits.w_least) in
       let o = object_at h (start h r) in
-      has_contains h o (in_region_has h r o valid.shaped lt (Contains-from_in (objects_in h r) o (run_object h w r first (begins r lt first))))
+      has_contains h o (in_region_has h r o valid.shaped lt (run_object h w r first (begins r lt first)))
 
   -- going back by a region from one in which an object goes on
   pub back : (r n : ℕ) → ((f : ℕ) → GoesOn h f r → f ≤ n) → kind h n ≡ Continuation → (f : ℕ) → GoesOn h f r → f ≤ n - 1
@@ -113,7 +114,7 @@ module _ (h : Heap) (valid : IsValid h) where
         let m = tiled_last h a (start h r) (start h r) (objects_in h r) (end h r) s.2 low used in
         let o : Object = m.0 in
         let whole : o ≡ object_at h o.at = (tiled_member h (start h r) (objects_in h r) (end h r) s.2 o m.1).2 in
-        let there = has_contains h o (in_region_has h r o valid.shaped lt (Contains-from_in (objects_in h r) o m.1)) in
+        let there = has_contains h o (in_region_has h r o valid.shaped lt m.1) in
         let same : o.at ≡ at = m.2 ∙ sym is in
         subst (λ x. IsLocation h a (Inside x)) same
         (subst (Contains (objects h)) whole there, m.3, subst (λ (x : Object). a < o.at + x.size) whole m.4)

@@ -1,11 +1,10 @@
 -- The objects that moved.
 use Rattle.std.proofs.Common.{◌≡◌, ◌∙◌, ◌<◌, ◌==◌, ℕ, true, false, true≢false, List, [], ◌∷◌, Some, None, length, slice_index, Contains, refl, sym, ap, subst, arith, eqb-true}
 use Rattle.std.proofs.lemmas.List.{get_or-map}
+use Rattle.std.proofs.lemmas.List.Elements.{Contains-get_or}
 use Rattle.g1_words.specs.Heap.{Heap, objects, object_at}
 use Rattle.g1_words.specs.Valid.{IsValid}
 use Rattle.g1_words.specs.Live.{Live}
-use Rattle.g1_words.proofs.Members.{Contains-from_in}
-use Rattle.g1_words.proofs.Indices.{get_or-In}
 use Rattle.g1_same.specs.Same.{IsRenaming}
 use Rattle.g1_same.proofs.Heaps.{live_object}
 use Rattle.g1_report.specs.Wording.{note_of}
@@ -13,7 +12,7 @@ use Rattle.g1_report.specs.Wording.{note_of}
 -- each pair of a renaming is an object before and one after
 module _ (g h : Heap) (olds news : List ℕ) (r : IsRenaming g h olds news) (n : ℕ) (lt : n < length olds) where
   reached : Live g (slice_index olds n)
-  reached = (r.found.reached (slice_index olds n)).0 (Contains-from_in olds (slice_index olds n) (get_or-In olds n 0 lt))
+  reached = (r.found.reached (slice_index olds n)).0 (Contains-get_or olds n 0 lt)
 
   pub old_there : IsValid g → Contains (objects g) (object_at g (slice_index olds n))
   old_there valid = live_object g (slice_index olds n) valid reached

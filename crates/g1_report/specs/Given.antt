@@ -11,8 +11,8 @@ listed (Some names) = Some names.now
 
 abbrev pub compared : Sides → Compared
 compared s = record {
-  before = s.before.now;
-  after = s.after.now;
+  before = s.heaps.before.now;
+  after = s.heaps.after.now;
   names = names_told s.names;
   names_after = names_told s.names_after;
   objects_before = listed s.labels_before;

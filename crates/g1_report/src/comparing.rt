@@ -20,16 +20,15 @@ use crate::naming::{push_named_slots, push_type, push_word_name};
 use crate::objects::{ObjectWords, object_of};
 use crate::places::value_at;
 use crate::staling::push_stale_line;
-use g1_same::{Difference, Ends, Found, How, Path, Renaming, What, ends_at, ends_of};
-use g1_words::{Heap, laws};
+use g1_same::{Difference, Ends, Found, How, Pair, Path, Renaming, What, ends_at, ends_of};
+use g1_words::Heap;
 use std::alloc::{AllocError, Global};
 use std::collections::HashMap;
 
 /// Two heaps that are compared, and what is known of them.
 #[derive(Clone, Copy)]
 pub struct Sides<'a> {
-    pub before: &'a Heap,
-    pub after: &'a Heap,
+    pub heaps: Pair<'a>,
     /// What the program calls the words of the first one.
     pub names: Option<&'a Names<'a>>,
     /// What it calls the objects of the second one.
@@ -85,15 +84,13 @@ pub fn push_difference_line(
     sides: Sides<'_>,
     difference: &Difference,
 ) -> Result<(), AllocError>
-    requires { IsDifference sides.before.now sides.after.now difference.now }
+    requires { IsDifference sides.heaps.before.now sides.heaps.after.now difference.now }
     ensures { AreNamesInOrder (compared sides.entry) → OnOk result (Adds (IsDifferenceLine (compared sides.entry) difference.now) (string_bytes text.old) (string_bytes text.new)) }
 {
     match difference {
         Difference::Roots { before, after } => { push_roots_line(text, *before, *after) }
         Difference::At { root, slots, how } => {
-            laws::valid(sides.before);
-            laws::valid(sides.after);
-            let ends = ends_of(sides.before, sides.after, difference);
+            let ends = ends_of(sides.heaps.before, sides.heaps.after, difference);
             push_how_line(alloc, text, sides, (*root, slots.as_slice()), how, &ends)
         }
     }
@@ -113,13 +110,11 @@ pub fn push_found_line(
     path: &Path,
     found: &Found,
 ) -> Result<(), AllocError>
-    requires { ShowsAt sides.before.now sides.after.now (path.now.root ∷ path.now.slots.items) found.now }
+    requires { ShowsAt sides.heaps.before.now sides.heaps.after.now (path.now.root ∷ path.now.slots.items) found.now }
     ensures { AreNamesInOrder (compared sides.entry) → OnOk result (string_bytes text.new ≡ string_bytes text.old
         ++ found_line (compared sides.entry) path.now.root path.now.slots.items found.now.what found.now.place.before found.now.place.after) }
 {
-    laws::valid(sides.before);
-    laws::valid(sides.after);
-    let ends = ends_at(sides.before, sides.after, found);
+    let ends = ends_at(sides.heaps.before, sides.heaps.after, found);
     let path = (path.root, path.slots.as_slice());
     match &found.what {
         What::Stale(word) => push_stale_line(alloc, text, sides, path, ends.before, *word),
@@ -136,9 +131,9 @@ fn push_how_line(
     how: &How,
     ends: &Ends,
 ) -> Result<(), AllocError>
-    requires values { AreValues sides.before.now sides.after.now how.now ends.now.before ends.now.after ends.now.word_before ends.now.word_after }
-    requires before { IsReference sides.before.now ends.now.before }
-    requires after { IsReference sides.after.now ends.now.after }
+    requires values { AreValues sides.heaps.before.now sides.heaps.after.now how.now ends.now.before ends.now.after ends.now.word_before ends.now.word_after }
+    requires before { IsReference sides.heaps.before.now ends.now.before }
+    requires after { IsReference sides.heaps.after.now ends.now.after }
     ensures { AreNamesInOrder (compared sides.entry) → OnOk result (string_bytes text.new ≡ string_bytes text.old ++ place_line (compared sides.entry) path.entry.0 path.entry.1.now how.now ends.now.before ends.now.after) }
 {
     push_differ(text, how)?;
@@ -183,7 +178,7 @@ pub fn push_path(
     let (root, slots) = path;
     push_root(text, sides, root)?;
     match sides.names {
-        Some(names) => push_named_slots(alloc, text, sides.before, names, root, slots),
+        Some(names) => push_named_slots(alloc, text, sides.heaps.before, names, root, slots),
         None => push_slots(text, slots),
     }
 }
@@ -227,7 +222,7 @@ fn named_root<'a>(names: Option<&Names<'a>>, root: u64) -> Option<&'a str>
 
 /// What a path leads to before.
 pub fn push_before(text: &mut String, sides: Sides<'_>, word: u64) -> Result<(), AllocError>
-    requires { IsReference sides.before.now word }
+    requires { IsReference sides.heaps.before.now word }
     ensures { AreNamesInOrder (compared sides.entry) → OnOk result (string_bytes text.new ≡ string_bytes text.old ++ before_text (compared sides.entry) word) }
 {
     push_word(text, ": ", sides.labels_before, word)?;
@@ -237,11 +232,11 @@ pub fn push_before(text: &mut String, sides: Sides<'_>, word: u64) -> Result<(),
 
 // The kind of the object before that a word references, if a program has names.
 fn kind_before<'a>(sides: Sides<'a>, word: u64) -> Option<Kind<'a>>
-    requires { IsReference sides.before.now word }
+    requires { IsReference sides.heaps.before.now word }
     ensures { AreNamesInOrder (compared sides.entry) → kind_told result ≡ kind_before (compared sides.entry) word }
 {
     match sides.names {
-        Some(names) => kind_in(names, object_of(sides.before, word)),
+        Some(names) => kind_in(names, object_of(sides.heaps.before, word)),
         None => None,
     }
 }
@@ -256,7 +251,7 @@ fn kind_in<'a>(names: &Names<'a>, object: Option<ObjectWords<'_>>) -> Option<Kin
 }
 
 fn push_after(text: &mut String, sides: Sides<'_>, word: u64) -> Result<(), AllocError>
-    requires { IsReference sides.after.now word }
+    requires { IsReference sides.heaps.after.now word }
     ensures { AreNamesInOrder (compared sides.entry) → OnOk result (string_bytes text.new ≡ string_bytes text.old ++ after_text (compared sides.entry) word) }
 {
     push_word(text, ", ", sides.labels_after, word)?;
@@ -266,10 +261,10 @@ fn push_after(text: &mut String, sides: Sides<'_>, word: u64) -> Result<(), Allo
 
 // The kind of the object after that a word references.
 fn kind_after<'a>(sides: Sides<'a>, word: u64) -> Option<Kind<'a>>
-    requires { IsReference sides.after.now word }
+    requires { IsReference sides.heaps.after.now word }
     ensures { AreNamesInOrder (compared sides.entry) → kind_told result ≡ kind_after (compared sides.entry) word }
 {
-    match object_of(sides.after, word) {
+    match object_of(sides.heaps.after, word) {
         Some(object) => kind_of(sides, &object),
         None => None,
     }
@@ -343,8 +338,8 @@ fn push_detail(
     how: &How,
     ends: &Ends,
 ) -> Result<(), AllocError>
-    requires values { AreValues sides.before.now sides.after.now how.now ends.now.before ends.now.after ends.now.word_before ends.now.word_after }
-    requires before { IsReference sides.before.now ends.now.before }
+    requires values { AreValues sides.heaps.before.now sides.heaps.after.now how.now ends.now.before ends.now.after ends.now.word_before ends.now.word_after }
+    requires before { IsReference sides.heaps.before.now ends.now.before }
     ensures { AreNamesInOrder (compared sides.entry) → OnOk result (string_bytes text.new ≡ string_bytes text.old ++ detail_text (compared sides.entry) how.now ends.now.before ends.now.after) }
 {
     let (old_names, new_names) = (sides.labels_before, sides.labels_after);
@@ -401,7 +396,7 @@ fn push_numbers(text: &mut String, what: &str, old: u64, new: u64) -> Result<(),
 }
 
 fn push_data(text: &mut String, sides: Sides<'_>, word: u64, ends: &Ends) -> Result<(), AllocError>
-    requires { IsReference sides.before.now ends.now.before }
+    requires { IsReference sides.heaps.before.now ends.now.before }
     ensures { AreNamesInOrder (compared sides.entry) → OnOk result (string_bytes text.new ≡ string_bytes text.old
         ++ values_text (compared sides.entry) ends.now.before word ends.now.word_before ends.now.word_after) }
 {
@@ -426,11 +421,11 @@ fn push_data(text: &mut String, sides: Sides<'_>, word: u64, ends: &Ends) -> Res
 
 // The name that a program has for a data word of the object that is referenced before.
 fn word_name<'a>(sides: Sides<'a>, reference: u64, word: u64) -> Option<Word<'a>>
-    requires { IsReference sides.before.now reference }
+    requires { IsReference sides.heaps.before.now reference }
     ensures { AreNamesInOrder (compared sides.entry) → word_told result ≡ word_name (compared sides.entry) reference word }
 {
     match sides.names {
-        Some(names) => data_in(names, object_of(sides.before, reference), word),
+        Some(names) => data_in(names, object_of(sides.heaps.before, reference), word),
         None => None,
     }
 }

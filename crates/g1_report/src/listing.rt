@@ -31,14 +31,14 @@ pub fn list_all<L: Lines>(
     ensures fault { IfErr result IsFault }
     ensures grown { TakesFirst (L.taken out.old) (L.taken out.new) [] }
 {
-    let mut counts = first_counts(sides.before, sides.after);
+    let mut counts = first_counts(sides.heaps.before, sides.heaps.after);
     if !out.take(first)? {
         return Ok(());
     }
     // The walk finds no difference of the numbers of roots, and finds each other first one again.
     let mut lines = counts[0];
     let stale = stale_words(&asked.after.stale);
-    let mut walk = Differences::new(alloc, sides.before, sides.after, stale)?;
+    let mut walk = Differences::new(alloc, sides.heaps.before, sides.heaps.after, stale)?;
     let mut text = String::new(alloc);
     'differences: while let Some(found) = walk.next()? {
         add_one(&mut counts, kind_of(&found.what));
@@ -76,8 +76,8 @@ fn take_found<L: Lines>(
     out: &mut L,
 ) -> Result<bool, Refused>
     requires underway { IsUnderway walk.now }
-    requires before { walk.now.before.now ≡ sides.before.now }
-    requires after { walk.now.after.now ≡ sides.after.now }
+    requires before { walk.now.before.now ≡ sides.heaps.before.now }
+    requires after { walk.now.after.now ≡ sides.heaps.after.now }
     requires there { IsThere walk.now.before.now walk.now.after.now walk.now.walk found.now }
     ensures taken { TakesFirst (L.taken out.old) (L.taken out.new) [] }
     ensures line { AreNamesInOrder (compared sides.entry) → OnOk result (TakesLines (compared sides.entry) (L.taken out.old) (L.taken out.new) []) }

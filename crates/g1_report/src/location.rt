@@ -3,7 +3,7 @@ ghost use Rattle.std.specs.Prelude.{◌≡◌, ◌<◌, ℕ, Some, IfOk, IfErr};
 ghost use Rattle.g1_words.specs.Heap.{kind, start, end, region_of};
 ghost use Rattle.g1_report.specs.Location.{location_text, IsLocation, GoesOn};
 
-use g1_words::{Fault, Heap, Kind, Region, laws, objects_in, region_of};
+use g1_words::{Fault, Heap, Kind, Region, objects_in, region_of};
 use std::alloc::Global;
 use std::fmt;
 
@@ -42,7 +42,6 @@ pub fn locate(alloc: Global, heap: &Heap, address: u64) -> Result<Location, Faul
     ensures location { IfOk result (λ l. IsLocation heap.now address l) }
     ensures memory { IfErr result (λ e. e ≡ Fault.Memory) }
 {
-    laws::valid(heap);
     let geometry = heap.geometry();
     let number = region_of(&geometry, address);
     if number >= geometry.regions() {
@@ -69,12 +68,12 @@ fn first_of_run(heap: &Heap, region: u32) -> u64
     requires { region < heap.now.geometry.n }
     ensures { kind heap.now region ≡ Kind.Continuation → (f : ℕ) × (result ≡ start heap.now f) × GoesOn heap.now f region }
 {
-    laws::valid(heap);
+    let geometry = heap.geometry();
     let mut first = region;
     while first > 0 && heap.region(first).kind.is_continuation() {
         first -= 1;
     }
-    heap.geometry().start(first)
+    geometry.start(first)
 }
 
 // The last object of an ordinary region that starts at an address or before it.
@@ -86,7 +85,6 @@ fn holder(alloc: Global, heap: &Heap, region: u32, address: u64) -> Result<u64, 
     ensures location { IfOk result (λ at. IsLocation heap.now address (Location.Inside at)) }
     ensures memory { IfErr result (λ e. e ≡ Fault.Memory) }
 {
-    laws::valid(heap);
     let starts = objects_in(alloc, heap, region)?;
     let mut last = heap.geometry().start(region);
     for start in starts.as_slice() {

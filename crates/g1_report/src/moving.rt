@@ -21,7 +21,7 @@ pub fn push_moved_line(
     sides: Sides<'_>,
     renaming: &Renaming,
 ) -> Result<(), AllocError>
-    requires { IsRenaming sides.before.now sides.after.now renaming.now.before.items renaming.now.after.items }
+    requires { IsRenaming sides.heaps.before.now sides.heaps.after.now renaming.now.before.items renaming.now.after.items }
     ensures { AreNamesInOrder (compared sides.entry) → OnOk result (string_bytes text.new ≡ string_bytes text.old
         ++ moved_line (compared sides.entry) (have_moved (compared sides.entry) renaming.now.before.items renaming.now.after.items)) }
 {
@@ -52,11 +52,10 @@ fn file_way(labels: Labels<'_>) -> &'static str
 // How many objects moved, and of how many that is known.
 fn count_moved(sides: Sides<'_>, before: &[u64], after: &[u64]) -> (u64, u64)
     requires lengths { length before.now ≡ length after.now }
-    requires renaming { IsRenaming sides.before.now sides.after.now before.now after.now }
+    requires renaming { IsRenaming sides.heaps.before.now sides.heaps.after.now before.now after.now }
     ensures moved { AreNamesInOrder (compared sides.entry) → result.0 ≡ count_by is_yes (have_moved (compared sides.entry) before.now after.now) }
     ensures all { AreNamesInOrder (compared sides.entry) → result.1 ≡ count_by is_some (have_moved (compared sides.entry) before.now after.now) }
 {
-    g1_words::laws::valid(sides.before);
     let (mut moved, mut all) = (0u64, 0u64);
     for place in 0..before.len() {
         let (one_moved, one) = counts_of(has_moved(sides, before[place], after[place]));
@@ -81,14 +80,14 @@ fn counts_of(moved: Option<bool>) -> (u64, u64)
 
 // Whether an object moved, if that is known.
 fn has_moved(sides: Sides<'_>, before: u64, after: u64) -> Option<bool>
-    requires before { Contains (objects sides.before.now) (object_at sides.before.now before) }
-    requires after { Contains (objects sides.after.now) (object_at sides.after.now after) }
+    requires before { Contains (objects sides.heaps.before.now) (object_at sides.heaps.before.now before) }
+    requires after { Contains (objects sides.heaps.after.now) (object_at sides.heaps.after.now after) }
     ensures { AreNamesInOrder (compared sides.entry) → result ≡ has_moved (compared sides.entry) (compared sides.entry).names_after before after }
 {
     match sides.names_after {
         Some(names) => differ(
-            identifier(sides.names, sides.before, before),
-            identifier_in(names, sides.after, after),
+            identifier(sides.names, sides.heaps.before, before),
+            identifier_in(names, sides.heaps.after, after),
         ),
         None => is_elsewhere(sides, before, after),
     }

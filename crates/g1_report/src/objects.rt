@@ -29,7 +29,6 @@ pub fn object_of<'a>(heap: &'a Heap, word: u64) -> Option<ObjectWords<'a>>
 pub fn words_at<'a>(heap: &'a Heap, at: u64) -> Option<ObjectWords<'a>>
     ensures { Contains (objects heap.now) (object_at heap.now at) → option_map words_text result ≡ Some (words_at heap.now at) }
 {
-    laws::valid(heap);
     let words = heap.words();
     let laid = words.laid();
     let object = words.header(at);

@@ -15,6 +15,7 @@ use crate::listing::list_all;
 use crate::names::Names;
 use crate::sides::Side;
 use crate::verdict::{Finding, Verdict, find, verdict_on};
+use g1_same::Pair;
 use g1_text::Wrong;
 use g1_words::Fault;
 use std::alloc::{AllocError, AllocFailed, Global};
@@ -103,7 +104,12 @@ pub fn report<L: Lines>(alloc: Global, asked: &Asked<'_>, out: &mut L) -> Result
     ensures grown { TakesFirst (L.taken out.old) (L.taken out.new) [] }
 {
     let sides = sides_of(asked);
-    let finding = find(alloc, sides.before, sides.after, &asked.after.stale)?;
+    let finding = find(
+        alloc,
+        sides.heaps.before,
+        sides.heaps.after,
+        &asked.after.stale,
+    )?;
     let verdict = verdict_on(alloc, asked, sides, &finding)?;
     hand_on(alloc, asked, sides, &finding, &verdict, out)?;
     Ok(verdict.status)
@@ -144,13 +150,12 @@ fn lists(finding: &Finding, all: Option<u64>) -> Option<u64>
 }
 
 fn sides_of<'a>(asked: &Asked<'a>) -> Sides<'a>
-    ensures before { result.before.now ≡ asked.now.before.now.image.heap }
-    ensures after { result.after.now ≡ asked.now.after.now.image.heap }
+    ensures before { result.heaps.before.now ≡ asked.now.before.now.image.heap }
+    ensures after { result.heaps.after.now ≡ asked.now.after.now.image.heap }
     ensures compared { compared result ≡ compared_of asked.now }
 {
     Sides {
-        before: asked.before.image.heap(),
-        after: asked.after.image.heap(),
+        heaps: Pair::new(asked.before.image.heap(), asked.after.image.heap()),
         names: asked.names,
         names_after: asked.names_after,
         holders: asked.before.holders.as_slice(),

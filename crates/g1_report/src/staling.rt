@@ -19,7 +19,7 @@ pub fn push_stale_line(
     old: u64,
     word: u64,
 ) -> Result<(), AllocError>
-    requires { IsReference sides.before.now old }
+    requires { IsReference sides.heaps.before.now old }
     ensures { AreNamesInOrder (compared sides.entry) → OnOk result (string_bytes text.new ≡ string_bytes text.old ++ stale_line (compared sides.entry) path.entry.0 path.entry.1.now old word) }
 {
     text.push_str("differ stale at ")?;
@@ -88,14 +88,14 @@ fn push_region(
 ) -> Result<(), AllocError>
     ensures { OnOk result (string_bytes text.new ≡ string_bytes text.old ++ region_text (compared sides.entry) old address) }
 {
-    let geometry = sides.after.geometry();
+    let geometry = sides.heaps.after.geometry();
     let number = region_of(&geometry, address);
     if number >= geometry.regions() {
         return text.push_str("outside the heap\n");
     }
-    let kind = sides.after.region(number as u32).kind;
+    let kind = sides.heaps.after.region(number as u32).kind;
     write!(text, "in region {number}, {kind} after")?;
-    push_was(text, sides.labels_before, sides.before, old, address)
+    push_was(text, sides.labels_before, sides.heaps.before, old, address)
 }
 
 fn push_was(

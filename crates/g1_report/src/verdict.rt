@@ -103,10 +103,10 @@ pub fn verdict_on(
     sides: Sides<'_>,
     finding: &Finding,
 ) -> Result<Verdict, Refused>
-    requires { IsFinding sides.before.now sides.after.now asked.now.after.now.stale finding.now }
+    requires { IsFinding sides.heaps.before.now sides.heaps.after.now asked.now.after.now.stale finding.now }
     ensures text { AreNamesInOrder (compared sides.entry) → IfOk result (λ v. IsAnswer (compared sides.entry) asked.now finding.now v.status (string_bytes v.text)) }
-    ensures verdict { IfOk result (λ v. IsVerdict sides.entry.before.now sides.entry.after.now asked.now.after.now.stale asked.now.set.now asked.now.fill v.status) }
-    ensures refused { IfErr result (λ e. IsRefusal sides.entry.before.now sides.entry.after.now asked.now.after.now.stale asked.now.set.now e) }
+    ensures verdict { IfOk result (λ v. IsVerdict sides.entry.heaps.before.now sides.entry.heaps.after.now asked.now.after.now.stale asked.now.set.now asked.now.fill v.status) }
+    ensures refused { IfErr result (λ e. IsRefusal sides.entry.heaps.before.now sides.entry.heaps.after.now asked.now.after.now.stale asked.now.set.now e) }
 {
     match finding {
         Finding::Same(renaming) => verdict_on_same(alloc, asked, sides, renaming),
@@ -118,7 +118,6 @@ pub fn verdict_on(
         Finding::Stale(end) => {
             let mut text = String::new(alloc);
             let path = (end.root, end.slots.as_slice());
-            g1_words::laws::valid(sides.before);
             push_stale_line(alloc, &mut text, sides, path, end.before, end.word)?;
             Ok(Verdict { text, status: 1 })
         }
@@ -132,14 +131,20 @@ fn verdict_on_same(
     sides: Sides<'_>,
     renaming: &Renaming,
 ) -> Result<Verdict, Refused>
-    requires graph { IsRenaming sides.before.now sides.after.now renaming.now.before.items renaming.now.after.items }
+    requires graph { IsRenaming sides.heaps.before.now sides.heaps.after.now renaming.now.before.items renaming.now.after.items }
     requires none { asked.now.after.now.stale ≡ None }
     ensures text { AreNamesInOrder (compared sides.entry) → IfOk result (λ v. IsSameAnswer (compared sides.entry) asked.now renaming.now v.status (string_bytes v.text)) }
-    ensures verdict { IfOk result (λ v. IsVerdict sides.entry.before.now sides.entry.after.now asked.now.after.now.stale asked.now.set.now asked.now.fill v.status) }
-    ensures refused { IfErr result (λ e. IsRefusal sides.entry.before.now sides.entry.after.now asked.now.after.now.stale asked.now.set.now e) }
+    ensures verdict { IfOk result (λ v. IsVerdict sides.entry.heaps.before.now sides.entry.heaps.after.now asked.now.after.now.stale asked.now.set.now asked.now.fill v.status) }
+    ensures refused { IfErr result (λ e. IsRefusal sides.entry.heaps.before.now sides.entry.heaps.after.now asked.now.after.now.stale asked.now.set.now e) }
 {
     let mut text = String::new(alloc);
-    if let Some(lost) = lost(alloc, sides.before, sides.after, asked.set, asked.fill)? {
+    if let Some(lost) = lost(
+        alloc,
+        sides.heaps.before,
+        sides.heaps.after,
+        asked.set,
+        asked.fill,
+    )? {
         write!(text, "differ {lost}\n")?;
         return Ok(Verdict { text, status: 1 });
     }
@@ -154,10 +159,10 @@ fn push_same_text(
     sides: Sides<'_>,
     renaming: &Renaming,
 ) -> Result<(), AllocError>
-    requires { IsRenaming sides.before.now sides.after.now renaming.now.before.items renaming.now.after.items }
+    requires { IsRenaming sides.heaps.before.now sides.heaps.after.now renaming.now.before.items renaming.now.after.items }
     ensures { AreNamesInOrder (compared sides.entry) → OnOk result (string_bytes text.new ≡ string_bytes text.old ++ same_text (compared sides.entry) asked.now renaming.now) }
 {
-    push_same_line(text, sides.before, renaming)?;
+    push_same_line(text, sides.heaps.before, renaming)?;
     push_moved(text, asked.moved, sides, renaming)?;
     push_kept(text, asked.set)
 }
@@ -169,7 +174,7 @@ fn push_moved(
     sides: Sides<'_>,
     renaming: &Renaming,
 ) -> Result<(), AllocError>
-    requires { IsRenaming sides.before.now sides.after.now renaming.now.before.items renaming.now.after.items }
+    requires { IsRenaming sides.heaps.before.now sides.heaps.after.now renaming.now.before.items renaming.now.after.items }
     ensures { AreNamesInOrder (compared sides.entry) → OnOk result (string_bytes text.new ≡ string_bytes text.old ++ moved_text moved (compared sides.entry) renaming.now.before.items renaming.now.after.items) }
 {
     if moved {

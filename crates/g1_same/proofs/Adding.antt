@@ -81,13 +81,13 @@ pub record IsAdded (w v : Walk) (f n a b : ℕ) : Type 0 where
   pub new_of : v.new_of.items ≡ set w.new_of.items a (suc (length w.before.items))
   pub old_of : v.old_of.items ≡ set w.old_of.items b (suc (length w.before.items))
 
-pushed_old : (xs ys : List ℕ) (x i : ℕ) → ys ≡ xs ++ x ∷ [] → i < length xs → slice_index ys i ≡ slice_index xs i
+pub pushed_old : (xs ys : List ℕ) (x i : ℕ) → ys ≡ xs ++ x ∷ [] → i < length xs → slice_index ys i ≡ slice_index xs i
 pushed_old xs ys x i e p = ap (λ l. slice_index l i) e ∙ get_or_append_left xs (x ∷ []) 0 i p
 
-pushed_new : (xs ys : List ℕ) (x i : ℕ) → ys ≡ xs ++ x ∷ [] → i ≡ length xs → slice_index ys i ≡ x
+pub pushed_new : (xs ys : List ℕ) (x i : ℕ) → ys ≡ xs ++ x ∷ [] → i ≡ length xs → slice_index ys i ≡ x
 pushed_new xs ys x i e p = ap (λ l. slice_index l i) e ∙ get_or_push xs x 0 i (sym p)
 
-pushed_length : (xs ys : List ℕ) (x : ℕ) → ys ≡ xs ++ x ∷ [] → length ys ≡ length xs + 1
+pub pushed_length : (xs ys : List ℕ) (x : ℕ) → ys ≡ xs ++ x ∷ [] → length ys ≡ length xs + 1
 pushed_length xs ys x e = ap length e ∙ length_push xs x
 
 module _ {R : ℕ → ℕ → Type 0} (g h : Heap) (w v : Walk) (f n a b : ℕ) (walk : IsWalkOf R g h w) (e : IsAdded w v f n a b) where

@@ -15,24 +15,20 @@ use Rattle.g1_same.specs.declared.difference.How.{How}
 use Rattle.g1_same.specs.declared.difference.Difference.{Difference}
 use Rattle.g1_same.specs.declared.difference.Difference.TheVariants.{Roots, At}
 use Rattle.g1_same.specs.Same.{IsFirstDifference}
-use Rattle.g1_same.specs.Walk.{IsWalk, IsWay, IsBelow, IsEarlier, IsLinked, HasGrown, IsMet, IsSeen, IsLeast, IsRoute, root, slot}
+use Rattle.g1_same.specs.Walk.{IsWalk, IsWay, IsBelow, IsLinked, HasGrown, IsMet, IsSeen, IsLeast, IsRoute, root, slot}
 use Rattle.g1_same.proofs.Linked.{Stop, IsStop, LinksRoots, LinksSlots, LinksPairs, LinksTo}
 use Rattle.g1_same.specs.Laws.{SameOrDiffers}
 use Rattle.g1_same.proofs.Heaps.{object_named, root_names, slot_names}
-use Rattle.g1_same.proofs.Adding.{IsAdded, added_grown, added_walk, added_linked, added_below, linked_by, earlier_next, grown_same, few_pairs, pairs_fit}
+use Rattle.g1_same.proofs.Adding.{IsAdded, added_grown, added_walk, added_linked, added_below, linked_by, grown_same, few_pairs, pairs_fit}
 use Rattle.g1_same.proofs.Steps.{roots_more, roots_kept, slots_more, pairs_more, pairs_kept}
-use Rattle.g1_same.proofs.Routes.{route_of}
+use Rattle.g1_same.proofs.Routes.{route_of, route_some}
+use Rattle.g1_same.proofs.Order.{earlier_up}
+use Rattle.g1_same.proofs.Between.{way_within}
+use Rattle.g1_same.proofs.Behind.{below_next}
 use Rattle.g1_same.proofs.Renamed.{same}
 use Rattle.g1_same.proofs.First.{first}
 use Rattle.g1_same.proofs.Made.{listed, empty_walk, empty_is_walk, more_walk, more_added}
 use Rattle.g1_same.proofs.Meets.{met}
-
-below_more : (w : Walk) (f n : ℕ) → IsBelow w f n → IsBelow w f (n + 1)
-below_more w f n below i p = earlier_next (slice_index w.from.items i) (slice_index w.number.items i) f n (below i p)
-
-earlier_up : (f m k n : ℕ) → IsEarlier f m k n → IsEarlier f m (suc k) 0
-earlier_up f m k n (inl e) = inl (omega (arith, e))
-earlier_up f m k n (inr e) = inl (omega (arith, e.0))
 
 below_up : (w : Walk) (f n : ℕ) → IsBelow w f n → IsBelow w (suc f) 0
 below_up w f n below i p = earlier_up (slice_index w.from.items i) (slice_index w.number.items i) f n (below i p)
@@ -50,7 +46,7 @@ module _ (g h : Heap) (left : IsValid g) (right : IsValid h) where
   stepped w f n x y walk below way back x_in y_in = let m = met g h left right w walk x y x_in y_in in go m.0 m.1
     where
       go : (m : Met) → IsMet g h w x y m → Stepped w f n x y
-      go Known p = inl (w, walk, grown_same w, linked_by w f n x y below p, below_more w f n below)
+      go Known p = inl (w, walk, grown_same w, linked_by w f n x y below p, below_next w f n below)
       go (Clash how) p = inr (how, p.0, p.1)
       go (New a b) p =
           let v : Walk = more_walk g h left right w walk f n a b in
@@ -266,19 +262,11 @@ module _ (g h : Heap) (left : IsValid g) (right : IsValid h) where
         let v : Vec ℕ Global = listed ss (omega (arith, small)) in
         (At k v e.stop.how, first g h left right e.at e.walk e.stop k v count e.links e.stops r)
 
-    route_some : (w : Walk) (f n : ℕ) (p : List ℕ) → IsRoute w f n p → 0 < length p
-    route_some w f n p (root m) = omega arith
-    route_some w f n p (slot j m q lt r) = omega (arith, length_push q m)
-
-    way_within : (w : Walk) (f n x y : ℕ) → IsWay g h w.before.items w.after.items f n x y → f ≤ length w.before.items
-    way_within w zero n x y way = omega arith
-    way_within w (suc j) n x y way = omega (arith, way.0)
-
     told : Ended → First
     told e =
         let f : ℕ = e.stop.way.from in
         let n : ℕ = e.stop.way.number in
-        let within : f ≤ length e.at.before.items = way_within e.at f n e.stops.0 e.stops.1 e.stops.2 in
+        let within : f ≤ length e.at.before.items = way_within g h e.at f n e.stops.0 e.stops.1 e.stops.2 in
         let r = route_of g h e.at e.walk f n within in
         let short = route_short e.at f n r.0 e.walk r.1 in
         let fit : length e.at.before.items ≤ most_words = pairs_fit g h e.at left e.walk in

@@ -3,6 +3,7 @@ use Rattle.std.proofs.Common.{◌≡◌, ℕ, zero, suc, ◌+◌, ◌-◌, ◌%�
 use Rattle.std.proofs.lemmas.Bool.{cases_lt}
 use Rattle.g1_words.specs.Heap.{Heap, word, object_at}
 use Rattle.g1_words.specs.Valid.{IsValid, IsReference}
+use Rattle.g1_words.proofs.Members.{none_contains}
 use Rattle.g1_same.specs.declared.walk.Walk.{Walk}
 use Rattle.g1_same.specs.declared.walk.Found.{Found}
 use Rattle.g1_same.specs.declared.stale.StaleWords.{StaleWords}
@@ -12,12 +13,11 @@ use Rattle.g1_same.specs.Walk.{IsIndex, IsNew, IsRoute, root, slot, AreAlike, Is
 use Rattle.g1_same.proofs.Linked.{LinksRoots, LinksPairs, LinksTo}
 use Rattle.g1_same.specs.Behind.{IsStaleAt, Differs, DiffersAt, ShowsAt, IsFound, IsThere, LinksBetween, FindsAlike, AddsOnly}
 use Rattle.g1_same.specs.Underway.{FindsAlikeUntil}
-use Rattle.g1_words.proofs.Members.{In, In-from_contains}
 use Rattle.g1_same.proofs.Heaps.{root_names, slot_names}
 use Rattle.g1_same.proofs.Adding.{linked_more}
 use Rattle.g1_same.proofs.Tables.{index_some}
 use Rattle.g1_same.proofs.Routes.{route_of, route_one, route_leads, seen_clash}
-use Rattle.g1_same.proofs.First.{way_cases}
+use Rattle.g1_same.proofs.First.{none_between, way_cases}
 
 pub earlier_not : (a b k m : ℕ) → IsEarlier a b k m → IsEarlier k m a b → ⊥
 earlier_not a b k m (inl e) (inl d) = absurd (omega (arith, e, d))
@@ -30,12 +30,6 @@ earlier_trans a b k m r s (inl e) (inl d) = inl (omega (arith, e, d))
 earlier_trans a b k m r s (inl e) (inr d) = inl (omega (arith, e, d.0))
 earlier_trans a b k m r s (inr e) (inl d) = inl (omega (arith, e.0, d))
 earlier_trans a b k m r s (inr e) (inr d) = inr (omega (arith, e.0, d.0), omega (arith, e.1, d.1))
-
-pub none_between : (a b k m : ℕ) → IsEarlier k m a b → IsEarlier a b k (m + 1) → ⊥
-none_between a b k m (inl e) (inl d) = absurd (omega (arith, e, d))
-none_between a b k m (inl e) (inr d) = absurd (omega (arith, e, d.0))
-none_between a b k m (inr e) (inl d) = absurd (omega (arith, e.0, d))
-none_between a b k m (inr e) (inr d) = absurd (omega (arith, e.1, d.1))
 
 -- a way leads to one word in each heap
 pub way_one : (g h : Heap) (os ns : List ℕ) (f n x y u v : ℕ) → IsWay g h os ns f n x y → IsWay g h os ns f n u v → (x ≡ u) × (y ≡ v)
@@ -302,7 +296,7 @@ tour_of g h w walk = record {
 }
 
 none_in : {A : Type 0} (l : List A) (x : A) → l ≡ [] → Contains l x → ⊥
-none_in l x e c = subst (λ l. In l x → ⊥) (sym e) (λ i. i) (In-from_contains l x c)
+none_in l x e c = none_contains x (subst (λ l. Contains l x) e c)
 
 -- without stale words none is at a place
 pub no_stale : (s : StaleWords) (w : Walk) (f n z : ℕ) → s.roots.now ≡ [] → s.slots.now ≡ [] → IsStaleAt s w f n z → ⊥

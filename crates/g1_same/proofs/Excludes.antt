@@ -1,33 +1,20 @@
 -- One graph shows no difference.
-use Rattle.std.proofs.Common.{◌≡◌, ℕ, zero, suc, ◌+◌, ◌-◌, ◌<◌, ◌%◌, ◌/◌, ◌^◌, inl, inr, List, [], ◌∷◌, length, get_or, refl, sym, ap, subst, ◌∙◌, arith, slice_index, ◌⊎◌}
+use Rattle.std.proofs.Common.{◌≡◌, ℕ, zero, suc, ◌+◌, ◌<◌, ◌%◌, ◌/◌, ◌^◌, List, [], ◌∷◌, length, refl, sym, ap, subst, ◌∙◌, arith, slice_index}
 use Rattle.std.proofs.lemmas.List.{length-map, get_or-map}
-use Rattle.g1_words.specs.declared.object.Object.{Object}
 use Rattle.g1_words.specs.Heap.{Heap, word, object_at}
 use Rattle.g1_words.specs.Valid.{IsValid}
 use Rattle.g1_words.specs.Live.{Live}
-use Rattle.g1_words.specs.Copy.{renamed, renamed_words}
+use Rattle.g1_words.specs.Copy.{renamed}
 use Rattle.g1_words.specs.Graph.{SameGraph}
-use Rattle.g1_after.proofs.Determined.{word_from_copy}
-use Rattle.g1_after.proofs.CopyWords.{StaysAt, RenamedAt, renamed_word}
 use Rattle.g1_same.specs.declared.difference.How.{How}
 use Rattle.g1_same.specs.declared.difference.How.TheVariants.{NullBefore, NullAfter, Split, Joined, Size, Slots, Data}
 use Rattle.g1_same.specs.declared.difference.Difference.{Difference}
 use Rattle.g1_same.specs.declared.difference.Difference.TheVariants.{Roots, At}
 use Rattle.g1_same.specs.Path.{Leads, LeadsTo, Together}
 use Rattle.g1_same.specs.Same.{IsClash, IsDifference}
-use Rattle.g1_words.proofs.Sound.{object_in}
+use Rattle.g1_same.proofs.Copies.{copied_data, copied_header, copied_slot}
+use Rattle.g1_same.proofs.Following.{leads_to_one}
 use Rattle.g1_same.proofs.Heaps.{live_object, slot_live, root_live}
-
--- slots lead from one word to one word
-pub leads_one : (h : Heap) (ss : List ℕ) (x y z : ℕ) → Leads h ss x y → Leads h ss x z → y ≡ z
-leads_one h [] x y z a b = sym a ∙ b
-leads_one h (s ∷ ss) zero y z a b = absurd a
-leads_one h (s ∷ ss) (suc c) y z a b = leads_one h ss (word h (c + 1 + s)) y z a.1 b.1
-
--- a path leads to one word
-pub leads_to_one : (h : Heap) (p : List ℕ) (y z : ℕ) → LeadsTo h p y → LeadsTo h p z → y ≡ z
-leads_to_one h [] y z a b = absurd a
-leads_to_one h (k ∷ ss) y z a b = leads_one h ss (slice_index h.roots k) y z a.1 b.1
 
 -- the word is null or names a reached object
 abbrev LivesAt : Heap → ℕ → Type 0
@@ -38,48 +25,15 @@ pub same_count : (g h : Heap) → SameGraph g h → length g.roots ≡ length h.
 same_count g h s = sym (length-map g.roots (renamed s.rename)) ∙ ap length (sym s.roots)
 
 module _ (g h : Heap) (valid : IsValid g) (s : SameGraph g h) where
-  -- each word of a copy is that of the object, renamed where it is a slot's
-  word_of_copy : (a m : ℕ) → Live g a → m < (object_at g a).size
-      → StaysAt s.rename g (object_at g a) m (word h (s.rename a + m)) ⊎ RenamedAt s.rename g (object_at g a) m (word h (s.rename a + m))
-  word_of_copy a m live lt =
-      let o : Object = object_at g a in
-      let f : ℕ → ℕ = s.rename in
-      let fits = (object_in g a valid (live_object g a valid live)).0 in
-      let w : word h (f a + m) ≡ get_or (renamed_words f g o) (f a + m - f a) 0 = word_from_copy f g h o (f a + m) (s.copies a live) (omega arith) (omega arith) in
-      let z : f a + m - f a ≡ m = omega arith in
-      let e : get_or (renamed_words f g o) m 0 ≡ word h (f a + m) = ap (λ x. get_or (renamed_words f g o) x 0) (sym z) ∙ sym w in
-      subst (λ x. StaysAt f g o m x ⊎ RenamedAt f g o m x) e (renamed_word f g o m fits lt)
-
-  pub same_header : (a : ℕ) → Live g a → word h (s.rename a) ≡ word g a
-  same_header a live =
-      let fits = (object_in g a valid (live_object g a valid live)).0 in
-      let z : s.rename a ≡ s.rename a + 0 = omega arith in
-      let y : a + 0 ≡ a = omega arith in
-      elim (word_of_copy a 0 live (omega arith)) [
-        | inl k ↦ ap (word h) z ∙ k.0 ∙ ap (word g) y
-        | inr k ↦ absurd (omega (arith, k.0))
-      ]
+  same_header : (a : ℕ) → Live g a → word h (s.rename a) ≡ word g a
+  same_header a live = copied_header s.rename g h a valid (live_object g a valid live) (s.copies a live)
 
   pub same_slot : (a n : ℕ) → Live g a → n < (object_at g a).refs → word h (s.rename a + 1 + n) ≡ renamed s.rename (word g (a + 1 + n))
-  same_slot a n live lt =
-      let fits = (object_in g a valid (live_object g a valid live)).0 in
-      let z : s.rename a + 1 + n ≡ s.rename a + (1 + n) = omega arith in
-      let y : a + (1 + n) ≡ a + 1 + n = omega arith in
-      elim (word_of_copy a (1 + n) live (omega arith)) [
-        | inl k ↦ elim k.1 [ inl e ↦ absurd (omega (arith, e)) | inr e ↦ absurd (omega (arith, e)) ]
-        | inr k ↦ ap (word h) z ∙ k.2 ∙ ap (λ q. renamed s.rename (word g q)) y
-      ]
+  same_slot a n live lt = copied_slot s.rename g h a valid (live_object g a valid live) (s.copies a live) n lt
 
-  pub same_data : (a k : ℕ) → Live g a → (object_at g a).refs + 1 + k < (object_at g a).size
+  same_data : (a k : ℕ) → Live g a → (object_at g a).refs + 1 + k < (object_at g a).size
       → word h (s.rename a + 1 + (object_at g a).refs + k) ≡ word g (a + 1 + (object_at g a).refs + k)
-  same_data a n live lt =
-      let r : ℕ = (object_at g a).refs in
-      let z : s.rename a + 1 + r + n ≡ s.rename a + (r + 1 + n) = omega arith in
-      let y : a + (r + 1 + n) ≡ a + 1 + r + n = omega arith in
-      elim (word_of_copy a (r + 1 + n) live lt) [
-        | inl k ↦ ap (word h) z ∙ k.0 ∙ ap (word g) y
-        | inr k ↦ absurd (omega (arith, k.1))
-      ]
+  same_data a k live lt = copied_data s.rename g h a valid (live_object g a valid live) (s.copies a live) k lt
 
   carried : (ss : List ℕ) (x y : ℕ) → LivesAt g x → Leads g ss x y → Leads h ss (renamed s.rename x) (renamed s.rename y) × LivesAt g y
   carried [] x y lives e = (ap (renamed s.rename) e, subst (LivesAt g) e lives)

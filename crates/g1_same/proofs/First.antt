@@ -13,7 +13,7 @@ use Rattle.g1_same.specs.Same.{IsClash, ClashAt, rank, IsFirstDifference}
 use Rattle.g1_same.specs.Stale.{LeadsToStale}
 use Rattle.g1_same.specs.Walk.{AreAlike, IsWay, IsWalkOf, IsWalk, IsEarlier, IsLinked, IsNew, IsLeast, IsRoute, root, slot}
 use Rattle.g1_same.proofs.Linked.{Stop, IsStop, LinksTo}
-use Rattle.g1_same.proofs.Excludes.{leads_to_one}
+use Rattle.g1_same.proofs.Following.{leads_to_one}
 use Rattle.g1_same.proofs.Tables.{index_apart}
 use Rattle.g1_same.proofs.Adding.{before_within, after_within}
 use Rattle.g1_same.proofs.Routes.{route_of, route_one, route_before, before_push, stopped, route_leads, seen_clash}
@@ -29,7 +29,7 @@ before_never : (p : List ℕ) → Before p p → ⊥
 before_never p (inl l) = absurd (omega (arith, l))
 before_never p (inr l) = lower_never p l.1
 
-lower_trans : (p q r : List ℕ) → Lower p q → Lower q r → Lower p r
+pub lower_trans : (p q r : List ℕ) → Lower p q → Lower q r → Lower p r
 lower_trans [] q r a b = absurd a
 lower_trans (x ∷ p) [] r a b = absurd a
 lower_trans (x ∷ p) (y ∷ q) [] a b = absurd b
@@ -38,7 +38,7 @@ lower_trans (x ∷ p) (y ∷ q) (z ∷ r) (inl a) (inr b) = inl (omega (arith, a
 lower_trans (x ∷ p) (y ∷ q) (z ∷ r) (inr a) (inl b) = inl (omega (arith, a.0, b))
 lower_trans (x ∷ p) (y ∷ q) (z ∷ r) (inr a) (inr b) = inr (a.0 ∙ b.0, lower_trans p q r a.1 b.1)
 
-before_trans : (p q r : List ℕ) → Before p q → Before q r → Before p r
+pub before_trans : (p q r : List ℕ) → Before p q → Before q r → Before p r
 before_trans p q r (inl a) (inl b) = inl (omega (arith, a, b))
 before_trans p q r (inl a) (inr b) = inl (omega (arith, a, b.0))
 before_trans p q r (inr a) (inl b) = inl (omega (arith, a.0, b))
@@ -96,6 +96,13 @@ way_cases f m k n = elim (cases_lt f k) [
         ]
   ]
 ]
+
+-- no way is between one and the next of its row
+pub none_between : (a b k m : ℕ) → IsEarlier k m a b → IsEarlier a b k (m + 1) → ⊥
+none_between a b k m (inl e) (inl d) = absurd (omega (arith, e, d))
+none_between a b k m (inl e) (inr d) = absurd (omega (arith, e, d.0))
+none_between a b k m (inr e) (inl d) = absurd (omega (arith, e.0, d))
+none_between a b k m (inr e) (inr d) = absurd (omega (arith, e.1, d.1))
 
 -- all ways before this one are linked
 abbrev pub LinksEarlier : Heap → Heap → Walk → ℕ → ℕ → Type 0
@@ -159,12 +166,6 @@ module _ {R : ℕ → ℕ → Type 0} (g h : Heap) (left : IsValid g) (right : I
           ]
         ],
       )
-    where
-      none_between : (a b k m : ℕ) → IsEarlier k m a b → IsEarlier a b k (m + 1) → ⊥
-      none_between a b k m (inl e) (inl d) = absurd (omega (arith, e, d))
-      none_between a b k m (inl e) (inr d) = absurd (omega (arith, e, d.0))
-      none_between a b k m (inr e) (inl d) = absurd (omega (arith, e.0, d))
-      none_between a b k m (inr e) (inr d) = absurd (omega (arith, e.1, d.1))
 
   -- what earlier paths lead to together was found, by them or before
   found_at : (t : ℕ) (q : List ℕ) (x y : ℕ) → length q ≤ t → Before q p → Together g h q x y → IsFound q x y

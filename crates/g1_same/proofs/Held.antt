@@ -1,21 +1,16 @@
 -- The rules that the heaps of a pair keep. Each can be decided, so they follow from the fact of one proof that its type carries.
-use Rattle.std.proofs.Common.{◌≡◌, ◌<◌, ◌+◌, ◌^◌, ◌*◌, ◌∙◌, ℕ, inl, inr, length, arith, ap, subst, slice_index}
+use Rattle.std.proofs.Common.{◌≡◌, ◌<◌, ◌^◌, ◌*◌, ℕ, inl, inr, length, arith, subst, slice_index}
 use Rattle.std.proofs.Math.Logic.{∥∥₁_elim}
-use Rattle.std.specs.Int.{IsPowerOfTwo}
-use Rattle.std.specs.Int.Count.{ones}
 use Rattle.std.specs.Prelude.{IfSome, Option, Some, None}
 use Rattle.g1_words.specs.Geometry.{IsWithinBounds, most_card_words, most_region_words, most_regions, most_roots, most_words}
 use Rattle.g1_words.specs.Heap.{Heap, region}
 use Rattle.g1_words.specs.declared.region.Kind.TheVariants.{Ordinary}
 use Rattle.g1_words.specs.Valid.{AllShaped, IsReference, IsShaped, IsValid}
-use Rattle.g1_words.proofs.Powers.{power_of_ones, ones_of_power}
-use Rattle.g1_image.proofs.Decided.{Decided, decided_as, decided_lt, decided_le, decided_eq, decided_kind, decided_all, decided_each}
+use Rattle.g1_image.proofs.Decided.{Decided, decided_lt, decided_le, decided_eq, decided_kind, decided_all, decided_each}
 use Rattle.g1_image.proofs.DecidedShapes.{decided_shaped}
 use Rattle.g1_image.proofs.DecidedReferences.{decided_reference}
+use Rattle.g1_image.proofs.ToldFiles.{decided_power}
 use Rattle.g1_same.specs.declared.pair.Pair.{Pair}
-
-decided_power : (n : ℕ) → Decided (IsPowerOfTwo n)
-decided_power n = decided_as (ones n ≡ 1) (IsPowerOfTwo n) (power_of_ones (n + 1) n (omega arith)) (λ p. ap ones p.1 ∙ ones_of_power p.0) (decided_eq (ones n) 1)
 
 module _ (h : Heap) (held : ∥ IsValid h ∥₁) where
   -- a rule that can be decided is kept

@@ -1,6 +1,7 @@
 pub mod Held
 pub mod Heaps
 pub mod Linked
+pub mod Copies
 pub mod Excludes
 pub mod Tables
 pub mod Adding

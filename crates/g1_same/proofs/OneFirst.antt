@@ -10,7 +10,7 @@ use Rattle.g1_same.specs.declared.difference.Difference.TheVariants.{Roots, At}
 use Rattle.g1_same.specs.Path.{LeadsTo, Together, Lower, Before}
 use Rattle.g1_same.specs.Same.{IsClash, ClashAt, rank, IsFirstDifference}
 use Rattle.g1_same.specs.Laws.{TellSame}
-use Rattle.g1_same.proofs.Excludes.{leads_to_one}
+use Rattle.g1_same.proofs.Following.{leads_to_one}
 
 lower_cases : (p q : List ℕ) → length p ≡ length q → (p ≡ q) ⊎ (Lower p q ⊎ Lower q p)
 lower_cases [] [] e = inl refl

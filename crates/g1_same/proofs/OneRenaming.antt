@@ -1,12 +1,11 @@
 -- Two heaps have one renaming at most.
 use Rattle.std.proofs.Common.{◌≡◌, ℕ, suc, ◌+◌, ◌<◌, List, length, map, sym, ap, ◌∙◌, arith, slice_index}
 use Rattle.std.proofs.lemmas.List.{ext_get_or, length-map, get_or-map}
+use Rattle.std.proofs.lemmas.List.Elements.{Contains-get_or}
 use Rattle.g1_words.specs.Heap.{Heap, word}
 use Rattle.g1_words.specs.Valid.{IsValid}
 use Rattle.g1_words.specs.Live.{Live, seed, child}
 use Rattle.g1_words.specs.References.{root_targets, targets}
-use Rattle.g1_words.proofs.Members.{Contains-from_in}
-use Rattle.g1_words.proofs.Indices.{get_or-In}
 use Rattle.g1_words.proofs.Unique.{breadth_first_unique}
 use Rattle.g1_words.specs.Copy.{renamed}
 use Rattle.g1_words.specs.Graph.{SameGraph}
@@ -37,5 +36,5 @@ module _ (g h : Heap) (valid : IsValid g) where
 pub one_renaming : (g h : Heap) (olds news others images : List ℕ) → IsValid g → IsRenaming g h olds news → IsRenaming g h others images → (olds ≡ others) × (news ≡ images)
 one_renaming g h olds news others images valid a b =
     let e : olds ≡ others = breadth_first_unique (root_targets g) (targets g) olds others a.found b.found in
-    let live : (i : ℕ) → i < length olds → Live g (slice_index olds i) = λ i p. (a.found.reached (slice_index olds i)).0 (Contains-from_in olds (slice_index olds i) (get_or-In olds i 0 p)) in
+    let live : (i : ℕ) → i < length olds → Live g (slice_index olds i) = λ i p. (a.found.reached (slice_index olds i)).0 (Contains-get_or olds i 0 p) in
     (e, a.renames ∙ same_images g h valid a.same b.same olds live ∙ ap (map b.same.rename) e ∙ sym b.renames)

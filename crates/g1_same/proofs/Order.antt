@@ -1,18 +1,20 @@
 -- A walk that links everything has found the objects in breadth-first order, and tells the renaming.
-use Rattle.std.proofs.Common.{◌≡◌, ℕ, zero, suc, ◌+◌, ◌<◌, ◌≤◌, ◌⊎◌, inl, inr, not, cond, List, [], ◌∷◌, ◌++◌, length, take, flat_map, refl, sym, ap, subst, ◌∙◌, arith, slice_index}
+use Rattle.std.proofs.Common.{◌≡◌, ℕ, zero, suc, ◌+◌, ◌<◌, ◌≤◌, ◌⊎◌, inl, inr, not, cond, List, [], ◌∷◌, ◌++◌, length, take, flat_map, refl, sym, ap, subst, ◌∙◌, arith, slice_index, Contains}
 use Rattle.std.proofs.Common.{append_assoc, append-nil}
 use Rattle.std.specs.List.{range_with_len}
 use Rattle.std.proofs.lemmas.Bool.{cases_lt}
 use Rattle.std.proofs.lemmas.List.{take_all, take_more}
 use Rattle.std.proofs.lemmas.Grind.{flat_map-append}
+use Rattle.std.proofs.lemmas.List.Elements.{Contains-get_or}
 use Rattle.g1_words.specs.Heap.{Heap, word, object_at}
 use Rattle.g1_words.specs.Valid.{IsValid}
 use Rattle.g1_words.specs.Live.{Live}
 use Rattle.g1_words.specs.References.{named, root_targets, targets}
 use Rattle.g1_words.specs.Survivors.{firsts, IsBreadthFirst}
-use Rattle.g1_words.proofs.Members.{In, In-from_contains, Contains-from_in, has_from_in}
-use Rattle.g1_words.proofs.Firsts.{In-firsts, firsts_member, firsts-append}
-use Rattle.g1_words.proofs.Indices.{In-take, take_cases, get_or-In, not_has}
+use Rattle.g1_words.proofs.Members.{has_from_contains}
+use Rattle.g1_words.proofs.Firsts.{Contains-firsts, firsts_member, firsts-append}
+use Rattle.g1_words.proofs.Indices.{Contains-take, take_cases, not_has}
+use Rattle.g1_words.proofs.Lists.{range_more}
 use Rattle.g1_same.specs.declared.walk.Walk.{Walk}
 use Rattle.g1_same.specs.Same.{IsRenaming}
 use Rattle.g1_same.specs.Walk.{IsWay, IsWalk, IsEarlier, IsLinked}
@@ -23,26 +25,19 @@ use Rattle.g1_same.proofs.Renamed.{found, live_at, once, same, images}
 
 -- ---- first occurrences of one number more
 
-firsts_known : (xs : List ℕ) (x : ℕ) → In xs x → firsts (xs ++ x ∷ []) ≡ firsts xs
-firsts_known xs x h = firsts-append xs (x ∷ []) ∙ ap (λ b. firsts xs ++ cond (not b) (x ∷ []) []) (has_from_in xs x h) ∙ append-nil (firsts xs)
+firsts_known : (xs : List ℕ) (x : ℕ) → Contains xs x → firsts (xs ++ x ∷ []) ≡ firsts xs
+firsts_known xs x h = firsts-append xs (x ∷ []) ∙ ap (λ b. firsts xs ++ cond (not b) (x ∷ []) []) (has_from_contains xs x h) ∙ append-nil (firsts xs)
 
-firsts_new : (xs : List ℕ) (x : ℕ) → (In xs x → ⊥) → firsts (xs ++ x ∷ []) ≡ firsts xs ++ x ∷ []
+firsts_new : (xs : List ℕ) (x : ℕ) → (Contains xs x → ⊥) → firsts (xs ++ x ∷ []) ≡ firsts xs ++ x ∷ []
 firsts_new xs x h = firsts-append xs (x ∷ []) ∙ ap (λ b. firsts xs ++ cond (not b) (x ∷ []) []) (not_has xs x h)
-
-range_more : (a n : ℕ) → range_with_len a (n + 1) ≡ range_with_len a n ++ (a + n) ∷ []
-range_more a n = let one : suc n ≡ n + 1 = omega arith in subst (λ m. range_with_len a m ≡ range_with_len a n ++ (a + n) ∷ []) one (last a n)
-  where
-    last : (a n : ℕ) → range_with_len a (suc n) ≡ range_with_len a n ++ (a + n) ∷ []
-    last a zero = let e : a ≡ a + 0 = omega arith in ap (λ z. z ∷ []) e
-    last a (suc n) = let e : a + 1 + n ≡ a + suc n = omega arith in ap (λ l. a ∷ l) (last (a + 1) n) ∙ ap (λ z. a ∷ (range_with_len (a + 1) n ++ z ∷ [])) e
 
 -- ---- ways
 
-earlier_cases : (f m k n : ℕ) → IsEarlier f m k (n + 1) → IsEarlier f m k n ⊎ ((f ≡ k) × (m ≡ n))
+pub earlier_cases : (f m k n : ℕ) → IsEarlier f m k (n + 1) → IsEarlier f m k n ⊎ ((f ≡ k) × (m ≡ n))
 earlier_cases f m k n (inl e) = inl (inl e)
 earlier_cases f m k n (inr e) = elim (cases_lt m n) [ inl l ↦ inl (inr (e.0, l)) | inr l ↦ inr (e.0, omega (arith, e.1, l)) ]
 
-earlier_up : (f m k n : ℕ) → IsEarlier f m k n → IsEarlier f m (suc k) 0
+pub earlier_up : (f m k n : ℕ) → IsEarlier f m k n → IsEarlier f m (suc k) 0
 earlier_up f m k n (inl e) = inl (omega (arith, e))
 earlier_up f m k n (inr e) = inl (omega (arith, e.0))
 
@@ -86,7 +81,7 @@ module _ (g h : Heap) (left : IsValid g) (right : IsValid h) (w : Walk) (walk : 
       let again : firsts (l ++ named x) ≡ firsts (l ++ a ∷ []) = ap (λ z. firsts (l ++ named z)) k.2 in
       elim (cases_lt k.0 m) [
         | inl p ↦
-            let there : In l a = firsts_member l a (subst (λ z. In z a) (sym front.names) (In-take m w.before.items k.0 0 p k.1)) in (
+            let there : Contains l a = firsts_member l a (subst (λ z. Contains z a) (sym front.names) (Contains-take m w.before.items k.0 0 p k.1)) in (
               m,
               record {
                 most = front.most;
@@ -116,8 +111,8 @@ module _ (g h : Heap) (left : IsValid g) (right : IsValid h) (w : Walk) (walk : 
               | inr q ↦ omega (arith, p, q)
             ] in
             let lt : m < length w.before.items = omega (arith, last, k.1) in
-            let absent : In l a → ⊥ = λ t.
-            let c = take_cases m w.before.items a 0 (subst (λ z. In z a) front.names (In-firsts l a t)) in
+            let absent : Contains l a → ⊥ = λ t.
+            let c = take_cases m w.before.items a 0 (subst (λ z. Contains z a) front.names (Contains-firsts l a t)) in
             let o : c.0 ≡ k.0 = once g h left right w walk c.0 k.0 c.2 k.1 c.3 in
             omega (arith, o, c.1, p) in (
               m + 1,
@@ -230,9 +225,9 @@ module _ (g h : Heap) (left : IsValid g) (right : IsValid h) (w : Walk) (walk : 
     pub breadth_first : IsBreadthFirst (root_targets g) (targets g) w.before.items
     breadth_first = record {
       reached = λ a. (
-        λ c. let k = place_of w.before.items a (In-from_contains w.before.items a c) in subst (λ z. Live g z) k.2 (live_at g h left right w walk k.0 k.1),
+        λ c. let k = place_of w.before.items a c in subst (λ z. Live g z) k.2 (live_at g h left right w walk k.0 k.1),
         λ live. let k = found g h left right w walk count roots pairs a live in
-            Contains-from_in w.before.items a (subst (λ z. In w.before.items z) k.2 (get_or-In w.before.items k.0 0 k.1)),
+            subst (λ z. Contains w.before.items z) k.2 (Contains-get_or w.before.items k.0 0 k.1),
       );
       in_order = in_order;
     }

@@ -11,8 +11,8 @@ use Rattle.g1_same.specs.declared.walk.Walk.{Walk}
 use Rattle.g1_same.specs.declared.stale.StaleWords.{StaleWords}
 use Rattle.g1_same.specs.Walk.{IsWay, IsEarlier, HasGrown}
 use Rattle.g1_same.specs.Behind.{IsStaleAt, AreByPlace, HasNoneAt, PassesNoStale}
-use Rattle.g1_same.proofs.First.{way_cases}
-use Rattle.g1_same.proofs.Between.{way_one, way_less, none_between, earlier_not, upto, upto_row}
+use Rattle.g1_same.proofs.First.{none_between, way_cases}
+use Rattle.g1_same.proofs.Between.{way_one, way_less, earlier_not, upto, upto_row}
 
 -- no stale word is at a way whose word after is this one
 abbrev pub IsPlain : StaleWords → Walk → ℕ → ℕ → ℕ → Type 0

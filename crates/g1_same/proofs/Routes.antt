@@ -42,10 +42,6 @@ leads_to_push h (k ∷ ss) a n y l lt e = (l.0, leads_push h ss (slice_index h.r
 
 -- ---- ways
 
-way_back : (g h : Heap) (os ns : List ℕ) (f n x y : ℕ) → IsWay g h os ns f n x y → f ≤ length os
-way_back g h os ns zero n x y w = omega arith
-way_back g h os ns (suc j) n x y w = omega (arith, w.0)
-
 pub route_some : (w : Walk) (f n : ℕ) (p : List ℕ) → IsRoute w f n p → 0 < length p
 route_some w f n p (root m) = omega arith
 route_some w f n p (slot j m q lt r) = omega (arith, length_push q m)

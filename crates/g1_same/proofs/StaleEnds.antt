@@ -8,7 +8,7 @@ use Rattle.g1_same.specs.Path.{LeadsTo, Together, Before}
 use Rattle.g1_same.specs.Walk.{IsWay, IsTour, IsRoute, root, slot}
 use Rattle.g1_same.specs.Behind.{IsStaleAt, AreByPlace, PassesNoStale}
 use Rattle.g1_same.specs.Stale.{EndsStale, LeadsToStale, HasNoneBefore}
-use Rattle.g1_same.proofs.Excludes.{leads_to_one}
+use Rattle.g1_same.proofs.Following.{leads_to_one}
 use Rattle.g1_same.proofs.First.{leads_some}
 use Rattle.g1_same.proofs.Routes.{route_leads, route_some}
 use Rattle.g1_same.proofs.Between.{never_first}

@@ -6,6 +6,7 @@ use Rattle.std.proofs.lemmas.List.{get_or_read}
 use Rattle.g1_words.specs.declared.object.Object.{Object}
 use Rattle.g1_words.specs.Heap.{Heap, word, object_at, objects}
 use Rattle.g1_words.specs.Valid.{IsReference}
+pub use Rattle.g1_words.proofs.Logic.{some_then}
 use Rattle.g1_same.specs.declared.pair.Pair.{Pair}
 use Rattle.g1_same.specs.declared.walk.Walk.{Walk}
 use Rattle.g1_same.specs.Walk.{IsTour, IsLinked, IsWay, IsBelow, HasGrown}
@@ -18,9 +19,6 @@ pub none_then : {X : Type 0} (P : Type 0) (o : Option X) → ((x : X) → o ≡ 
 none_then P None none h = h
 none_then P (Some x) none h = absurd (none x refl)
 
-pub some_then : {X : Type 0} (P : X → Type 0) (o : Option X) (x : X) → o ≡ Some x → IfSome o P → P x
-some_then P o x e h = subst (λ o. IfSome o P) e h
-
 pub on_ok : {T E : Type 0} (r : Result T E) (P Q : T → Type 0) → ((x : T) → P x → Q x) → IfOk r P → IfOk r Q
 on_ok (Ok x) P Q f h = f x h
 on_ok (Err e) P Q f h = h
@@ -32,10 +30,6 @@ both_ok (Err e) G P Q f g h = h
 pub some_map : {X : Type 0} (o : Option X) (P Q : X → Type 0) → ((x : X) → P x → Q x) → IfSome o P → IfSome o Q
 some_map None P Q f h = h
 some_map (Some x) P Q f h = f x h
-
-pub none_map : {X : Type 0} (o : Option X) (P Q : Type 0) → (P → Q) → IfNone o P → IfNone o Q
-none_map None P Q f h = f h
-none_map (Some x) P Q f h = h
 
 pub roots_more : (g h : Heap) (w v : Walk) (k : ℕ) → HasGrown w v → LinksRoots g h w k → IsLinked v 0 k (slice_index g.roots k) (slice_index h.roots k) → LinksRoots g h v (k + 1)
 roots_more g h w v k grown linked new n lt = elim (cases_lt n k) [

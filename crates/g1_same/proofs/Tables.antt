@@ -1,25 +1,23 @@
 -- The table of a list: by element, 1 more than its place.
-use Rattle.std.proofs.Common.{◌≡◌, ◌≢◌, ◌↔◌, ℕ, suc, ◌-◌, ◌<◌, ◌≤◌, ◌++◌, inl, inr, false, List, [], ◌∷◌, length, set, refl, sym, subst, ◌∙◌, arith, slice_index, eqb, eqb-true}
+use Rattle.std.proofs.Common.{◌≡◌, ◌≢◌, ◌↔◌, ℕ, suc, ◌-◌, ◌<◌, ◌≤◌, ◌++◌, inl, inr, false, List, [], ◌∷◌, length, set, refl, sym, subst, ◌∙◌, arith, slice_index, eqb, eqb-true, Contains, zero}
 use Rattle.std.proofs.Common.{get_or-set_same, get_or-set_other, length-append}
 use Rattle.std.specs.List.{AllByRecursion, IsDistinct}
 use Rattle.std.proofs.lemmas.Bool.{cases_lt, cases_Bool}
-use Rattle.std.proofs.lemmas.List.{get_or_append_left, get_or_push, length-set}
+use Rattle.std.proofs.lemmas.List.{get_or_append_left, get_or_default, get_or_push, length-set}
 use Rattle.std.proofs.lemmas.Map.Steps.{length-le_from_distinct_below}
 use native.Mathlib.Decide.{ℕ_discrete}
-use Rattle.g1_words.proofs.Members.{In, in_from_has}
+use Rattle.g1_words.proofs.Members.{Contains-from_has, Contains-later}
 use Rattle.g1_same.specs.Walk.{IsIndex}
 
 -- the place of an element of a list
-pub place_of : (l : List ℕ) (a : ℕ) → In l a → (i : ℕ) × (i < length l) × (slice_index l i ≡ a)
-place_of [] a h = absurd h
-place_of (x ∷ l) a (inl e) = (0, omega arith, e)
-place_of (x ∷ l) a (inr h) = let r = place_of l a h in (suc r.0, omega (arith, r.1), r.2)
+pub place_of : (l : List ℕ) (a : ℕ) → Contains l a → (i : ℕ) × (i < length l) × (slice_index l i ≡ a)
+place_of l a c = (c.0, c.1, get_or_default l c.0 0 a c.1 ∙ c.2)
 
 -- no two places have one element
 abbrev Apart : List ℕ → Type 0
 Apart l = (i j : ℕ) → i < length l → j < length l → slice_index l i ≡ slice_index l j → i ≡ j
 
-none_again : (x : ℕ) (l : List ℕ) → Apart (x ∷ l) → In l x → ⊥
+none_again : (x : ℕ) (l : List ℕ) → Apart (x ∷ l) → Contains l x → ⊥
 none_again x l apart h =
     let r = place_of l x h in
     let e : 0 ≡ suc r.0 = apart 0 (suc r.0) (omega arith) (omega (arith, r.1)) (sym r.2) in
@@ -28,11 +26,11 @@ none_again x l apart h =
 apart_rest : (x : ℕ) (l : List ℕ) → Apart (x ∷ l) → Apart l
 apart_rest x l apart i j p q e = let r = apart (suc i) (suc j) (omega (arith, p)) (omega (arith, q)) e in omega (arith, r)
 
-all_other : (x : ℕ) (l : List ℕ) → (In l x → ⊥) → AllByRecursion (λ y. eqb x y ≡ false) l
+all_other : (x : ℕ) (l : List ℕ) → (Contains l x → ⊥) → AllByRecursion (λ y. eqb x y ≡ false) l
 all_other x [] h = tt
 all_other x (y ∷ l) h = (
-  elim (cases_Bool (eqb x y)) [ inl t ↦ absurd (h (inl (sym (eqb-true x y t)))) | inr f ↦ f ],
-  all_other x l (λ k. h (inr k)),
+  elim (cases_Bool (eqb x y)) [ inl t ↦ absurd (h (zero, omega arith, sym (eqb-true x y t))) | inr f ↦ f ],
+  all_other x l (λ k. h (Contains-later y l x k)),
 )
 
 distinct : (l : List ℕ) → Apart l → IsDistinct eqb l
@@ -42,9 +40,9 @@ distinct (x ∷ l) apart = (all_other x l (none_again x l apart), distinct l (ap
 
 -- numbers below n with no two equal are at most n
 few_below : (l : List ℕ) (n : ℕ) → Apart l → ((i : ℕ) → i < length l → slice_index l i < n) → length l ≤ n
-few_below l n apart below = length-le_from_distinct_below l n (distinct l apart) (λ q e. let r = place_of l q (in_from_has l q e) in subst (λ a. a < n) r.2 (below r.0 r.1))
+few_below l n apart below = length-le_from_distinct_below l n (distinct l apart) (λ q e. let r = place_of l q (Contains-from_has l q e) in subst (λ a. a < n) r.2 (below r.0 r.1))
 
-some : (n : ℕ) → n ≢ 0 → n ≡ suc (n - 1)
+pub some : (n : ℕ) → n ≢ 0 → n ≡ suc (n - 1)
 some n h = omega arith
 
 module _ (table l : List ℕ) (index : IsIndex table l) where

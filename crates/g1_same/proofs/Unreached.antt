@@ -12,7 +12,7 @@ use Rattle.g1_same.specs.Walk.{IsWay, IsWalk, IsTour, IsEarlier, IsLinked, IsPai
 use Rattle.g1_same.specs.Behind.{AreByPlace, LinksBetween, PassesNoStale, looked_to}
 use Rattle.g1_same.specs.Stale.{LeadsToStale, HasNoneBefore}
 use Rattle.g1_same.specs.Laws.{NothingLeft, FirstOfAll}
-use Rattle.g1_same.proofs.Excludes.{leads_to_one}
+use Rattle.g1_same.proofs.Following.{leads_to_one}
 use Rattle.g1_same.proofs.First.{LinksEarlier, AlikeEarlier, last_of, leads_some, leads_to_last, none_earlier, none_stale}
 use Rattle.g1_same.proofs.Order.{renaming}
 use Rattle.g1_same.proofs.Between.{never_first, walk_of, all_roots, all_pairs}

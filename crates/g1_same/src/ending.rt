@@ -28,10 +28,10 @@ fn follow(heap: &Heap, root: u64, slots: &[u64]) -> u64
     requires { (y : ℕ) × LeadsTo heap.now (root ∷ slots.now) y }
     ensures { LeadsTo heap.now (root ∷ slots.now) result }
 {
-    g1_words::laws::valid(heap);
+    let words = heap.words();
     let mut reference = heap.roots()[root as usize];
     for slot in slots {
-        reference = heap.words().at(reference + *slot);
+        reference = words.at(reference + *slot);
     }
     reference
 }
@@ -41,9 +41,9 @@ fn value(heap: &Heap, reference: u64, number: u64) -> u64
     requires { HasDataWord heap.now reference number }
     ensures { result ≡ data_word heap.now reference number }
 {
-    g1_words::laws::valid(heap);
-    let object = heap.words().header(reference - 1);
-    heap.words().at(reference + object.refs + number)
+    let words = heap.words();
+    let object = words.header(reference - 1);
+    words.at(reference + object.refs + number)
 }
 
 // The values of two data words that differ.

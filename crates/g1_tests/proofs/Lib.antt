@@ -1,2 +1,1 @@
-mod Client
 mod Rounds

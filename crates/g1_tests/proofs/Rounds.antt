@@ -4,7 +4,6 @@ use Rattle.std.specs.List.{range_with_len}
 use Rattle.std.proofs.lemmas.List.Elements.{All-append, All-cons, All-nil}
 use Rattle.g1_words.specs.Heap.{Heap}
 use Rattle.g1_words.specs.Valid.{IsValid}
-use Rattle.g1_words.proofs.Members.{Contains-from_in}
 use Rattle.g1_claim.specs.Claims.{TableView, SeatView, IsSeatOf}
 use Rattle.g1_frontier.specs.declared.item.Item.TheVariants.{Root, Card, Object}
 use Rattle.g1_frontier.specs.declared.survivors.Search.{Search}
@@ -21,7 +20,7 @@ first_outside h window cards outside =
     let n = length h.roots in
     All-append (IsOutside h window) (root_items n) (map (λ c. Card c n) cards)
     (all_map (IsOutside h window) Root (range_with_len 0 n) (λ i k. tt))
-    (all_map (IsOutside h window) (λ c. Card c n) cards (λ c k. outside c (Contains-from_in cards c k)))
+    (all_map (IsOutside h window) (λ c. Card c n) cards (λ c k. outside c k))
 
 pub objects_outside : (h : Heap) (window : List ℕ) (base : ℕ) (found : List ℕ) → All (IsOutside h window) (object_items h base found)
 objects_outside h window base [] = All-nil (IsOutside h window)

@@ -64,7 +64,6 @@ fn two_objects(heap: &Heap, found: &[u64]) -> Result<[Item; 2], Fault>
     if found.len() != 2 {
         return Err(Fault::Set(1));
     }
-    g1_words::laws::valid(heap);
     let base = heap.roots().len() as u64 + heap.words().len() as u64;
     let at = found[0];
     let slots = match object_at(heap, at) {

@@ -1,5 +1,5 @@
 -- What lines of an image say, as far as they were read, and that the lines of objects add the objects' words.
-use Rattle.std.proofs.Common.{◌≡◌, ℕ, zero, suc, ◌+◌, ◌-◌, ◌*◌, ◌^◌, ◌<◌, ◌≤◌, inl, inr, Bool, false, List, [], ◌∷◌, ◌++◌, length, get_or, take, drop, map, refl, sym, ◌∙◌, ap, subst, arith}
+use Rattle.std.proofs.Common.{◌≡◌, ℕ, zero, suc, ◌+◌, ◌-◌, ◌*◌, ◌^◌, ◌<◌, ◌≤◌, Bool, false, List, [], ◌∷◌, ◌++◌, length, get_or, take, drop, map, refl, sym, ◌∙◌, ap, subst, arith, Contains}
 use Rattle.std.proofs.Common.{append_assoc, append-nil, length-drop, length-take, length-take-le, drop-drop}
 use Rattle.std.specs.Prelude.{Some, All, decimal, codes}
 use Rattle.std.specs.List.{range_with_len}
@@ -11,7 +11,6 @@ use Rattle.g1_words.specs.declared.object.Object.{Object}
 use Rattle.g1_words.specs.declared.region.Region.{Region}
 use Rattle.g1_words.specs.declared.region.Kind.{Kind}
 use Rattle.g1_words.specs.declared.region.Kind.TheVariants.{Ordinary}
-use Rattle.g1_words.proofs.Members.{In}
 use Rattle.g1_words.proofs.Tiling.{Tiles-le}
 use Rattle.g1_image.specs.Image.{Image, IsImage, remembered_of}
 use Rattle.g1_text.specs.Lines.{reference_word, slot_values, data_values, object_line}
@@ -28,9 +27,9 @@ adds_both (l ∷ ls) ms c d e a b = (a.0, a.1, adds_both ls ms a.0 d e a.2 b)
 pub adds_to : (ls : List Line) (c d e : Content) → d ≡ e → Adds c ls d → Adds c ls e
 adds_to ls c d e same a = subst (Adds c ls) same a
 
-pub map_members : {A B : Type 0} (f g : A → B) (xs : List A) → ((x : A) → In xs x → f x ≡ g x) → map f xs ≡ map g xs
+pub map_members : {A B : Type 0} (f g : A → B) (xs : List A) → ((x : A) → Contains xs x → f x ≡ g x) → map f xs ≡ map g xs
 map_members f g [] each = refl
-map_members f g (x ∷ xs) each = let first = each x (inl refl) in let rest = map_members f g xs (λ y m. each y (inr m)) in λ t. first t ∷ rest t
+map_members f g (x ∷ xs) each = let first = each x (zero, omega arith, refl) in let rest = map_members f g xs (λ y m. each y (suc m.0, omega (arith, m.1), m.2)) in λ t. first t ∷ rest t
 
 pub each_small : (xs : List ℕ) → Small xs → All (λ x. x < 2 ^ 64) xs
 each_small [] s k d lt = absurd (omega (arith, lt))
@@ -140,7 +139,7 @@ module _ (i : Image) (good : IsImage i) (r : ℕ) (below : r < i.heap.geometry.n
 
   -- OBJECTS END TO END in an ordinary region add the words from the first one on
   pub objects_add : (os : List Object) (words : List ℕ) (beyond t last found : ℕ) (ats : List ℕ) → Tiles i.heap.words (r * i.heap.geometry.w + t) os (r * i.heap.geometry.w + last) → last ≤ i.heap.geometry.w
-      → ((o : Object) → In os o → IsPlain i.heap.words o × (4 * o.size ≤ 3 * i.heap.geometry.w)) → found + length os < 2 ^ 64
+      → ((o : Object) → Contains os o → IsPlain i.heap.words o × (4 * o.size ≤ 3 * i.heap.geometry.w)) → found + length os < 2 ^ 64
       → Adds (within_region i r p remembered Ordinary words beyond t found ats) (map (said_object i.heap.words) os)
       (within_region i r p remembered Ordinary (words ++ take (last - t) (drop (r * i.heap.geometry.w + t) i.heap.words)) beyond last (found + length os) (ats ++ map address_of os))
   objects_add [] words beyond t last found ats tiles fits each few =
@@ -152,7 +151,7 @@ module _ (i : Image) (good : IsImage i) (r : ℕ) (below : r < i.heap.geometry.n
       λ s. within_region i r p remembered Ordinary (more s) beyond (same s) (all s) (sym (append-nil ats) s)
   objects_add (o ∷ os) words beyond t last found ats tiles fits each few =
       let w : ℕ = i.heap.geometry.w in
-      let plain = (each o (inl refl)).0 in
+      let plain = (each o (zero, omega arith, refl)).0 in
       let end : r * w + t + o.size ≤ r * w + last = Tiles-le i.heap.words (r * w + t + o.size) os (r * w + last) tiles.2 in
       let next : r * w + t + o.size ≡ r * w + (t + o.size) = omega arith in
       let here : List ℕ = drop (r * w + t) i.heap.words in
@@ -165,9 +164,9 @@ module _ (i : Image) (good : IsImage i) (r : ℕ) (below : r < i.heap.geometry.n
       append_assoc words (take o.size (drop o.at i.heap.words)) (take (last - (t + o.size)) (drop (r * w + (t + o.size)) i.heap.words)) ∙ ap (λ l. words ++ l) parts in
       let found_all : found + 1 + length os ≡ found + length (o ∷ os) = omega arith in
       let rest = objects_add os (words ++ take o.size (drop o.at i.heap.words)) beyond (t + o.size) last (found + 1) (ats ++ o.at ∷ [])
-      (subst (λ a. Tiles i.heap.words a os (r * w + last)) next tiles.2) fits (λ q m. each q (inr m)) (omega (arith, few)) in (
+      (subst (λ a. Tiles i.heap.words a os (r * w + last)) next tiles.2) fits (λ q m. each q (suc m.0, omega (arith, m.1), m.2)) (omega (arith, few)) in (
         within_region i r p remembered Ordinary (words ++ take o.size (drop o.at i.heap.words)) beyond (t + o.size) (found + 1) (ats ++ o.at ∷ []),
-        object_adds Ordinary words beyond t found ats o plain tiles.0 ((each o (inl refl)).1, omega (arith, end, fits)) (omega (arith, few)),
+        object_adds Ordinary words beyond t found ats o plain tiles.0 ((each o (zero, omega arith, refl)).1, omega (arith, end, fits)) (omega (arith, few)),
         adds_to (map (said_object i.heap.words) os) (within_region i r p remembered Ordinary (words ++ take o.size (drop o.at i.heap.words)) beyond (t + o.size) (found + 1) (ats ++ o.at ∷ []))
             (within_region i r p remembered Ordinary
             ((words ++ take o.size (drop o.at i.heap.words)) ++ take (last - (t + o.size)) (drop (r * w + (t + o.size)) i.heap.words)) beyond last (found + 1 + length os) ((ats ++ o.at ∷ []) ++ map address_of os))

@@ -1,15 +1,14 @@
 -- The lines of an image are lines of words: its numbers have 64 bits.
-use Rattle.std.proofs.Common.{ℕ, zero, suc, ◌+◌, ◌-◌, ◌*◌, ◌/◌, ◌<◌, ◌≤◌, ◌^◌, inl, inr, Bool, true, false, List, [], ◌∷◌, ◌++◌, length, get_or, drop, map, flat_map, refl, arith}
+use Rattle.std.proofs.Common.{ℕ, zero, suc, ◌+◌, ◌-◌, ◌*◌, ◌/◌, ◌<◌, ◌≤◌, ◌^◌, inl, inr, Bool, true, false, List, [], ◌∷◌, ◌++◌, length, get_or, drop, map, flat_map, refl, arith, Contains}
 use Rattle.std.specs.Prelude.{Option, Some, None, IfSome, decimal, codes, slice_index, nat_lt}
 use Rattle.std.proofs.Math.Nat.{mul-le-mul_left}
 use Rattle.g1_words.specs.Geometry.{most_words, most_region_words}
 use Rattle.g1_words.specs.Heap.{Heap, kind, top, pinned, regions, objects_in, objects_by, object_at, tiles, start, end}
 use Rattle.g1_words.specs.Kind.{kind_word}
-use Rattle.g1_words.specs.Valid.{IsObject, IsReference, IsValid}
+use Rattle.g1_words.specs.Valid.{IsObject, IsReference}
 use Rattle.g1_words.specs.declared.object.Object.{Object}
 use Rattle.g1_words.specs.declared.region.Kind.{Kind}
 use Rattle.g1_words.specs.declared.region.Kind.TheVariants.{Free, Ordinary, HumongousFirst, Continuation}
-use Rattle.g1_words.proofs.Members.{In, Contains-from_in}
 use Rattle.g1_words.proofs.Bounds.{object_within}
 use Rattle.g1_words.proofs.Computed.{in_region_has}
 use Rattle.g1_words.proofs.Objects.{object_stands, tops_fit}
@@ -62,18 +61,15 @@ remembered_are_lines r [] small s = tt
 remembered_are_lines r (c ∷ cs) small s = ((by_letters (codes "remembered") refl, (number_word r small, (by_letters (codes "cards") refl, numbers_words (c ∷ cs) s))), tt)
 
 module _ (i : Image) (good : IsImage i) where
-  valid : IsValid i.heap
-  valid = good.heap
-
   few_words : i.heap.geometry.n * i.heap.geometry.w ≤ most_words
-  few_words = valid.limits.words_most
+  few_words = good.heap.limits.words_most
 
   words_small : Small i.heap.words
-  words_small = small_all i.heap.words valid.word_fits
+  words_small = small_all i.heap.words good.heap.word_fits
 
   card_small : (c : ℕ) → IsUsedCard i.heap c → c < 2 ^ 64
   card_small c used =
-      let more : c * 4 ≤ c * i.heap.geometry.k = mul-le-mul_left c valid.limits.k_least in
+      let more : c * 4 ≤ c * i.heap.geometry.k = mul-le-mul_left c good.heap.limits.k_least in
       omega (arith, more, used.in_heap, few_words)
 
   pub log_small : Small i.log
@@ -84,20 +80,20 @@ module _ (i : Image) (good : IsImage i) where
 
   reference_small : (x : ℕ) → IsReference i.heap x → x < 2 ^ 64
   reference_small x (inl e) = omega (arith, e)
-  reference_small x (inr r) = let within = object_within i.heap valid r.0 r.1 in omega (arith, within, r.2, few_words)
+  reference_small x (inr r) = let within = object_within i.heap good.heap r.0 r.1 in omega (arith, within, r.2, few_words)
 
   pub roots_small : Small i.heap.roots
-  roots_small = small_all i.heap.roots (λ k d lt. reference_small (get_or i.heap.roots k d) (valid.roots k d lt))
+  roots_small = small_all i.heap.roots (λ k d lt. reference_small (get_or i.heap.roots k d) (good.heap.roots k d lt))
 
   pub top_small : (r : ℕ) → r < i.heap.geometry.n → top i.heap r ≤ most_region_words
-  top_small r lt = let t = tops_fit i.heap valid r (record { kind = Free; top = 0; pinned = false }) (omega (arith, lt, valid.region_count)) in omega (arith, t, valid.limits.w_most)
+  top_small r lt = let t = tops_fit i.heap good.heap r (record { kind = Free; top = 0; pinned = false }) (omega (arith, lt, good.heap.region_count)) in omega (arith, t, good.heap.limits.w_most)
 
   -- an object's numbers
-  pub object_small : (r : ℕ) (o : Object) → r < i.heap.geometry.n → In (objects_in i.heap r) o → (o.at < 2 ^ 64) × (o.size < 2 ^ 64) × (o.refs < 2 ^ 64)
+  pub object_small : (r : ℕ) (o : Object) → r < i.heap.geometry.n → Contains (objects_in i.heap r) o → (o.at < 2 ^ 64) × (o.size < 2 ^ 64) × (o.refs < 2 ^ 64)
   object_small r o lt m =
-      let has = in_region_has i.heap r o valid.shaped lt (Contains-from_in (objects_in i.heap r) o m) in
-      let within = object_within i.heap valid o has in
-      let stands = object_stands i.heap o (o.at / i.heap.geometry.w) valid has refl in
+      let has = in_region_has i.heap r o good.heap.shaped lt m in
+      let within = object_within i.heap good.heap o has in
+      let stands = object_stands i.heap o (o.at / i.heap.geometry.w) good.heap has refl in
       let object : IsObject i.heap.words o = stands_object (kind i.heap (o.at / i.heap.geometry.w)) i.heap (o.at / i.heap.geometry.w) o stands.1 in
       (omega (arith, within, few_words), omega (arith, object.size_fits), omega (arith, object.size_fits, object.refs_fit))
 
@@ -107,7 +103,7 @@ module _ (i : Image) (good : IsImage i) where
   pub data_small : (o : Object) → Small (data_values i.heap.words o)
   data_small o = small_take (o.at + o.size - (o.at + 1 + o.refs)) (drop (o.at + 1 + o.refs) i.heap.words) (small_drop (o.at + 1 + o.refs) i.heap.words words_small)
 
-  object_is_line : (r : ℕ) (o : Object) → r < i.heap.geometry.n → In (objects_in i.heap r) o → IsLine (object_line i.heap.words o)
+  object_is_line : (r : ℕ) (o : Object) → r < i.heap.geometry.n → Contains (objects_in i.heap r) o → IsLine (object_line i.heap.words o)
   object_is_line r o lt m =
       let small = object_small r o lt m in (
         by_letters (codes "object") refl,
@@ -123,7 +119,7 @@ module _ (i : Image) (good : IsImage i) where
 
   region_is_line : (r : ℕ) → r < i.heap.geometry.n → IsLine (region_line i r)
   region_is_line r lt =
-      let most = valid.limits.n_most in
+      let most = good.heap.limits.n_most in
       let tops = top_small r lt in
       let few = objects_few (kind i.heap r) i.heap r in (
         by_letters (codes "region") refl,
@@ -158,13 +154,13 @@ module _ (i : Image) (good : IsImage i) where
   region_are_lines r lt = (
     region_is_line r lt,
     lines_append (remembered_lines r (remembered_of i r)) (map (object_line i.heap.words) (objects_in i.heap r))
-        (remembered_are_lines r (remembered_of i r) (let most = valid.limits.n_most in omega (arith, lt, most)) (remembered_small r lt))
+        (remembered_are_lines r (remembered_of i r) (let most = good.heap.limits.n_most in omega (arith, lt, most)) (remembered_small r lt))
         (member_lines (object_line i.heap.words) (objects_in i.heap r) (λ o m. object_is_line r o lt m)),
   )
 
   heading_is_line : IsLine (heading i)
   heading_is_line =
-      let limits = valid.limits in (
+      let limits = good.heap.limits in (
         by_letters (codes "heap") refl,
         (
           number_word i.heap.geometry.w (omega (arith, limits.w_most)),
@@ -175,12 +171,12 @@ module _ (i : Image) (good : IsImage i) where
               (
                 by_letters (codes "roots") refl,
                 (
-                  number_word (length i.heap.roots) (omega (arith, valid.root_count)),
+                  number_word (length i.heap.roots) (omega (arith, good.heap.root_count)),
                   (
                     by_letters (codes "dirty") refl,
                     (
                       number_word (length i.log) (omega (arith, good.log.count)),
-                      (by_letters (codes "current") refl, (current_is_word i.heap.current (current_small i.heap.current i.heap.geometry.n limits.n_most valid.current_in), tt)),
+                      (by_letters (codes "current") refl, (current_is_word i.heap.current (current_small i.heap.current i.heap.geometry.n limits.n_most good.heap.current_in), tt)),
                     ),
                   ),
                 ),
@@ -192,7 +188,7 @@ module _ (i : Image) (good : IsImage i) where
 
   roots_are_lines : AreLines (root_lines i.heap.roots)
   roots_are_lines = range_lines (λ m. root_line m (slice_index i.heap.roots m)) 0 (length i.heap.roots)
-      (λ m lt. (by_letters (codes "root") refl, (number_word m (omega (arith, lt, valid.root_count)), (reference_is_word (slice_index i.heap.roots m) (small_at i.heap.roots m roots_small), tt))))
+      (λ m lt. (by_letters (codes "root") refl, (number_word m (omega (arith, lt, good.heap.root_count)), (reference_is_word (slice_index i.heap.roots m) (small_at i.heap.roots m roots_small), tt))))
 
   pub image_are_lines : AreLines (image_lines i)
   image_are_lines = (

@@ -7,17 +7,17 @@ use Rattle.std.proofs.lemmas.Slice.Eq.{bytes_eq-Decides}
 use Rattle.std.proofs.lemmas.Slice.Zip.{AllZip-long}
 use Rattle.std.proofs.lemmas.List.{map-append, length-map, get_or-map, get_or_default}
 use Rattle.std.proofs.lemmas.List.FromFn.{length-range_with_len}
-use Rattle.std.proofs.lemmas.List.Elements.{All-nil, All-cons, All-contains, Contains-get_or}
+use Rattle.std.proofs.lemmas.List.Elements.{All-nil, All-cons, All-contains, Contains-get_or, Contains-append_cases, Contains-append_right}
 use Rattle.std.proofs.lemmas.List.Folds.{flat_map-map}
 use Rattle.g1_words.specs.Heap.{Heap, word}
 use Rattle.g1_words.specs.Copy.{words_at}
 use Rattle.g1_words.specs.Valid.{IsObject, HasObject}
 use Rattle.g1_words.specs.declared.object.Object.{Object}
 use Rattle.g1_words.specs.declared.region.Region.{Region}
-use Rattle.g1_words.proofs.Members.{In, In-from_contains, Contains-from_in, In-append_right, In-append_cases, In-map, map_cases, In-flat_map}
+use Rattle.g1_words.proofs.Members.{Contains-map, map_cases, Contains-flat_map, Contains-first, Contains-later}
 use Rattle.g1_words.proofs.Ordered.{Ordered, pairs_from_ordered}
 use Rattle.g1_words.proofs.Rising.{Ordered-append, Ordered-range}
-use Rattle.g1_words.proofs.Computed.{In-range, range_above, range_below}
+use Rattle.g1_words.proofs.Computed.{Contains-range, range_above, range_below}
 use Rattle.g1_words.proofs.Lists.{Ordered-append_right, Ordered-unmap, range_split}
 use Rattle.g1_image.specs.Image.{entry_of, all_words}
 use Rattle.g1_text.specs.declared.placing.Entry.{Entry}
@@ -49,35 +49,35 @@ zip_indexed R [] (y ∷ ys) d e l f = absurd (omega (arith, l))
 zip_indexed R (x ∷ xs) [] d e l f = absurd (omega (arith, l))
 zip_indexed R (x ∷ xs) (y ∷ ys) d e l f = (f 0 (omega arith), zip_indexed R xs ys d e (omega (arith, l)) (λ k lt. f (suc k) (omega (arith, lt))))
 
-in_zip : {A B : Type 0} (xs : List A) (ys : List B) (d : A) (e : B) (k : ℕ) → length ys ≡ length xs → k < length xs → In (zip xs ys) (get_or xs k d, get_or ys k e)
+in_zip : {A B : Type 0} (xs : List A) (ys : List B) (d : A) (e : B) (k : ℕ) → length ys ≡ length xs → k < length xs → Contains (zip xs ys) (get_or xs k d, get_or ys k e)
 in_zip [] ys d e k l lt = absurd (omega (arith, lt))
 in_zip (x ∷ xs) [] d e k l lt = absurd (omega (arith, l))
-in_zip (x ∷ xs) (y ∷ ys) d e zero l lt = inl refl
-in_zip (x ∷ xs) (y ∷ ys) d e (suc k) l lt = inr (in_zip xs ys d e k (omega (arith, l)) (omega (arith, lt)))
+in_zip (x ∷ xs) (y ∷ ys) d e zero l lt = (zero, omega arith, refl)
+in_zip (x ∷ xs) (y ∷ ys) d e (suc k) l lt = let m = in_zip xs ys d e k (omega (arith, l)) (omega (arith, lt)) in (suc m.0, omega (arith, m.1), m.2)
 
-zip_cases : {A B : Type 0} (xs : List A) (ys : List B) (d : A) (e : B) (p : A × B) → length ys ≡ length xs → In (zip xs ys) p → (k : ℕ) × (k < length xs) × ((get_or xs k d, get_or ys k e) ≡ p)
-zip_cases [] ys d e p l i = elim i [ ]
+zip_cases : {A B : Type 0} (xs : List A) (ys : List B) (d : A) (e : B) (p : A × B) → length ys ≡ length xs → Contains (zip xs ys) p → (k : ℕ) × (k < length xs) × ((get_or xs k d, get_or ys k e) ≡ p)
+zip_cases [] ys d e p l i = absurd (omega (arith, i.1))
 zip_cases (x ∷ xs) [] d e p l i = absurd (omega (arith, l))
-zip_cases (x ∷ xs) (y ∷ ys) d e p l (inl q) = (0, omega arith, q)
-zip_cases (x ∷ xs) (y ∷ ys) d e p l (inr i) = let r = zip_cases xs ys d e p (omega (arith, l)) i in (suc r.0, omega (arith, r.1), r.2)
+zip_cases (x ∷ xs) (y ∷ ys) d e p l (zero, b, q) = (0, omega arith, q)
+zip_cases (x ∷ xs) (y ∷ ys) d e p l (suc k, b, eq) = let r = zip_cases xs ys d e p (omega (arith, l)) (k, omega (arith, b), eq) in (suc r.0, omega (arith, r.1), r.2)
 
-ordered_across : {A : Type 0} (R : A → A → Type 0) (xs ys : List A) (x y : A) → Ordered R (xs ++ ys) → In xs x → In ys y → R x y
-ordered_across R [] ys x y o i j = elim i [ ]
-ordered_across R (z ∷ xs) ys x y o (inl e) j = subst (λ a. R a y) e (o.0 y (In-append_right xs ys y j))
-ordered_across R (z ∷ xs) ys x y o (inr i) j = ordered_across R xs ys x y o.1 i j
+ordered_across : {A : Type 0} (R : A → A → Type 0) (xs ys : List A) (x y : A) → Ordered R (xs ++ ys) → Contains xs x → Contains ys y → R x y
+ordered_across R [] ys x y o i j = absurd (omega (arith, i.1))
+ordered_across R (z ∷ xs) ys x y o (zero, b, e) j = subst (λ a. R a y) e (o.0 y (Contains-append_right xs ys y j))
+ordered_across R (z ∷ xs) ys x y o (suc k, b, e) j = ordered_across R xs ys x y o.1 (k, omega (arith, b), e) j
 
 -- one of two places in an order has the lower number
-ordered_apart : (f : ℕ → ℕ) (xs : List ℕ) (i j : ℕ) → Ordered (λ a b. f a < f b) xs → In xs i → In xs j → f i ≡ f j → i ≡ j
-ordered_apart f [] i j o a b e = elim a [ ]
-ordered_apart f (x ∷ xs) i j o (inl p) (inl q) e = sym p ∙ q
-ordered_apart f (x ∷ xs) i j o (inl p) (inr b) e = let less : f x < f j = o.0 j b in let same = ap f p in absurd (omega (arith, less, same, e))
-ordered_apart f (x ∷ xs) i j o (inr a) (inl q) e = let less : f x < f i = o.0 i a in let same = ap f q in absurd (omega (arith, less, same, e))
-ordered_apart f (x ∷ xs) i j o (inr a) (inr b) e = ordered_apart f xs i j o.1 a b e
+ordered_apart : (f : ℕ → ℕ) (xs : List ℕ) (i j : ℕ) → Ordered (λ a b. f a < f b) xs → Contains xs i → Contains xs j → f i ≡ f j → i ≡ j
+ordered_apart f [] i j o a b e = absurd (omega (arith, a.1))
+ordered_apart f (x ∷ xs) i j o (zero, b, p) (zero, lt, q) e = sym p ∙ q
+ordered_apart f (x ∷ xs) i j o (zero, lt, p) (suc k, below, eq) e = let less : f x < f j = o.0 j (k, omega (arith, below), eq) in let same = ap f p in absurd (omega (arith, less, same, e))
+ordered_apart f (x ∷ xs) i j o (suc k, b, eq) (zero, lt, q) e = let less : f x < f i = o.0 i (k, omega (arith, b), eq) in let same = ap f q in absurd (omega (arith, less, same, e))
+ordered_apart f (x ∷ xs) i j o (suc k, lt, eq) (suc n, less, same) e = ordered_apart f xs i j o.1 (k, omega (arith, lt), eq) (n, omega (arith, less), same) e
 
 -- the used words of regions have rising addresses
-used_from : (w from : ℕ) (qs : List Region) (a : ℕ) → In (used_addresses w from qs) a → from ≤ a
-used_from w from [] a i = elim i [ ]
-used_from w from (q ∷ qs) a i = elim (In-append_cases (range_with_len from q.top) (used_addresses w (from + w) qs) a i) [
+used_from : (w from : ℕ) (qs : List Region) (a : ℕ) → Contains (used_addresses w from qs) a → from ≤ a
+used_from w from [] a i = absurd (omega (arith, i.1))
+used_from w from (q ∷ qs) a i = elim (Contains-append_cases (range_with_len from q.top) (used_addresses w (from + w) qs) a i) [
   | inl k ↦ range_above from q.top a k
   | inr k ↦ (let le = used_from w (from + w) qs a k in omega (arith, le))
 ]
@@ -95,8 +95,8 @@ objects_rise : (os : List (NamedObject × ℕ)) → Ordered (λ x y. x < y) (fla
 objects_rise [] r = tt
 objects_rise (o ∷ os) r = (
   (λ p i. ordered_across (λ x y. x < y) (own_addresses (heap_object o)) (flat_map (λ o. own_addresses (heap_object o)) os) o.1 p.1 r
-      (In-range o.1 (size_of o.0) o.1 (omega arith) (omega arith))
-      (In-flat_map (λ o. own_addresses (heap_object o)) os p p.1 i (In-range p.1 (size_of p.0) p.1 (omega arith) (omega arith)))),
+      (Contains-range o.1 (size_of o.0) o.1 (omega arith) (omega arith))
+      (Contains-flat_map (λ o. own_addresses (heap_object o)) os p p.1 i (Contains-range p.1 (size_of p.0) p.1 (omega arith) (omega arith)))),
   objects_rise os (Ordered-append_right (λ x y. x < y) (own_addresses (heap_object o)) (flat_map (λ o. own_addresses (heap_object o)) os) r),
 )
 
@@ -155,7 +155,7 @@ module _ (g : NamedGraph) (ats order : List ℕ) (h : Heap) (wordss : List (List
   read =
       ap (map (word h)) whole ∙ ap (λ ws. map (λ a. slice_index ws a) (used_addresses h.geometry.w 0 h.regions)) words ∙ laid_words h.geometry.w [] h.regions (flat_map (λ ws. ws) wordss) tops long
 
-  their_words : (o : NamedObject × ℕ) → In (located g ats order) o → AreWordsOf g ats o.0 (words_at h o.1 (size_of o.0))
+  their_words : (o : NamedObject × ℕ) → Contains (located g ats order) o → AreWordsOf g ats o.0 (words_at h o.1 (size_of o.0))
   their_words o i =
       let both = zip_both (λ o ws. AreWordsOf g ats o.0 ws) (λ o ws. map (word h) (own o) ≡ ws) (located g ats order) wordss o are (split_words (word h) own (located g ats order) wordss sizes read) i in
       subst (AreWordsOf g ats o.0) (sym both.2) both.1
@@ -164,24 +164,24 @@ module _ (g : NamedGraph) (ats order : List ℕ) (h : Heap) (wordss : List (List
   pair k = (object_of g k, slice_index ats k)
 
   -- the objects are those of the graph
-  place_below : (k : ℕ) → In order k → k < length g.objects
-  place_below k i = All-contains (λ k. k < length g.objects) order k places (Contains-from_in order k i)
+  place_below : (k : ℕ) → Contains order k → k < length g.objects
+  place_below k i = All-contains (λ k. k < length g.objects) order k places i
 
-  pub pair_in : (k : ℕ) → k < length g.objects → In (located g ats order) (pair k)
-  pair_in k lt = In-map pair order k (In-from_contains order k (all k lt))
+  pub pair_in : (k : ℕ) → k < length g.objects → Contains (located g ats order) (pair k)
+  pair_in k lt = Contains-map pair order k (all k lt)
 
-  pub located_fits : (o : NamedObject × ℕ) → In (located g ats order) o → size_of o.0 < 2 ^ 32
+  pub located_fits : (o : NamedObject × ℕ) → Contains (located g ats order) o → size_of o.0 < 2 ^ 32
   located_fits o i = let m = map_cases pair order o i in subst (λ p. size_of p.0 < 2 ^ 32) m.2 (fits m.0 (record { name = []; slots = []; written = [] }) (place_below m.0 m.1))
 
-  each : (o : Object) → In (map heap_object (located g ats order)) o → IsObject h.words o
+  each : (o : Object) → Contains (map heap_object (located g ats order)) o → IsObject h.words o
   each o i =
       let m = map_cases heap_object (located g ats order) o i in
       subst (IsObject h.words) m.2 (is_object g ats h m.0.0 m.0.1 (located_fits m.0 m.1) (their_words m.0 m.1))
 
-  pub stands : (o : NamedObject × ℕ) → In (located g ats order) o → StandsAt g ats h o.0 o.1
+  pub stands : (o : NamedObject × ℕ) → Contains (located g ats order) o → StandsAt g ats h o.0 o.1
   stands o i =
       stands_at g ats h o.0 o.1 (located_fits o i) (their_words o i)
-      (is_there h (map heap_object (located g ats order)) regions starts each (heap_object o) (In-map heap_object (located g ats order) o i))
+      (is_there h (map heap_object (located g ats order)) regions starts each (heap_object o) (Contains-map heap_object (located g ats order) o i))
 
   rise : Ordered (λ o p. o.1 < p.1) (located g ats order)
   rise = objects_rise (located g ats order) (subst (Ordered (λ x y. x < y)) (sym whole) (used_rise h.geometry.w 0 h.regions tops))
@@ -191,7 +191,7 @@ module _ (g : NamedGraph) (ats order : List ℕ) (h : Heap) (wordss : List (List
       let first : slice_index_or ats i d ≡ slice_index ats i = get_or_default ats i d 0 (omega (arith, lt, len)) in
       let second : slice_index_or ats j d ≡ slice_index ats j = get_or_default ats j d 0 len in
       let e : i ≡ j = ordered_apart (slice_index ats) order i j (Ordered-unmap (λ (o p : NamedObject × ℕ). o.1 < p.1) pair order rise)
-      (In-from_contains order i (all i (omega (arith, lt, len, count)))) (In-from_contains order j (all j (omega (arith, len, count)))) (sym first ∙ same ∙ second) in
+      (all i (omega (arith, lt, len, count))) (all j (omega (arith, len, count))) (sym first ∙ same ∙ second) in
       absurd (omega (arith, e, lt))
 
   others : (o : Object) → HasObject h o → Contains ats o.at
@@ -216,11 +216,11 @@ module _ (g : NamedGraph) (ats order : List ℕ) (h : Heap) (wordss : List (List
     rising = pairs_from_ordered (λ (o p : NamedObject × ℕ). o.1 < p.1) (located g ats order) rise;
     all = λ o. (
       (λ i.
-          let m = map_cases pair order o (In-from_contains (located g ats order) o i) in
-          Contains-from_in (zip g.objects ats) o (subst (In (zip g.objects ats)) m.2 (in_zip g.objects ats (record { name = []; slots = []; written = [] }) 0 m.0 count (place_below m.0 m.1)))),
+          let m = map_cases pair order o i in
+          subst (Contains (zip g.objects ats)) m.2 (in_zip g.objects ats (record { name = []; slots = []; written = [] }) 0 m.0 count (place_below m.0 m.1))),
       (λ i.
-          let z = zip_cases g.objects ats (record { name = []; slots = []; written = [] }) 0 o count (In-from_contains (zip g.objects ats) o i) in
-          Contains-from_in (located g ats order) o (subst (In (located g ats order)) z.2 (pair_in z.0 z.1))),
+          let z = zip_cases g.objects ats (record { name = []; slots = []; written = [] }) 0 o count i in
+          subst (Contains (located g ats order)) z.2 (pair_in z.0 z.1)),
     );
     names = a;
     roots = b;
@@ -239,10 +239,10 @@ some_there name n k (x ∷ objects) e = at (bytes_eq name x.name) refl (λ rest.
   where
     at : (b : Bool) → bytes_eq name x.name ≡ b → (position_from (λ o. bytes_eq name o.name) (n + 1) objects ≡ Some k → (o : NamedObject) × Contains objects o × (o.name ≡ name))
         → (o : NamedObject) × Contains (x ∷ objects) o × (o.name ≡ name)
-    at true t more = (x, Contains-from_in (x ∷ objects) x (inl refl), sym ((bytes_eq-Decides name x.name).0 t))
+    at true t more = (x, Contains-first x objects, sym ((bytes_eq-Decides name x.name).0 t))
     at false f more =
         let r = more (sym (ap (λ b. cond b (Some n) (position_from (λ o. bytes_eq name o.name) (n + 1) objects)) f) ∙ e) in
-        (r.0, Contains-from_in (x ∷ objects) r.0 (inr (In-from_contains objects r.0 r.1)), r.2)
+        (r.0, Contains-later x objects r.0 r.1, r.2)
 
 module _ (g : NamedGraph) where
   named_if : (n : ℕ) (name : List ℕ) (place : Option ℕ) → place_of name g.objects ≡ place → stale_if place n name ≡ [] → IsNamed g (Some name)
@@ -259,17 +259,17 @@ module _ (g : NamedGraph) where
       let both = none_both (stale_at g n target) (stale_from g (n + 1) targets) none in
       All-cons (IsNamed g) target targets (named_one n target both.0) (named_all (n + 1) targets both.1)
 
-  none_each : {A B : Type 0} (f : A → List B) (xs : List A) (x : A) → flat_map f xs ≡ [] → In xs x → f x ≡ []
-  none_each f [] x none i = elim i [ ]
-  none_each f (y ∷ xs) x none (inl e) = ap f (sym e) ∙ (none_both (f y) (flat_map f xs) none).0
-  none_each f (y ∷ xs) x none (inr i) = none_each f xs x (none_both (f y) (flat_map f xs) none).1 i
+  none_each : {A B : Type 0} (f : A → List B) (xs : List A) (x : A) → flat_map f xs ≡ [] → Contains xs x → f x ≡ []
+  none_each f [] x none i = absurd (omega (arith, i.1))
+  none_each f (y ∷ xs) x none (zero, b, e) = ap f (sym e) ∙ (none_both (f y) (flat_map f xs) none).0
+  none_each f (y ∷ xs) x none (suc k, b, e) = none_each f xs x (none_both (f y) (flat_map f xs) none).1 (k, omega (arith, b), e)
 
   pub all_named : (ats order : List ℕ) → ((k : ℕ) → k < length g.objects → Contains order k) → stale_from g 0 (root_targets g) ≡ [] → flat_map (stale_slots g) (located g ats order) ≡ [] → AllNamed g
   all_named ats order all roots slots = record {
     roots = named_all 0 (root_targets g) roots;
     slots = λ k d lt.
         let here : (NamedObject × ℕ) = (object_of g k, slice_index ats k) in
-        let i : In (located g ats order) here = In-map (λ k. (object_of g k, slice_index ats k)) order k (In-from_contains order k (all k lt)) in
+        let i : Contains (located g ats order) here = Contains-map (λ k. (object_of g k, slice_index ats k)) order k (all k lt) in
         let one : All (IsNamed g) (object_of g k).slots = named_all (slice_index ats k + 1) (object_of g k).slots (none_each (stale_slots g) (located g ats order) here slots i) in
         subst (λ (o : NamedObject). All (IsNamed g) o.slots) (get_or_default g.objects k (record { name = []; slots = []; written = [] }) d lt) one;
   }

@@ -6,9 +6,10 @@ use Rattle.std.specs.Int.{IsInRange}
 use Rattle.std.specs.Str.Parse.{AllDigits, digits_value, digits_value_after}
 use Rattle.std.proofs.lemmas.List.{drop_more}
 use Rattle.std.proofs.lemmas.Str.{digit_value_digit}
-use Rattle.std.proofs.lemmas.Str.Parse.{IsNumeralModel, numerals_by_value, tells_digits, digit_from_value}
+use Rattle.std.proofs.lemmas.Str.Parse.{digit_from_value}
 use Rattle.std.proofs.lemmas.Fmt.{digits_decimal, digits_value-decimal, decimal_nonempty}
 use Rattle.g1_text.specs.Forms.{Spells, IsBelow}
+use Rattle.g1_words.proofs.Numerals.{by_value}
 
 -- of the digits `all`, those before `rest` write n
 pub record SoFar (all rest : List ℕ) (n : ℕ) : Type 0 where
@@ -57,11 +58,8 @@ all_read text bytes at n e s end some fits =
     let t : SoFar text [] n = subst (λ l. SoFar text l n) (drop_of_length-le bytes end) s in
     ((omega (arith, ap length e, some), t.back tt), sym t.same, fits)
 
-pub plainly : IsNumeralModel (AllDigits 10) (digits_value 10)
-plainly = numerals_by_value (AllDigits 10) tells_digits
-
 written : (bs : List ℕ) (n : ℕ) → n < 2 ^ 64 → bs ≡ decimal n → Spells (2 ^ 64) n bs
-written bs n small e = subst (Spells (2 ^ 64) n) (sym e) ((decimal_nonempty n small, digits_decimal plainly n small), digits_value-decimal plainly n small, small)
+written bs n small e = subst (Spells (2 ^ 64) n) (sym e) ((decimal_nonempty n small, digits_decimal by_value n small), digits_value-decimal by_value n small, small)
 
 -- a word that a number is written as is read as this number
 pub decimal_read : (bs : List ℕ) (o : Option ℕ) → MatchOption o (IsBelow (2 ^ 64) bs → ⊥) (λ m. Spells (2 ^ 64) m bs) → (n : ℕ) → n < 2 ^ 64 → bs ≡ decimal n → o ≡ Some n

@@ -4,13 +4,12 @@ use Rattle.std.specs.List.{range_with_len}
 use Rattle.std.proofs.lemmas.List.Filters.{length-filter_both}
 use Rattle.std.proofs.lemmas.List.FromFn.{length-range_with_len, get_or-map-range_with_len, length-map-range_with_len}
 use Rattle.std.proofs.Math.Nat.{div-mul-le_self, mul-le-mul_left}
+use Rattle.std.proofs.lemmas.List.Elements.{Contains-get_or}
 use Rattle.g1_words.specs.Heap.{Heap, regions, kind, region_of, object_at}
 use Rattle.g1_words.specs.Valid.{IsValid}
 use Rattle.g1_words.specs.Kind.{MayHoldCards}
 use Rattle.g1_words.proofs.Bounds.{object_within}
 use Rattle.g1_words.proofs.Computed.{has_contains}
-use Rattle.g1_words.proofs.Indices.{get_or-In}
-use Rattle.g1_words.proofs.Members.{Contains-from_in}
 use Rattle.g1_words.proofs.Rising.{ref_tells}
 use Rattle.g1_words.proofs.Shapes.{built}
 use Rattle.g1_words.proofs.Sound.{sound}
@@ -52,7 +51,7 @@ module _ (h : Heap) (valid : IsValid h) where
         ]
 
     member : (k d : ℕ) → k < length (exact h r) → Puts h valid r (get_or (exact h r) k d)
-    member k d lt = (exact_tells h valid r (get_or (exact h r) k d)).0 (Contains-from_in (exact h r) (get_or (exact h r) k d) (get_or-In (exact h r) k d lt))
+    member k d lt = (exact_tells h valid r (get_or (exact h r) k d)).0 (Contains-get_or (exact h r) k d lt)
 
     few : length (exact h r) < 2 ^ 32
     few =

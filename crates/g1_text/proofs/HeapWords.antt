@@ -1,19 +1,20 @@
 -- What stands at the addresses of a heap that a file tells.
-use Rattle.std.proofs.Common.{◌≡◌, ◌≤◌, ◌<◌, inl, inr, ℕ, zero, suc, ◌+◌, ◌-◌, ◌*◌, List, [], ◌∷◌, ◌++◌, length, get_or, slice_index, slice_index_or, map, flat_map, min, take, drop, replicate, append_assoc, length-append, length-take, refl, sym, ◌∙◌, ap, subst, arith}
+use Rattle.std.proofs.Common.{◌≡◌, ◌≤◌, ◌<◌, inl, inr, ℕ, zero, suc, ◌+◌, ◌-◌, ◌*◌, List, [], ◌∷◌, ◌++◌, length, get_or, slice_index, slice_index_or, map, flat_map, min, take, drop, replicate, append_assoc, length-append, length-take, refl, sym, ◌∙◌, ap, subst, arith, Contains}
 use Rattle.std.specs.Prelude.{All}
 use Rattle.std.specs.List.{AllZip, range_with_len}
 use Rattle.std.proofs.lemmas.List.{map-append, get_or_at, length_push, nil_from_length, take-append-drop, length-replicate, length-map}
 use Rattle.std.proofs.lemmas.List.FromFn.{length-range_with_len}
+use Rattle.std.proofs.lemmas.List.Elements.{Contains-append_cases, Contains-append_left, Contains-append_right}
 use Rattle.g1_words.specs.Heap.{Heap, region, start, end, free_region}
 use Rattle.g1_words.specs.Valid.{IsObject, Tiles, HoldsBy, HasObject}
 use Rattle.g1_words.specs.declared.object.Object.{Object}
 use Rattle.g1_words.specs.declared.region.Region.{Region}
 use Rattle.g1_words.specs.declared.region.Kind.{Kind}
 use Rattle.g1_words.specs.declared.region.Kind.TheVariants.{Free, Ordinary, HumongousFirst, Continuation}
-use Rattle.g1_words.proofs.Members.{In, In-from_contains, Contains-from_in, In-append_left, In-append_right, In-append_cases}
-use Rattle.g1_words.proofs.Tiling.{Tiles-le, same_object}
+use Rattle.g1_words.proofs.Tiling.{same_object, Tiles-one}
 use Rattle.g1_image.specs.Image.{entry_of, all_words}
 use Rattle.g1_text.specs.Laid.{used_addresses, EndToEnd, StartIn, StartInEach}
+use Rattle.g1_words.proofs.Members.{none_contains}
 
 -- WORDS at addresses
 
@@ -85,37 +86,28 @@ zip_weaker R Q f (x ∷ xs) [] all = elim all [ ]
 zip_weaker R Q f (x ∷ xs) (y ∷ ys) all = (f x y all.0, zip_weaker R Q f xs ys all.1)
 
 -- what holds of an element in two zips
-pub zip_both : {A B : Type 0} (R Q : A → B → Type 0) (xs : List A) (ys : List B) (x : A) → AllZip R xs ys → AllZip Q xs ys → In xs x → (y : B) × R x y × Q x y
-zip_both R Q [] [] x r q i = elim i [ ]
-zip_both R Q [] (b ∷ ys) x r q i = elim i [ ]
+pub zip_both : {A B : Type 0} (R Q : A → B → Type 0) (xs : List A) (ys : List B) (x : A) → AllZip R xs ys → AllZip Q xs ys → Contains xs x → (y : B) × R x y × Q x y
+zip_both R Q [] [] x r q i = absurd (omega (arith, i.1))
+zip_both R Q [] (b ∷ ys) x r q i = absurd (omega (arith, i.1))
 zip_both R Q (a ∷ xs) [] x r q i = elim r [ ]
-zip_both R Q (a ∷ xs) (b ∷ ys) x r q (inl e) = (b, subst (λ z. R z b) e r.0, subst (λ z. Q z b) e q.0)
-zip_both R Q (a ∷ xs) (b ∷ ys) x r q (inr i) = zip_both R Q xs ys x r.1 q.1 i
+zip_both R Q (a ∷ xs) (b ∷ ys) x r q (zero, lt, e) = (b, subst (λ z. R z b) e r.0, subst (λ z. Q z b) e q.0)
+zip_both R Q (a ∷ xs) (b ∷ ys) x r q (suc k, lt, e) = zip_both R Q xs ys x r.1 q.1 (k, omega (arith, lt), e)
 
 -- OBJECTS in regions
 
-tiles_of : (words : List ℕ) (from : ℕ) (os : List Object) (to : ℕ) → EndToEnd from os to → ((o : Object) → In os o → IsObject words o) → Tiles words from os to
+tiles_of : (words : List ℕ) (from : ℕ) (os : List Object) (to : ℕ) → EndToEnd from os to → ((o : Object) → Contains os o → IsObject words o) → Tiles words from os to
 tiles_of words from [] to e each = e
-tiles_of words from (o ∷ os) to e each = (e.0, each o (inl refl), tiles_of words (from + o.size) os to e.1 (λ q i. each q (inr i)))
+tiles_of words from (o ∷ os) to e each = (e.0, each o (zero, omega arith, refl), tiles_of words (from + o.size) os to e.1 (λ q i. each q (suc i.0, omega (arith, i.1), i.2)))
 
-tiles_one : (words : List ℕ) (from : ℕ) (os qs : List Object) (to : ℕ) → Tiles words from os to → Tiles words from qs to → os ≡ qs
-tiles_one words from [] [] to t u = refl
-tiles_one words from [] (q ∷ qs) to t u = absurd (omega (arith, t, Tiles-le words (from + q.size) qs to u.2, u.1.refs_fit))
-tiles_one words from (o ∷ os) [] to t u = absurd (omega (arith, u, Tiles-le words (from + o.size) os to t.2, t.1.refs_fit))
-tiles_one words from (o ∷ os) (q ∷ qs) to t u =
-    let first : o ≡ q = same_object words o q t.1 u.1 (t.0 ∙ sym u.0) in
-    let rest = tiles_one words (from + q.size) os qs to (subst (λ (x : Object). Tiles words (from + x.size) os to) first t.2) u.2 in
-    λ i. first i ∷ rest i
-
-holds_of : (k : Kind) (h : Heap) (r : ℕ) (os : List Object) → (region h r).kind ≡ k → StartIn k (start h r) (region h r).top os → ((o : Object) → In os o → IsObject h.words o) → HoldsBy k h r os
+holds_of : (k : Kind) (h : Heap) (r : ℕ) (os : List Object) → (region h r).kind ≡ k → StartIn k (start h r) (region h r).top os → ((o : Object) → Contains os o → IsObject h.words o) → HoldsBy k h r os
 holds_of Free h r os e st each = st
 holds_of Ordinary h r os e st each = tiles_of h.words (start h r) os (end h r) st each
-holds_of HumongousFirst h r os e st each = (st.0, record { kind = e; at = st.2; object = each st.0 (subst (λ l. In l st.0) (sym st.1) (inl refl)) }, st.1)
+holds_of HumongousFirst h r os e st each = (st.0, record { kind = e; at = st.2; object = each st.0 (subst (λ l. Contains l st.0) (sym st.1) (zero, omega arith, refl)) }, st.1)
 holds_of Continuation h r os e st each = st
 
 holds_one : (k : Kind) (h : Heap) (r : ℕ) (os qs : List Object) → HoldsBy k h r os → HoldsBy k h r qs → os ≡ qs
 holds_one Free h r os qs a b = a ∙ sym b
-holds_one Ordinary h r os qs a b = tiles_one h.words (start h r) os qs (end h r) a b
+holds_one Ordinary h r os qs a b = Tiles-one h.words (start h r) os qs (end h r) a b
 holds_one HumongousFirst h r os qs a b = a.2 ∙ ap (λ o. o ∷ []) (same_object h.words a.0 b.0 a.1.object b.1.object (a.1.at ∙ sym b.1.at)) ∙ sym b.2
 holds_one Continuation h r os qs a b = a ∙ sym b
 
@@ -123,31 +115,31 @@ holds_one Continuation h r os qs a b = a ∙ sym b
 pub record StartThere (w from : ℕ) (qs : List Region) (os : List Object) (r : ℕ) : Type 0 where
   pub front : List Object
   pub there : StartIn (slice_index_or qs r free_region).kind (from + r * w) (slice_index_or qs r free_region).top front
-  pub among : (o : Object) → In front o → In os o
+  pub among : (o : Object) → Contains front o → Contains os o
 
 start_there : (w from : ℕ) (qs : List Region) (os : List Object) (r : ℕ) → StartInEach w from qs os → r < length qs → StartThere w from qs os r
 start_there w from [] os r each lt = absurd (omega (arith, lt))
 start_there w from (q ∷ qs) os zero each lt =
     let here : from ≡ from + 0 * w = omega arith in
-    record { front = each.0; there = subst (λ b. StartIn q.kind b q.top each.0) here each.3; among = λ o i. subst (λ l. In l o) (sym each.2) (In-append_left each.0 each.1 o i) }
+    record { front = each.0; there = subst (λ b. StartIn q.kind b q.top each.0) here each.3; among = λ o i. subst (λ l. Contains l o) (sym each.2) (Contains-append_left each.0 each.1 o i) }
 start_there w from (q ∷ qs) os (suc r) each lt =
     let rest = start_there w (from + w) qs each.1 r each.4 (omega (arith, lt)) in
     let here : from + w + r * w ≡ from + suc r * w = omega arith in
     record {
       front = rest.front;
       there = subst (λ b. StartIn (slice_index_or qs r free_region).kind b (slice_index_or qs r free_region).top rest.front) here rest.there;
-      among = λ o i. subst (λ l. In l o) (sym each.2) (In-append_right each.0 each.1 o (rest.among o i));
+      among = λ o i. subst (λ l. Contains l o) (sym each.2) (Contains-append_right each.0 each.1 o (rest.among o i));
     }
 
 -- the region of an object
-find_start : (w from : ℕ) (qs : List Region) (os : List Object) (o : Object) → StartInEach w from qs os → In os o
-    → (r : ℕ) × (r < length qs) × (front : List Object) × StartIn (slice_index_or qs r free_region).kind (from + r * w) (slice_index_or qs r free_region).top front × In front o
-    × ((p : Object) → In front p → In os p)
-find_start w from [] os o each i = absurd (subst (λ l. In l o) each i)
-find_start w from (q ∷ qs) os o each i = elim (In-append_cases each.0 each.1 o (subst (λ l. In l o) each.2 i)) [
+find_start : (w from : ℕ) (qs : List Region) (os : List Object) (o : Object) → StartInEach w from qs os → Contains os o
+    → (r : ℕ) × (r < length qs) × (front : List Object) × StartIn (slice_index_or qs r free_region).kind (from + r * w) (slice_index_or qs r free_region).top front × Contains front o
+    × ((p : Object) → Contains front p → Contains os p)
+find_start w from [] os o each i = absurd (none_contains o (subst (λ l. Contains l o) each i))
+find_start w from (q ∷ qs) os o each i = elim (Contains-append_cases each.0 each.1 o (subst (λ l. Contains l o) each.2 i)) [
   | inl k ↦
       (let here : from ≡ from + 0 * w = omega arith in
-      (0, omega arith, each.0, subst (λ b. StartIn q.kind b q.top each.0) here each.3, k, (λ p m. subst (λ l. In l p) (sym each.2) (In-append_left each.0 each.1 p m))))
+      (0, omega arith, each.0, subst (λ b. StartIn q.kind b q.top each.0) here each.3, k, (λ p m. subst (λ l. Contains l p) (sym each.2) (Contains-append_left each.0 each.1 p m))))
   | inr k ↦
       (let s = find_start w (from + w) qs each.1 o each.4 k in
       let here : from + w + s.0 * w ≡ from + suc s.0 * w = omega arith in (
@@ -156,16 +148,16 @@ find_start w from (q ∷ qs) os o each i = elim (In-append_cases each.0 each.1 o
         s.2,
         subst (λ b. StartIn (slice_index_or qs s.0 free_region).kind b (slice_index_or qs s.0 free_region).top s.2) here s.3,
         s.4,
-        (λ p m. subst (λ l. In l p) (sym each.2) (In-append_right each.0 each.1 p (s.5 p m))),
+        (λ p m. subst (λ l. Contains l p) (sym each.2) (Contains-append_right each.0 each.1 p (s.5 p m))),
       ))
 ]
 
-module _ (h : Heap) (os : List Object) (count : length h.regions ≡ h.geometry.n) (starts : StartInEach h.geometry.w 0 h.regions os) (each : (o : Object) → In os o → IsObject h.words o) where
+module _ (h : Heap) (os : List Object) (count : length h.regions ≡ h.geometry.n) (starts : StartInEach h.geometry.w 0 h.regions os) (each : (o : Object) → Contains os o → IsObject h.words o) where
   at_start : (r : ℕ) → 0 + r * h.geometry.w ≡ start h r
   at_start r = omega arith
 
   -- each of these objects is one of the heap's
-  pub is_there : (o : Object) → In os o → HasObject h o
+  pub is_there : (o : Object) → Contains os o → HasObject h o
   is_there o i =
       let s = find_start h.geometry.w 0 h.regions os o starts i in
       let st : StartIn (region h s.0).kind (start h s.0) (region h s.0).top s.2 = subst (λ b. StartIn (region h s.0).kind b (region h s.0).top s.2) (at_start s.0) s.3 in
@@ -174,15 +166,15 @@ module _ (h : Heap) (os : List Object) (count : length h.regions ≡ h.geometry.
         others = s.2;
         in_heap = omega (arith, s.1, count);
         holds = holds_of (region h s.0).kind h s.0 s.2 refl st (λ p m. each p (s.5 p m));
-        one_of = Contains-from_in s.2 o s.4;
+        one_of = s.4;
       }
 
   -- the heap has no other one
-  pub no_other : (o : Object) → HasObject h o → In os o
+  pub no_other : (o : Object) → HasObject h o → Contains os o
   no_other o has =
       let r : ℕ = has.place in
       let s = start_there h.geometry.w 0 h.regions os r starts (omega (arith, has.in_heap, count)) in
       let st : StartIn (region h r).kind (start h r) (region h r).top s.front = subst (λ b. StartIn (region h r).kind b (region h r).top s.front) (at_start r) s.there in
       let holds : HoldsBy (region h r).kind h r s.front = holds_of (region h r).kind h r s.front refl st (λ p m. each p (s.among p m)) in
       let same : has.others ≡ s.front = holds_one (region h r).kind h r has.others s.front has.holds holds in
-      s.among o (subst (λ l. In l o) same (In-from_contains has.others o has.one_of))
+      s.among o (subst (λ l. Contains l o) same has.one_of)

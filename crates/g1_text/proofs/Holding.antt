@@ -1,6 +1,6 @@
 -- What is returned for lines of objects by name.
-use Rattle.std.proofs.Common.{◌≡◌, ◌<◌, ℕ, ◌^◌, Bool, true, false, List, [], ◌∷◌, ◌++◌, length, map, flat_map, append-nil, refl, sym, ◌∙◌, ap, subst, arith}
-use Rattle.std.specs.Prelude.{Option, Some, None, IfSome, All, Contains, ◌==◌}
+use Rattle.std.proofs.Common.{◌≡◌, ◌<◌, ℕ, ◌^◌, List, [], ◌++◌, length, map, flat_map, append-nil, refl, sym, ◌∙◌, ap, subst, arith}
+use Rattle.std.specs.Prelude.{Option, Some, None, IfSome, All, Contains}
 use Rattle.std.specs.List.{AllZip}
 use Rattle.std.proofs.lemmas.Slice.Zip.{AllZip-long}
 use Rattle.std.proofs.lemmas.List.{length-map}
@@ -10,9 +10,9 @@ use Rattle.g1_words.specs.Heap.{Heap}
 use Rattle.g1_words.specs.declared.region.Region.{Region}
 use Rattle.g1_words.specs.declared.limits.Limits.TheVariants.{Wide}
 use Rattle.g1_image.specs.Text.{file_text}
-use Rattle.g1_image.specs.Image.{Image, IsTextWithin, entry_of, region_of_entry, heap_of, flags_of}
+use Rattle.g1_image.specs.Image.{Image, IsTextWithin, entry_of, heap_of}
 use Rattle.g1_image.specs.Reading.{IsU32}
-use Rattle.g1_image.proofs.FileOf.{kind_there}
+use Rattle.g1_image.proofs.FileOf.{regions_again}
 use Rattle.g1_text.specs.declared.named.Lines.{Lines}
 use Rattle.g1_text.specs.declared.reading.HeapSizes.{HeapSizes}
 use Rattle.g1_text.specs.Content.{Content, file_with}
@@ -24,15 +24,6 @@ use Rattle.g1_text.specs.Laid.{AreLaid, ArePlaced, laid_content, placed, own_add
 use Rattle.g1_text.proofs.Carrying.{heap_object, all_placed, entry_fits, located_fits, long, carried, listed, all_named}
 use Rattle.g1_text.specs.Drafts.{HeapFits}
 use Rattle.g1_text.proofs.OneHeap.{image_heap, entries_small, announced, roots_fit, words_fit}
-
-pin_there : (b : Bool) → flags_of b == 1 ≡ b
-pin_there false = refl
-pin_there true = refl
-
--- the regions that their entries tell
-pub regions_again : (qs : List Region) → map region_of_entry (map entry_of qs) ≡ qs
-regions_again [] = refl
-regions_again (q ∷ qs) = λ t. record { kind = kind_there q.kind t; top = q.top; pinned = pin_there q.pinned t } ∷ regions_again qs t
 
 -- what was filled
 abbrev pub filled_content : Geometry → List Region → List ℕ → List ℕ → List (List ℕ) → Content

@@ -5,12 +5,12 @@ use Rattle.std.specs.Option.{option_zip}
 use Rattle.std.specs.Result.{OkIff, result_ok}
 use Rattle.std.specs.Borrow.{Bor}
 use Rattle.std.specs.Str.{all_ascii_digits}
-use Rattle.std.specs.Str.Parse.{AllDigits, IsNumeral, ParsesUnsigned, digits_value}
+use Rattle.std.specs.Str.Parse.{AllDigits, ParsesUnsigned, digits_value}
 use Rattle.std.proofs.lemmas.Str.Parse.{IsNumeralModel, numerals_by_value, tells_all_ascii_digits, parse_plain, parse_gives, not_in_digits}
 use Rattle.std.proofs.lemmas.Str.Pattern.{IsSplitOnceResult, split_after}
 use Rattle.g1_text.specs.Forms.{Spells, IsBelow, HasSize}
-use Rattle.g1_text.proofs.Digits.{plainly}
 use Rattle.std.proofs.lemmas.Fmt.{digits_decimal, digits_value-decimal, decimal_nonempty}
+use Rattle.g1_words.proofs.Numerals.{by_value}
 
 pub own : IsNumeralModel (λ ds. all_ascii_digits ds ≡ true) (digits_value 10)
 own = numerals_by_value (λ ds. all_ascii_digits ds ≡ true) tells_all_ascii_digits
@@ -33,14 +33,10 @@ pub at_slash : (size slots : ℕ) (bs : List ℕ) (r : Option (Bor (List ℕ) ×
 at_slash size slots bs r h small e =
     split_after 47 bs (decimal size) (decimal slots) r h (omega arith) e (not_in_digits own (decimal size) 47 (digits_decimal own size small) (λ q. let low = q.0 in absurd (omega (arith, low))))
 
--- a number has no plus
-pub unsigned : (bs : List ℕ) → IsNumeral 10 bs → get_or bs 0 0 ≢ 43
-unsigned bs h f = not_in_digits plainly bs 43 h.1 (λ q. let low = q.0 in absurd (omega (arith, low))) 0 h.0 f
-
 -- what is read is the number that the digits say, and nothing is read of other words
 pub read_digits : {E : Type 0} (bs : List ℕ) (r : Result ℕ E) (o : Option ℕ) → ParsesUnsigned 64 10 bs r → get_or bs 0 0 ≢ 43 → o ≡ result_ok r
     → MatchOption o (IsBelow (2 ^ 64) bs → ⊥) (λ n. Spells (2 ^ 64) n bs)
-read_digits bs r o h plain e = subst (λ p. MatchOption p (IsBelow (2 ^ 64) bs → ⊥) (λ n. Spells (2 ^ 64) n bs)) (sym e) (by r (parse_plain plainly 64 bs r h plain))
+read_digits bs r o h plain e = subst (λ p. MatchOption p (IsBelow (2 ^ 64) bs → ⊥) (λ n. Spells (2 ^ 64) n bs)) (sym e) (by r (parse_plain by_value 64 bs r h plain))
   where
     by : {E : Type 0} (r : Result ℕ E) → OkIff r (AllDigits 10 bs × (0 < length bs) × (digits_value 10 bs < 2 ^ 64)) (digits_value 10 bs)
         → MatchOption (result_ok r) (IsBelow (2 ^ 64) bs → ⊥) (λ n. Spells (2 ^ 64) n bs)
@@ -50,7 +46,7 @@ read_digits bs r o h plain e = subst (λ p. MatchOption p (IsBelow (2 ^ 64) bs �
 -- where the slash is, a size is taken apart
 pub cut_size : (size slots : ℕ) (bs : List ℕ) (r : Option (Bor (List ℕ) × Bor (List ℕ))) → IsSplitOnceResult 47 bs r → (h : HasSize size slots bs)
     → MatchOption r ⊥ (λ x. (x.0.now ≡ h.0) × (x.1.now ≡ h.1))
-cut_size size slots bs r s h = split_after 47 bs h.0 h.1 r s (omega arith) h.2 (not_in_digits plainly h.0 47 h.3.0.1 (λ q. let low = q.0 in absurd (omega (arith, low))))
+cut_size size slots bs r s h = split_after 47 bs h.0 h.1 r s (omega arith) h.2 (not_in_digits by_value h.0 47 h.3.0.1 (λ q. let low = q.0 in absurd (omega (arith, low))))
 
 pub read_size : (bs front back : List ℕ) (o p : Option ℕ) → bs ≡ front ++ 47 ∷ back → ((size slots : ℕ) (h : HasSize size slots bs) → (front ≡ h.0) × (back ≡ h.1))
     → MatchOption o (IsBelow (2 ^ 64) front → ⊥) (λ n. Spells (2 ^ 64) n front) → MatchOption p (IsBelow (2 ^ 64) back → ⊥) (λ n. Spells (2 ^ 64) n back)

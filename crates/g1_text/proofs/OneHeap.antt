@@ -1,5 +1,5 @@
 -- An image whose text is that of a filled file has this file's heap.
-use Rattle.std.proofs.Common.{◌≡◌, ◌<◌, inl, inr, ℕ, ◌+◌, ◌*◌, ◌%◌, ◌^◌, Bool, true, false, T, List, [], ◌∷◌, ◌++◌, length, drop, map, flat_map, slice_index, slice_index_or, bit_xor, append-nil, length-append, refl, sym, ◌∙◌, ap, subst, arith}
+use Rattle.std.proofs.Common.{◌≡◌, ◌<◌, inl, inr, ℕ, ◌+◌, ◌*◌, ◌%◌, ◌^◌, Bool, true, false, T, List, [], ◌∷◌, ◌++◌, length, drop, map, flat_map, slice_index, slice_index_or, bit_xor, append-nil, length-append, refl, sym, ◌∙◌, ap, subst, arith, Contains, zero, suc}
 use Rattle.std.specs.Prelude.{Option, Some, None, IfSome, unwrap_or, if◌then◌else◌, nat_lt, ◌==◌, All, to_bits, codes}
 use Rattle.std.specs.List.{AllZip, range_with_len}
 use Rattle.std.specs.Option.{option_map, option_and_then}
@@ -14,10 +14,6 @@ use lib.Ieee.Fits.{round-fits, nan-fits, inf-fits}
 use lib.Ieee.Bits.{to_bits-lt}
 use Rattle.g1_words.specs.declared.limits.Limits.TheVariants.{Wide}
 use Rattle.g1_words.specs.declared.region.Region.{Region}
-use Rattle.g1_words.specs.declared.region.Kind.{Kind}
-use Rattle.g1_words.specs.declared.region.Kind.TheVariants.{Free, Ordinary, HumongousFirst, Continuation}
-use Rattle.g1_words.specs.Kind.{kind_number}
-use Rattle.g1_words.proofs.Members.{In}
 use Rattle.g1_image.specs.Text.{File, heading_of, file_text, table_text, words_text, numbers_text, remembered_texts, entry_text, table_words}
 use Rattle.g1_image.specs.declared.cursor.Version.TheVariants.{Two}
 use Rattle.g1_image.specs.Reading.{Are, IsU64}
@@ -27,7 +23,7 @@ use Rattle.g1_image.proofs.PrefixFree.{Are-free}
 use Rattle.g1_image.proofs.Parts.{magic_free, heading_free, entry_free}
 use Rattle.g1_image.proofs.Files.{numbers_free, words_free}
 use Rattle.g1_image.proofs.Words.{length-words_text, table_words-cons}
-use Rattle.g1_image.proofs.FileOf.{file_fits, heap_of_file}
+use Rattle.g1_image.proofs.FileOf.{file_fits, heap_of_file, kind_fits}
 use Rattle.g1_text.specs.Forms.{StandsFor, hash_behind}
 use Rattle.g1_text.specs.Graphs.{NamedObject, NamedGraph, size_of}
 use Rattle.g1_text.specs.ByName.{place_of}
@@ -69,18 +65,12 @@ image_heap f bytes i fits text is =
 
 -- THE TABLE
 
-kind_small : (k : Kind) → kind_number k < 2 ^ 32
-kind_small Free = omega arith
-kind_small Ordinary = omega arith
-kind_small HumongousFirst = omega arith
-kind_small Continuation = omega arith
-
 flags_small : (b : Bool) → flags_of b < 2 ^ 32
 flags_small false = omega arith
 flags_small true = omega arith
 
 pub entries_small : (qs : List Region) → All (λ q. q.top < 2 ^ 32) qs → All (EntryFits Two) (map entry_of qs)
-entries_small qs tops = All-map (EntryFits Two) entry_of qs (λ k d lt. (kind_small (slice_index_or qs k d).kind, tops k d lt, flags_small (slice_index_or qs k d).pinned))
+entries_small qs tops = All-map (EntryFits Two) entry_of qs (λ k d lt. (kind_fits (slice_index_or qs k d).kind, tops k d lt, flags_small (slice_index_or qs k d).pinned))
 
 -- as many words as the table announces
 pub announced : (w from : ℕ) (qs : List Region) → length (used_addresses w from qs) ≡ table_words (map entry_of qs)
@@ -169,10 +159,10 @@ module _ (g : NamedGraph) (ats : List ℕ) (small : All IsAddress ats) where
       (All-cons IsU64 (size_of o * 2 ^ 32 + length o.slots) (map (word_for g ats) o.slots ++ are.values) (omega (arith, fits))
       (All-append IsU64 (map (word_for g ats) o.slots) are.values slots (values_small are.values o.written are.stand)))
 
-  pub words_fit : (os : List (NamedObject × ℕ)) (wordss : List (List ℕ)) → ((o : NamedObject × ℕ) → In os o → size_of o.0 < 2 ^ 32)
+  pub words_fit : (os : List (NamedObject × ℕ)) (wordss : List (List ℕ)) → ((o : NamedObject × ℕ) → Contains os o → size_of o.0 < 2 ^ 32)
       → AllZip (λ o ws. AreWordsOf g ats o.0 ws) os wordss → All IsU64 (flat_map (λ ws. ws) wordss)
   words_fit [] [] fits all = All-nil IsU64
   words_fit [] (ws ∷ wordss) fits all = elim all [ ]
   words_fit (o ∷ os) [] fits all = elim all [ ]
   words_fit (o ∷ os) (ws ∷ wordss) fits all =
-      All-append IsU64 ws (flat_map (λ ws. ws) wordss) (own_fit o.0 ws (fits o (inl refl)) all.0) (words_fit os wordss (λ p i. fits p (inr i)) all.1)
+      All-append IsU64 ws (flat_map (λ ws. ws) wordss) (own_fit o.0 ws (fits o (zero, omega arith, refl)) all.0) (words_fit os wordss (λ p i. fits p (suc i.0, omega (arith, i.1), i.2)) all.1)

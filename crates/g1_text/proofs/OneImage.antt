@@ -1,5 +1,5 @@
 -- The full text of an image is that of no other.
-use Rattle.std.proofs.Common.{◌≡◌, ℕ, zero, suc, ◌+◌, ◌-◌, ◌*◌, ◌/◌, ◌<◌, ◌≤◌, ◌^◌, inl, inr, List, [], ◌∷◌, length, get_or, take, drop, map, refl, sym, ◌∙◌, ap, subst, arith}
+use Rattle.std.proofs.Common.{◌≡◌, ℕ, zero, suc, ◌+◌, ◌-◌, ◌*◌, ◌/◌, ◌<◌, ◌≤◌, ◌^◌, inl, inr, List, [], ◌∷◌, length, get_or, take, drop, map, refl, sym, ◌∙◌, ap, subst, arith, Contains}
 use Rattle.std.specs.Prelude.{decimal, slice_index}
 use Rattle.std.proofs.lemmas.Bool.{cases_lt, cases_order}
 use Rattle.std.proofs.lemmas.Fmt.{decimal_injective}
@@ -8,7 +8,6 @@ use Rattle.g1_words.specs.Valid.{IsObject, IsFirst, HoldsBy, IsShapedBy, Tiles, 
 use Rattle.g1_words.specs.declared.object.Object.{Object}
 use Rattle.g1_words.specs.declared.region.Kind.{Kind}
 use Rattle.g1_words.specs.declared.region.Kind.TheVariants.{Free, Ordinary, HumongousFirst, Continuation}
-use Rattle.g1_words.proofs.Members.{In, Contains-from_in}
 use Rattle.g1_words.proofs.Bounds.{object_within}
 use Rattle.g1_words.proofs.Computed.{in_region_has, holds_are}
 use Rattle.g1_words.proofs.Objects.{object_stands}
@@ -18,6 +17,8 @@ use Rattle.g1_text.specs.Lines.{reference_word, slot_values, data_values, object
 use Rattle.g1_text.proofs.Splitting.{Small}
 use Rattle.g1_text.proofs.Bounded.{object_small, slots_small, data_small}
 use Rattle.g1_text.proofs.Fields.{word_at, numbers_one, references_one, fronts_one, sizes_one}
+use Rattle.g1_words.proofs.Members.{cons_cases, Contains-first, Contains-later}
+use Rattle.g1_words.proofs.Members.{none_contains}
 
 length_slice : (xs : List ℕ) (from count : ℕ) → from + count ≤ length xs → length (take count (drop from xs)) ≡ count
 length_slice xs zero zero le = refl
@@ -76,15 +77,15 @@ object_one ws vs o p a b e =
     length_map [] = refl
     length_map (x ∷ xs) = let r = length_map xs in omega (arith, r)
 
-pub objects_one : (ws vs : List ℕ) (os ps : List Object) → ((o : Object) → In os o → IsPlain ws o) → ((o : Object) → In ps o → IsPlain vs o) → map (object_line ws) os ≡ map (object_line vs) ps
-    → (os ≡ ps) × ((o : Object) → In os o → SameWords ws vs o)
-objects_one ws vs [] [] a b e = (refl, λ o m. absurd m)
+pub objects_one : (ws vs : List ℕ) (os ps : List Object) → ((o : Object) → Contains os o → IsPlain ws o) → ((o : Object) → Contains ps o → IsPlain vs o) → map (object_line ws) os ≡ map (object_line vs) ps
+    → (os ≡ ps) × ((o : Object) → Contains os o → SameWords ws vs o)
+objects_one ws vs [] [] a b e = (refl, λ o m. absurd (none_contains o m))
 objects_one ws vs [] (p ∷ ps) a b e = let l = ap length e in absurd (omega (arith, l))
 objects_one ws vs (o ∷ os) [] a b e = let l = ap length e in absurd (omega (arith, l))
 objects_one ws vs (o ∷ os) (p ∷ ps) a b e =
-    let first = object_one ws vs o p (a o (inl refl)) (b p (inl refl)) (ap (λ (ls : List (List (List ℕ))). get_or ls 0 []) e) in
-    let rest = objects_one ws vs os ps (λ q m. a q (inr m)) (λ q m. b q (inr m)) (ap (drop 1) e) in
-    ((λ t. first.0 t ∷ rest.0 t), (λ q m. elim m [ inl s ↦ subst (SameWords ws vs) s first.1 | inr k ↦ rest.1 q k ]))
+    let first = object_one ws vs o p (a o (zero, omega arith, refl)) (b p (zero, omega arith, refl)) (ap (λ (ls : List (List (List ℕ))). get_or ls 0 []) e) in
+    let rest = objects_one ws vs os ps (λ q m. a q (suc m.0, omega (arith, m.1), m.2)) (λ q m. b q (suc m.0, omega (arith, m.1), m.2)) (ap (drop 1) e) in
+    ((λ t. first.0 t ∷ rest.0 t), (λ q m. elim (cons_cases o os q m) [ inl s ↦ subst (SameWords ws vs) s first.1 | inr k ↦ rest.1 q k ]))
 
 -- the words of an object that two lists of words both hold
 pub word_one : (ws vs : List ℕ) (o : Object) (a : ℕ) → IsObject ws o → IsObject vs o → SameWords ws vs o → o.at ≤ a → a < o.at + o.size → slice_index ws a ≡ slice_index vs a
@@ -110,11 +111,11 @@ word_one ws vs o a p q s low high = elim (cases_order a o.at) [
 ]
 
 -- an address among objects end to end lies in one of them
-tile_at : (words : List ℕ) (from : ℕ) (os : List Object) (to a : ℕ) → Tiles words from os to → from ≤ a → a < to → (o : Object) × In os o × (o.at ≤ a) × (a < o.at + o.size)
+tile_at : (words : List ℕ) (from : ℕ) (os : List Object) (to a : ℕ) → Tiles words from os to → from ≤ a → a < to → (o : Object) × Contains os o × (o.at ≤ a) × (a < o.at + o.size)
 tile_at words from [] to a t low high = absurd (omega (arith, t, low, high))
 tile_at words from (o ∷ os) to a t low high = elim (cases_lt a (from + o.size)) [
-  | inl lt ↦ (o, inl refl, omega (arith, t.0, low), omega (arith, t.0, lt))
-  | inr ge ↦ (let r = tile_at words (from + o.size) os to a t.2 ge high in (r.0, inr r.1, r.2, r.3))
+  | inl lt ↦ (o, Contains-first o os, omega (arith, t.0, low), omega (arith, t.0, lt))
+  | inr ge ↦ (let r = tile_at words (from + o.size) os to a t.2 ge high in (r.0, Contains-later o os r.0 r.1, r.2, r.3))
 ]
 
 -- an address is that of a word of an object
@@ -122,15 +123,15 @@ pub record IsHeld (h : Heap) (a : ℕ) : Type 0 where
   pub home : ℕ
   pub object : Object
   pub in_heap : home < h.geometry.n
-  pub member : In (objects_in h home) object
+  pub member : Contains (objects_in h home) object
   pub from : object.at ≤ a
   pub to : a < object.at + object.size
 
-first_member : (h : Heap) (r : ℕ) (o : Object) → IsFirst h r o → In (objects_in h r) o
+first_member : (h : Heap) (r : ℕ) (o : Object) → IsFirst h r o → Contains (objects_in h r) o
 first_member h r o first =
     let are : o ∷ [] ≡ objects_by HumongousFirst h r = holds_are HumongousFirst h r (o ∷ []) (o, first, refl) in
     let at_kind : objects_by HumongousFirst h r ≡ objects_in h r = ap (λ k. objects_by k h r) (sym first.kind) in
-    subst (λ os. In os o) (are ∙ at_kind) (inl refl)
+    subst (λ os. Contains os o) (are ∙ at_kind) (zero, omega arith, refl)
 
 products : (m f w r : ℕ) → m + f ≡ r → m * w + f * w ≡ r * w
 products m f w r e = let parts : (m + f) * w ≡ m * w + f * w = omega arith in sym parts ∙ ap (λ x. x * w) e
@@ -141,7 +142,7 @@ held_by Ordinary h r a is lt s low high =
     let tiles : Tiles h.words (start h r) s.2 (end h r) = subst (λ k. HoldsBy k h r s.2) is s.3 in
     let t = tile_at h.words (start h r) s.2 (end h r) a tiles low high in
     let are : s.2 ≡ objects_in h r = holds_are Ordinary h r s.2 tiles ∙ ap (λ k. objects_by k h r) (sym is) in
-    record { home = r; object = t.0; in_heap = lt; member = subst (λ os. In os t.0) are t.1; from = t.2; to = t.3 }
+    record { home = r; object = t.0; in_heap = lt; member = subst (λ os. Contains os t.0) are t.1; from = t.2; to = t.3 }
 held_by HumongousFirst h r a is lt s low high =
     record { home = r; object = s.0; in_heap = lt; member = first_member h r s.0 s.1; from = omega (arith, s.1.at, low); to = omega (arith, s.1.at, s.3, high) }
 held_by Continuation h r a is lt s low high =
@@ -160,11 +161,11 @@ pub held : (h : Heap) (r a : ℕ) → IsValid h → r < h.geometry.n → start h
 held h r a valid lt low high = held_by (kind h r) h r a refl lt (valid.shaped r lt).by_kind low high
 
 -- an object of an image is plain
-pub plain : (i : Image) → IsImage i → (r : ℕ) (o : Object) → r < i.heap.geometry.n → In (objects_in i.heap r) o → IsPlain i.heap.words o
+pub plain : (i : Image) → IsImage i → (r : ℕ) (o : Object) → r < i.heap.geometry.n → Contains (objects_in i.heap r) o → IsPlain i.heap.words o
 plain i good r o lt m =
     let valid = good.heap in
     let small = object_small i good r o lt m in
-    let has = in_region_has i.heap r o valid.shaped lt (Contains-from_in (objects_in i.heap r) o m) in
+    let has = in_region_has i.heap r o valid.shaped lt m in
     let stands = object_stands i.heap o (o.at / i.heap.geometry.w) valid has refl in
     record {
       at = small.0;

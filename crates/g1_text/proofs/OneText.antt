@@ -1,5 +1,5 @@
 -- Two images with one full text are one image.
-use Rattle.std.proofs.Common.{◌≡◌, ℕ, zero, suc, ◌+◌, ◌*◌, ◌/◌, ◌%◌, ◌<◌, ◌≤◌, inl, inr, List, [], ◌++◌, length, get_or, drop, map, flat_map, sym, ◌∙◌, ap, subst, arith}
+use Rattle.std.proofs.Common.{◌≡◌, ℕ, zero, suc, ◌+◌, ◌*◌, ◌/◌, ◌%◌, ◌<◌, ◌≤◌, inl, inr, List, [], ◌++◌, length, get_or, drop, map, flat_map, sym, ◌∙◌, ap, subst, arith, Contains}
 use Rattle.std.proofs.Common.{append_assoc, div-add-mod', mod-lt, ext_get_or}
 use Rattle.std.specs.Prelude.{slice_index}
 use Rattle.std.specs.List.{range_with_len}
@@ -12,7 +12,6 @@ use Rattle.g1_words.specs.Heap.{free_region, region, kind, top, pinned, start, o
 use Rattle.g1_words.specs.Valid.{IsValid}
 use Rattle.g1_words.specs.declared.object.Object.{Object}
 use Rattle.g1_words.specs.declared.region.Region.{Region}
-use Rattle.g1_words.proofs.Members.{In}
 use Rattle.g1_image.specs.Image.{Image, IsImage, remembered_of}
 use Rattle.g1_text.specs.Lines.{root_line, root_lines, log_lines, remembered_lines, object_line, region_line, region_lines, heading, image_lines, image_text}
 use Rattle.g1_text.proofs.Splitting.{one_list, small_at}
@@ -25,7 +24,7 @@ record SameRegion (i j : Image) (r : ℕ) : Type 0 where
   pub region : region i.heap r ≡ region j.heap r
   pub remembered : remembered_of i r ≡ remembered_of j r
   pub objects : objects_in i.heap r ≡ objects_in j.heap r
-  pub words : (o : Object) → In (objects_in i.heap r) o → SameWords i.heap.words j.heap.words o
+  pub words : (o : Object) → Contains (objects_in i.heap r) o → SameWords i.heap.words j.heap.words o
 
 module _ (i j : Image) (good : IsImage i) (fine : IsImage j) (same_n : i.heap.geometry.n ≡ j.heap.geometry.n) where
   region_one : (r : ℕ) (us vs : List (List (List ℕ))) → r < i.heap.geometry.n → region_lines i r ++ us ≡ region_lines j r ++ vs → SameRegion i j r × (us ≡ vs)
@@ -85,7 +84,7 @@ module _ (i j : Image) (good : IsImage i) (fine : IsImage j) (same_n : i.heap.ge
           | inl used ↦
               let h : IsHeld i.heap a = held i.heap r a vi below (omega (arith, sum)) (omega (arith, sum, used)) in
               let there : h.home < j.heap.geometry.n = (let l = h.in_heap in omega (arith, l, same_n)) in
-              let in_j : In (objects_in j.heap h.home) h.object = subst (λ os. In os h.object) (each h.home h.in_heap).objects h.member in
+              let in_j : Contains (objects_in j.heap h.home) h.object = subst (λ os. Contains os h.object) (each h.home h.in_heap).objects h.member in
               word_one i.heap.words j.heap.words h.object a (plain i good h.home h.object h.in_heap h.member).object
               (plain j fine h.home h.object there in_j).object ((each h.home h.in_heap).words h.object h.member) h.from h.to
           | inr unused ↦

@@ -1,16 +1,16 @@
 -- The text of lines that are pushed one after the other.
-use Rattle.std.proofs.Common.{◌≡◌, ℕ, zero, suc, ◌+◌, ◌<◌, ◌≤◌, ◌==◌, inl, inr, false, List, [], ◌∷◌, ◌++◌, length, get_or, take, map, flat_map, Contains, refl, sym, ◌∙◌, ap, subst, arith, append_assoc, append-nil}
+use Rattle.std.proofs.Common.{◌≡◌, ℕ, zero, suc, ◌+◌, ◌<◌, ◌≤◌, ◌==◌, false, List, [], ◌∷◌, ◌++◌, length, get_or, take, map, flat_map, Contains, refl, sym, ◌∙◌, ap, subst, arith, append_assoc, append-nil}
 use Rattle.std.specs.Prelude.{decimal, codes, slice_index}
 use Rattle.std.specs.List.{range_with_len}
 use Rattle.std.proofs.lemmas.List.{flat_map_more}
 use Rattle.std.proofs.lemmas.List.Concat.{flat_map-append}
 use Rattle.std.proofs.lemmas.List.Folds.{flat_map-map}
+use Rattle.std.proofs.lemmas.List.Elements.{Contains-get_or}
 use Rattle.g1_words.specs.Heap.{Heap, objects_in, objects, object_at, regions}
 use Rattle.g1_words.specs.declared.object.Object.{Object}
 use Rattle.g1_words.specs.Valid.{IsValid}
-use Rattle.g1_words.proofs.Members.{In, Contains-from_in, map_cases, In-flat_map}
-use Rattle.g1_words.proofs.Indices.{get_or-In}
-use Rattle.g1_words.proofs.Computed.{In-range, in_region_has, contains_has}
+use Rattle.g1_words.proofs.Members.{map_cases, Contains-flat_map}
+use Rattle.g1_words.proofs.Computed.{Contains-range, in_region_has, contains_has}
 use Rattle.g1_words.proofs.Sound.{has_is, object_in}
 use Rattle.g1_words.proofs.Lists.{range_more}
 use Rattle.g1_image.specs.Image.{Image}
@@ -58,21 +58,20 @@ text_flat_map f [] = refl
 text_flat_map f (x ∷ xs) = text_append (f x) (flat_map f xs) ∙ ap (λ ys. text_of (f x) ++ ys) (text_flat_map f xs)
 
 -- members that are written alike
-same_text : {X : Type 0} (f g : X → List ℕ) (xs : List X) → ((x : X) → In xs x → f x ≡ g x) → flat_map f xs ≡ flat_map g xs
+same_text : {X : Type 0} (f g : X → List ℕ) (xs : List X) → ((x : X) → Contains xs x → f x ≡ g x) → flat_map f xs ≡ flat_map g xs
 same_text f g [] same = refl
-same_text f g (x ∷ xs) same = ap (λ ys. ys ++ flat_map f xs) (same x (inl refl)) ∙ ap (λ ys. g x ++ ys) (same_text f g xs (λ y i. same y (inr i)))
+same_text f g (x ∷ xs) same = ap (λ ys. ys ++ flat_map f xs) (same x (zero, omega arith, refl)) ∙ ap (λ ys. g x ++ ys) (same_text f g xs (λ y i. same y (suc i.0, omega (arith, i.1), i.2)))
 
 -- the addresses of a region's objects, and what is written of each
 module _ (h : Heap) (r : ℕ) (valid : IsValid h) (lt : r < h.geometry.n) where
-  is_object : (o : Object) → In (objects_in h r) o → object_at h o.at ≡ o
-  is_object o i = sym (has_is h o valid (in_region_has h r o valid.shaped lt (Contains-from_in (objects_in h r) o i)))
+  is_object : (o : Object) → Contains (objects_in h r) o → object_at h o.at ≡ o
+  is_object o i = sym (has_is h o valid (in_region_has h r o valid.shaped lt i))
 
   pub object_there : (starts : List ℕ) (i : ℕ) → i < length starts → starts ≡ map (λ o. o.at) (objects_in h r) → Contains (objects h) (object_at h (get_or starts i 0))
   object_there starts i small e =
-      let m = map_cases (λ (o : Object). o.at) (objects_in h r) (get_or starts i 0) (subst (λ xs. In xs (get_or starts i 0)) e (get_or-In starts i 0 small)) in
+      let m = map_cases (λ (o : Object). o.at) (objects_in h r) (get_or starts i 0) (subst (λ xs. Contains xs (get_or starts i 0)) e (Contains-get_or starts i 0 small)) in
       let same : m.0 ≡ object_at h (get_or starts i 0) = sym (is_object m.0 m.1) ∙ ap (object_at h) m.2 in
-      Contains-from_in (objects h) (object_at h (get_or starts i 0))
-      (subst (In (objects h)) same (In-flat_map (objects_in h) (regions h) r m.0 (In-range 0 h.geometry.n r (omega arith) (omega (arith, lt))) m.1))
+      subst (Contains (objects h)) same (Contains-flat_map (objects_in h) (regions h) r m.0 (Contains-range 0 h.geometry.n r (omega arith) (omega (arith, lt))) m.1)
 
   pub objects_text : (f : Object → List (List ℕ)) (starts : List ℕ) → starts ≡ map (λ o. o.at) (objects_in h r) →
       flat_map (λ a. line_text (f (object_at h a))) starts ≡ text_of (map f (objects_in h r))

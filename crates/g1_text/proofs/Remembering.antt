@@ -9,6 +9,7 @@ use Rattle.std.proofs.Math.ListN.{set, length-set}
 use Rattle.std.proofs.lemmas.List.FromFn.{fill_by_all, get_or-map-range_with_len}
 use Rattle.std.proofs.lemmas.Nat.{div-mul-add}
 use Rattle.std.proofs.Math.Nat.{mul-le-mul_left, mul-le-mul_right, div-mul-le_self}
+use Rattle.std.proofs.lemmas.List.Elements.{Contains-append_right}
 use Rattle.g1_words.specs.declared.object.Object.{Object}
 use Rattle.g1_words.specs.declared.region.Region.{Region}
 use Rattle.g1_words.specs.declared.region.Kind.TheVariants.{Ordinary, HumongousFirst}
@@ -18,13 +19,13 @@ use Rattle.g1_words.specs.References.{Ref, named, refs, refs_at}
 use Rattle.g1_words.specs.Valid.{IsValid, IsReference, Tiles}
 use Rattle.g1_words.proofs.Bounds.{object_within}
 use Rattle.g1_words.proofs.Computed.{contains_has, has_contains, in_region_has, range_above, range_below}
-use Rattle.g1_words.proofs.Members.{In, In-from_contains, Contains-from_in, In-append_right, In-flat_map, flat_map_cases, In-map, filter_member, has_from_in}
+use Rattle.g1_words.proofs.Members.{Contains-flat_map, flat_map_cases, Contains-map, has_from_contains}
 use Rattle.g1_words.proofs.Objects.{ordinary_top, tops_fit}
 use Rattle.g1_words.proofs.Shapes.{built}
 use Rattle.g1_words.proofs.Sound.{sound}
 use Rattle.g1_words.proofs.Standing.{stands, word_used}
 use Rattle.g1_image.specs.Image.{Image, IsImage, remembered_of, used_words}
-use Rattle.g1_image.specs.Cards.{is_exact, exact}
+use Rattle.g1_image.specs.Cards.{exact}
 use Rattle.g1_image.proofs.Covers.{exact_tells}
 use Rattle.g1_rem.specs.Ahead.{is_known, AreKnown, LeadAhead}
 use Rattle.g1_rem.specs.Leads.{IsLedInto}
@@ -34,7 +35,7 @@ use Rattle.g1_rem.specs.Starts.{card_count}
 use Rattle.g1_rem.proofs.Bare.{target_there}
 use Rattle.g1_rem.proofs.Entering.{leads_none, leads_some}
 use Rattle.g1_rem.proofs.Filled.{Tiles-none, ordinary_fills, humongous_fills, row_front, row_rest, row_step}
-use Rattle.g1_rem.proofs.Leading.{lead_start, lead_end, all_exact, pass_other, pass_same, push}
+use Rattle.g1_rem.proofs.Leading.{lead_start, lead_end, all_exact, pass_other, pass_same, push, exact_below}
 use Rattle.g1_rem.proofs.Marks.{left_start}
 use Rattle.g1_rem.proofs.Next.{NextOf}
 use Rattle.g1_text.proofs.Gathering.{map_at}
@@ -111,8 +112,8 @@ module _ (h : Heap) (valid : IsValid h) (r : ℕ) (lt : r < h.geometry.n) where
   some_words = (sound h valid).w_positive
 
   module _ (o : Object) (there : Contains (objects_in h r) o) where
-    member : In (objects_in h r) o
-    member = In-from_contains (objects_in h r) o there
+    member : Contains (objects_in h r) o
+    member = there
 
     -- each word of the object is a used one
     used : (p : ℕ) → o.at ≤ p → p < o.at + o.size → (region_of h p < h.geometry.n) × (p < region_of h p * h.geometry.w + top h (region_of h p))
@@ -185,7 +186,7 @@ module _ (h : Heap) (valid : IsValid h) (r : ℕ) (lt : r < h.geometry.n) where
     first = object_at h (r * h.geometry.w)
 
     first_there : Contains (objects_in h r) (object_at h (r * h.geometry.w))
-    first_there = Contains-from_in (objects_in h r) first (subst (λ k. In (objects_by k h r) first) (sym kind) (inl refl))
+    first_there = subst (λ k. Contains (objects_by k h r) first) (sym kind) (zero, omega arith, refl)
 
     -- the size in its header is that of the object
     first_read : (0 < slice_index words (at - unused) / 2 ^ 32) × (slice_index words (at - unused) / 2 ^ 32 ≡ (object_at h (r * h.geometry.w)).size)
@@ -212,11 +213,6 @@ module _ (h : Heap) (valid : IsValid h) (r : ℕ) (lt : r < h.geometry.n) where
 
 -- ---- the cards, slot by slot
 
-exact_below : (h : Heap) (r c : ℕ) → Contains (exact h r) c → c < card_count h
-exact_below h r c k =
-    let b = range_below 0 (card_count h) c (filter_member (is_exact h r) (range_with_len 0 (card_count h)) c (In-from_contains (exact h r) c k)).0 in
-    omega (arith, b)
-
 -- before the first slot
 pub each_start : (i : Image) (sets : List (List ℕ)) → IsImage i → AreExact i → sets ≡ replicate i.heap.geometry.n [] → LeadEach i (flat_map slots (objects_from i.heap 0)) sets
 each_start i sets good are e = record {
@@ -237,8 +233,8 @@ each_exact i sets l =
 
 module _ (i : Image) (p : ℕ) (rest : List ℕ) (sets : List (List ℕ)) (l : LeadEach i (p ∷ rest) sets) where
   -- the slot is one of the heap's
-  there : In (all_slots i.heap) p
-  there = In-from_contains (all_slots i.heap) p ((l.each 0 (omega (arith, l.image.heap.limits.n_least))).slots p (Contains-from_in (p ∷ rest) p (inl refl)))
+  there : Contains (all_slots i.heap) p
+  there = (l.each 0 (omega (arith, l.image.heap.limits.n_least))).slots p (zero, omega arith, refl)
 
   reference : IsReference i.heap (word i.heap p)
   reference =
@@ -246,7 +242,7 @@ module _ (i : Image) (p : ℕ) (rest : List ℕ) (sets : List (List ℕ)) (l : L
       let o : Object = q.0 in
       let from = range_above (o.at + 1) o.refs p q.2 in
       let to = range_below (o.at + 1) o.refs p q.2 in
-      l.image.heap.slots o p (contains_has i.heap o l.image.heap.shaped (Contains-from_in (objects i.heap) o q.1)) (omega (arith, from), omega (arith, to))
+      l.image.heap.slots o p (contains_has i.heap o l.image.heap.shaped q.1) (omega (arith, from), omega (arith, to))
 
   -- a slot that leads into no other region is passed
   pass : IsLedInto i.heap p None → LeadEach i rest sets
@@ -275,17 +271,17 @@ module _ (i : Image) (p : ℕ) (rest : List ℕ) (sets : List (List ℕ)) (l : L
     card_exact r same =
         let ref : Ref = record { slot = p; target = t } in
         let q = flat_map_cases slots (objects i.heap) p there in
-        let named_there : In (named (word i.heap p)) t = subst (λ x. In (named x) t) (sym names) (inl refl) in
-        let one : In (refs_at i.heap p) ref = In-map (λ a. record { slot = p; target = a }) (named (word i.heap p)) t named_there in
-        let all : In (refs i.heap) ref = In-flat_map (λ o. flat_map (refs_at i.heap) (slots o)) (objects i.heap) q.0 ref q.1 (In-flat_map (refs_at i.heap) (slots q.0) p ref q.2 one) in
-        (exact_tells i.heap l.image.heap r (card_of i.heap p)).1 (ref, Contains-from_in (refs i.heap) ref all, same, (λ z. away (same ∙ sym z)), refl)
+        let named_there : Contains (named (word i.heap p)) t = subst (λ x. Contains (named x) t) (sym names) (zero, omega arith, refl) in
+        let one : Contains (refs_at i.heap p) ref = Contains-map (λ a. record { slot = p; target = a }) (named (word i.heap p)) t named_there in
+        let all : Contains (refs i.heap) ref = Contains-flat_map (λ o. flat_map (refs_at i.heap) (slots o)) (objects i.heap) q.0 ref q.1 (Contains-flat_map (refs_at i.heap) (slots q.0) p ref q.2 one) in
+        (exact_tells i.heap l.image.heap r (card_of i.heap p)).1 (ref, all, same, (λ z. away (same ∙ sym z)), refl)
 
     -- all that is remembered is known
     known : (r : ℕ) → r < i.heap.geometry.n → Contains (exact i.heap r) (card_of i.heap p) → is_known i r (card_of i.heap p) ≡ true
     known r lt k =
         let set_is : remembered_of i r ≡ exact i.heap r = ap (λ s. slice_index_or s r []) l.exact ∙ get_or-map-range_with_len (exact i.heap) 0 i.heap.geometry.n r r [] lt (omega arith) in
         let kept : has (remembered_of i r) (card_of i.heap p) ≡ true =
-        ap (λ s. has s (card_of i.heap p)) set_is ∙ has_from_in (exact i.heap r) (card_of i.heap p) (In-from_contains (exact i.heap r) (card_of i.heap p) k) in
+        ap (λ s. has s (card_of i.heap p)) set_is ∙ has_from_contains (exact i.heap r) (card_of i.heap p) k in
         rw kept refl
 
     pub in_sets : region_of i.heap t < length sets
@@ -352,9 +348,9 @@ module _ (i : Image) (q at to : ℕ) (sets : List (List ℕ)) (lt : q < i.heap.g
   its_place : Contains (objects_in i.heap q) next.object
   its_place =
       let os : List Object = objects_in i.heap q in
-      let behind : In (take t.place os ++ drop t.place os) next.object =
-      In-append_right (take t.place os) (drop t.place os) next.object (subst (λ l. In l next.object) (sym next.splits) (inl refl)) in
-      Contains-from_in os next.object (subst (λ l. In l next.object) (take-append-drop t.place os) behind)
+      let behind : Contains (take t.place os ++ drop t.place os) next.object =
+      Contains-append_right (take t.place os) (drop t.place os) next.object (subst (λ l. Contains l next.object) (sym next.splits) (zero, omega arith, refl)) in
+      subst (λ l. Contains l next.object) (take-append-drop t.place os) behind
 
   module _ (words : List ℕ) (unused : ℕ) (stand : HasWords i.heap q words unused) where
     header_read : slice_index words (at - unused) ≡ word i.heap at

@@ -1,9 +1,8 @@
 -- Two small graphs by name are the same, and a third is another.
-use Rattle.std.proofs.Common.{◌≡◌, ◌<◌, inl, inr, ℕ, cond, List, [], ◌∷◌, get_or, refl, sym, ◌∙◌, ap, subst, arith}
+use Rattle.std.proofs.Common.{◌≡◌, ◌<◌, inl, inr, ℕ, cond, List, [], ◌∷◌, get_or, refl, sym, ◌∙◌, ap, subst, arith, zero, suc}
 use Rattle.std.specs.Prelude.{Some, None, codes, Contains}
 use Rattle.std.specs.List.{AllZip}
 use Rattle.std.specs.Str.{bytes_eq}
-use Rattle.g1_words.proofs.Members.{In, In-from_contains}
 use Rattle.g1_text.specs.Forms.{StandsFor}
 use Rattle.g1_text.specs.Graphs.{NamedObject}
 use Rattle.g1_text.specs.RenamedExample.{pair, leaf, told, told_otherwise, exchanged}
@@ -28,13 +27,10 @@ apart : (m n : ℕ) → m < n → m ∷ [] ≡ n ∷ [] → ⊥
 apart m n lt e = let d : m ≡ n = ap (λ w. get_or w 0 0) e in absurd (omega (arith, d, lt))
 
 of_three : (P : NamedObject → Type 0) (x y z : NamedObject) → P x → P y → P z → (o : NamedObject) → Contains (x ∷ y ∷ z ∷ []) o → P o
-of_three P x y z p q r o c = by (In-from_contains (x ∷ y ∷ z ∷ []) o c)
-  where
-    by : In (x ∷ y ∷ z ∷ []) o → P o
-    by (inl e) = subst P e p
-    by (inr (inl e)) = subst P e q
-    by (inr (inr (inl e))) = subst P e r
-    by (inr (inr (inr k))) = elim k [ ]
+of_three P x y z p q r o (zero, b, e) = subst P e p
+of_three P x y z p q r o (suc zero, b, e) = subst P e q
+of_three P x y z p q r o (suc (suc zero), b, e) = subst P e r
+of_three P x y z p q r o (suc (suc (suc j)), b, e) = absurd (omega (arith, b))
 
 abbrev a : NamedObject
 a = pair (codes "a") (codes "b") (codes "c") (codes "7")

@@ -1,7 +1,6 @@
 -- As many lines say a root as there are roots, and a root that a fault names is one of them.
-use Rattle.std.proofs.Common.{◌≡◌, ℕ, zero, suc, ◌+◌, ◌<◌, ◌^◌, Bool, false, List, [], ◌∷◌, ◌++◌, length, length-append, append_assoc, refl, sym, ◌∙◌, ap, arith}
+use Rattle.std.proofs.Common.{◌≡◌, ℕ, ◌+◌, ◌<◌, ◌^◌, Bool, false, List, [], ◌∷◌, ◌++◌, length, length-append, append_assoc, refl, sym, ◌∙◌, ap, arith}
 use Rattle.std.specs.Prelude.{Some, None, codes}
-use Rattle.std.specs.Int.{bytes_low_first}
 use Rattle.g1_words.specs.declared.fault.Fault.TheVariants.{Reference, Card}
 use Rattle.g1_words.specs.declared.fault.Place.TheVariants.{Root}
 use Rattle.g1_words.specs.declared.fault.Stand.TheVariants.{Dirty}
@@ -19,6 +18,7 @@ use Rattle.g1_text.specs.Late.{begins_with, number_if, numbers_from, numbers_in}
 use Rattle.g1_text.proofs.HeapWords.{split_front}
 use Rattle.g1_text.proofs.LineCounts.{skips_kept, as_many_lines}
 use Rattle.g1_text.proofs.Numbered.{not_word}
+use Rattle.g1_image.proofs.NumberLists.{u32-length}
 
 -- THE ROOT LINES of a text
 
@@ -89,14 +89,6 @@ roots_counted =
 
 -- THE ROOT of a fault
 
-so_many_bytes : (i n x : ℕ) → length (bytes_low_first i n x) ≡ n
-so_many_bytes i zero x = refl
-so_many_bytes i (suc n) x = let rest = so_many_bytes (suc i) n x in omega (arith, rest)
-
-four_bytes : (x : ℕ) → length (u32 x) ≡ 4
-unfolding u32
-four_bytes x = so_many_bytes 0 4 x
-
 -- a file with the bytes of what was read has as many roots, and as many cards in the log
 as_many : (c : Content) (f : File) → CountsFit (file_with c) → length f.roots < 2 ^ 32 → length f.log < 2 ^ 32 → file_text (file_with c) ≡ file_text f
     → (length c.roots ≡ length f.roots) × (length c.log ≡ length f.log)
@@ -104,9 +96,9 @@ as_many c f fit few_roots few_cards e =
     let flat : (g : File) → file_text g ≡ magic g.version ++ (u32 g.w ++ (u32 g.k ++ (u32 g.n ++ (u32 (length g.roots) ++ (u32 (length g.log) ++ (u32 g.current ++ body_text g)))))) = λ g. simp append_assoc in
     let s : File = file_with c in
     let v = magic_free Two f.version _ _ (sym (flat s) ∙ e ∙ flat f) in
-    let a = split_front (u32 s.w) _ (u32 f.w) _ v.1 (four_bytes s.w ∙ sym (four_bytes f.w)) in
-    let b = split_front (u32 s.k) _ (u32 f.k) _ a.1 (four_bytes s.k ∙ sym (four_bytes f.k)) in
-    let d = split_front (u32 s.n) _ (u32 f.n) _ b.1 (four_bytes s.n ∙ sym (four_bytes f.n)) in
+    let a = split_front (u32 s.w) _ (u32 f.w) _ v.1 (u32-length s.w ∙ sym (u32-length f.w)) in
+    let b = split_front (u32 s.k) _ (u32 f.k) _ a.1 (u32-length s.k ∙ sym (u32-length f.k)) in
+    let d = split_front (u32 s.n) _ (u32 f.n) _ b.1 (u32-length s.n ∙ sym (u32-length f.n)) in
     let roots = u32_once (length s.roots) (length f.roots) _ _ fit.roots few_roots d.1 in
     (roots.0, (u32_once (length s.log) (length f.log) _ _ fit.log few_cards roots.1).0)
 

@@ -1,5 +1,5 @@
 -- What a text of lines says: its lines, and their words.
-use Rattle.std.proofs.Common.{◌≡◌, ◌≢◌, ℕ, zero, suc, ◌+◌, ◌-◌, ◌*◌, ◌<◌, ◌^◌, ◌⊎◌, inl, inr, Bool, true, ◌&&◌, List, [], ◌∷◌, ◌++◌, length, get_or, take, drop, map, All, flat_map}
+use Rattle.std.proofs.Common.{◌≡◌, ◌≢◌, ℕ, zero, suc, ◌+◌, ◌-◌, ◌*◌, ◌<◌, ◌^◌, ◌⊎◌, inl, inr, Bool, true, ◌&&◌, List, [], ◌∷◌, ◌++◌, length, get_or, take, drop, map, All, flat_map, Contains}
 use Rattle.std.proofs.Common.{refl, sym, ◌∙◌, ap, subst, arith, rules, append_assoc, eqb}
 use Rattle.std.specs.Prelude.{not, decimal, codes, slice_index}
 use Rattle.std.specs.List.{range_with_len}
@@ -7,7 +7,6 @@ use Rattle.std.specs.Int.{IsInRange}
 use Rattle.std.proofs.lemmas.Fmt.{digits_decimal}
 use Rattle.std.proofs.lemmas.Str.Parse.{IsNumeralModel, tells_by_index, numerals_by_fold}
 use Rattle.std.proofs.lemmas.Bool.{and_parts as both}
-use Rattle.g1_words.proofs.Members.{In}
 use Rattle.g1_words.proofs.Logic.{differs}
 use Rattle.g1_text.specs.Lines.{line_text, further, text_of, reference_word}
 
@@ -193,6 +192,6 @@ range_of_lines f a zero each = tt
 range_of_lines f a (suc n) each = lines_append (f a) (flat_map f (range_with_len (a + 1) n)) (each a (omega arith)) (range_of_lines f (a + 1) n (λ m lt. each m (omega (arith, lt))))
 
 -- a line for each member
-pub member_lines : {X : Type 0} (f : X → List (List ℕ)) (xs : List X) → ((x : X) → In xs x → IsLine (f x)) → AreLines (map f xs)
+pub member_lines : {X : Type 0} (f : X → List (List ℕ)) (xs : List X) → ((x : X) → Contains xs x → IsLine (f x)) → AreLines (map f xs)
 member_lines f [] each = tt
-member_lines f (x ∷ xs) each = (each x (inl refl), member_lines f xs (λ y m. each y (inr m)))
+member_lines f (x ∷ xs) each = (each x (zero, omega arith, refl), member_lines f xs (λ y m. each y (suc m.0, omega (arith, m.1), m.2)))

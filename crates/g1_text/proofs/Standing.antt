@@ -19,10 +19,10 @@ use Rattle.g1_text.specs.Drafts.{StandsInHeap}
 use Rattle.g1_text.proofs.Adding.{address_of}
 use Rattle.g1_text.proofs.Ends.{one_end}
 use Rattle.g1_text.proofs.Gathering.{map_push}
-use Rattle.g1_text.proofs.Holding.{regions_again}
 use Rattle.g1_text.proofs.InHeap.{IsHead, Stand, stand_put, stand_push, stand_tops, stand_count, put_ordinary, put_humongous, objects_are}
 use Rattle.g1_text.proofs.OneHeap.{entries_small}
 use Rattle.g1_text.proofs.Skipping.{goes_geometry, goes_length}
+use Rattle.g1_image.proofs.FileOf.{regions_again}
 
 -- an object may come into the region
 abbrev MayTake : Region → Type 0

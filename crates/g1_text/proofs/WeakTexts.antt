@@ -1,5 +1,5 @@
 -- Texts with weak references, as they are read: line by line.
-use Rattle.std.proofs.Common.{◌≡◌, inl, inr, ℕ, zero, suc, ◌+◌, Bool, true, false, cond, ◌&&◌, List, [], ◌∷◌, ◌++◌, length, get_or, map, take, drop, flat_map, All, IsUtf8, append-nil, append_assoc, length-append, eqb, refl, sym, ◌∙◌, ap, subst, arith}
+use Rattle.std.proofs.Common.{◌≡◌, inl, inr, ℕ, zero, suc, ◌+◌, Bool, true, false, cond, ◌&&◌, List, [], ◌∷◌, ◌++◌, length, get_or, map, take, drop, flat_map, All, IsUtf8, append-nil, append_assoc, length-append, eqb, refl, sym, ◌∙◌, ap, subst, arith, Contains}
 use Rattle.std.specs.Prelude.{Option, Some, None, MatchOption, IfSome, codes, not}
 use Rattle.std.specs.List.{AllZip, list_any, join_with_byte, slice_split, onto_first}
 use Rattle.std.specs.Option.{is_some}
@@ -12,7 +12,7 @@ use Rattle.std.proofs.lemmas.List.{map-append, get_or-append-add, get_or_append_
 use Rattle.std.proofs.lemmas.List.Concat.{flat_map-append}
 use Rattle.std.proofs.lemmas.List.Splits.{join_with_byte-slice_split}
 use Rattle.memchr.specs.Find.{OccursAt, Nowhere, FindsNeedle}
-use Rattle.g1_words.proofs.Members.{In, filter_member}
+use Rattle.g1_words.proofs.Members.{filter_member}
 use Rattle.g1_text.specs.Reading.{has_byte, words_in, parts_of}
 use Rattle.g1_text.specs.Weak.{Slot, weak_slot, plain_slot, begins_weak, is_weak, slots_in, behind_slots, content_of, HasSlots, AreSlotsOf, IsWordFor, IsStrong, IsReadAs, IsWithoutWeak}
 use Rattle.g1_text.specs.Marking.{AreCut, spaced}
@@ -141,20 +141,20 @@ word_weak : (word : List ℕ) (words : List (List ℕ)) → begins_weak word wor
 word_weak word [] e = absurd (false≢true e)
 word_weak word (next ∷ words) e = (bytes_eq-Decides word (codes "weak")).0 (both (bytes_eq word (codes "weak")) (not (bytes_eq next (codes ".."))) e)
 
-weak_word : (n : ℕ) (words : List (List ℕ)) → list_any is_weak (slots_in n words) ≡ true → In words (codes "weak")
+weak_word : (n : ℕ) (words : List (List ℕ)) → list_any is_weak (slots_in n words) ≡ true → Contains words (codes "weak")
 weak_word zero words e = absurd (false≢true e)
 weak_word (suc n) [] e = absurd (false≢true e)
 weak_word (suc n) (word ∷ words) e = at (begins_weak word words) refl (weak_word n words) e
   where
-    at : (b : Bool) → begins_weak word words ≡ b → (list_any is_weak (slots_in n words) ≡ true → In words (codes "weak"))
-        → list_any is_weak (cond b (weak_slot (get_or words 0 []) ∷ slots_in n (drop 1 words)) (plain_slot word ∷ slots_in n words)) ≡ true → In (word ∷ words) (codes "weak")
-    at true b rest e = inl (word_weak word words b)
-    at false b rest e = inr (rest e)
+    at : (b : Bool) → begins_weak word words ≡ b → (list_any is_weak (slots_in n words) ≡ true → Contains words (codes "weak"))
+        → list_any is_weak (cond b (weak_slot (get_or words 0 []) ∷ slots_in n (drop 1 words)) (plain_slot word ∷ slots_in n words)) ≡ true → Contains (word ∷ words) (codes "weak")
+    at true b rest e = (zero, omega arith, word_weak word words b)
+    at false b rest e = let m = rest e in (suc m.0, omega (arith, m.1), m.2)
 
-in_drop : (n : ℕ) (words : List (List ℕ)) (word : List ℕ) → In (drop n words) word → In words word
+in_drop : (n : ℕ) (words : List (List ℕ)) (word : List ℕ) → Contains (drop n words) word → Contains words word
 in_drop zero xs x h = h
 in_drop (suc n) [] x h = h
-in_drop (suc n) (y ∷ xs) x h = inr (in_drop n xs x h)
+in_drop (suc n) (y ∷ xs) x h = let m = in_drop n xs x h in (suc m.0, omega (arith, m.1), m.2)
 
 module _ (test : ℕ → Bool) where
   first_onto : (x : ℕ) (xs : List ℕ) (parts : List (List ℕ)) (part : List ℕ) (more : List (List ℕ)) → ((p : List ℕ) (ps : List (List ℕ)) → parts ≡ p ∷ ps → IsFront xs p)
@@ -170,23 +170,23 @@ module _ (test : ℕ → Bool) where
       at true rest e = (x ∷ xs, ap (λ l. l ++ x ∷ xs) (ap (λ ps. get_or ps 0 []) e))
       at false rest e = first_onto x xs (slice_split test xs) part more rest e
 
-  in_onto : (x : ℕ) (xs part : List ℕ) (parts : List (List ℕ)) → ((p : List ℕ) (ps : List (List ℕ)) → parts ≡ p ∷ ps → IsFront xs p) → (In parts part → IsPart xs part)
-      → In (onto_first x parts) part → IsPart (x ∷ xs) part
+  in_onto : (x : ℕ) (xs part : List ℕ) (parts : List (List ℕ)) → ((p : List ℕ) (ps : List (List ℕ)) → parts ≡ p ∷ ps → IsFront xs p) → (Contains parts part → IsPart xs part)
+      → Contains (onto_first x parts) part → IsPart (x ∷ xs) part
   unfolding IsPart
-  in_onto x xs part [] front rest (inl e) = ([], xs, ap (λ l. l ++ xs) e)
-  in_onto x xs part [] front rest (inr h) = absurd h
-  in_onto x xs part (p ∷ ps) front rest (inl e) = let f = front p ps refl in ([], f.0, ap (λ l. x ∷ l) f.1 ∙ ap (λ l. l ++ f.0) e)
-  in_onto x xs part (p ∷ ps) front rest (inr h) = let r = rest (inr h) in (x ∷ r.0, r.1, ap (λ l. x ∷ l) r.2)
+  in_onto x xs part [] front rest (zero, b, e) = ([], xs, ap (λ l. l ++ xs) e)
+  in_onto x xs part [] front rest (suc k, b, e) = absurd (omega (arith, b))
+  in_onto x xs part (p ∷ ps) front rest (zero, b, e) = let f = front p ps refl in ([], f.0, ap (λ l. x ∷ l) f.1 ∙ ap (λ l. l ++ f.0) e)
+  in_onto x xs part (p ∷ ps) front rest (suc k, b, e) = let r = rest (suc k, omega (arith, b), e) in (x ∷ r.0, r.1, ap (λ l. x ∷ l) r.2)
 
-  part_of_split : (xs part : List ℕ) → In (slice_split test xs) part → IsPart xs part
+  part_of_split : (xs part : List ℕ) → Contains (slice_split test xs) part → IsPart xs part
   unfolding IsPart
-  part_of_split [] part (inl e) = ([], [], ap (λ l. l ++ []) e)
-  part_of_split [] part (inr h) = absurd h
+  part_of_split [] part (zero, b, e) = ([], [], ap (λ l. l ++ []) e)
+  part_of_split [] part (suc k, b, e) = absurd (omega (arith, b))
   part_of_split (x ∷ xs) part h = at (test x) (part_of_split xs part) h
     where
-      at : (b : Bool) → (In (slice_split test xs) part → IsPart xs part) → In (cond b ([] ∷ slice_split test xs) (onto_first x (slice_split test xs))) part → IsPart (x ∷ xs) part
-      at true rest (inl e) = ([], x ∷ xs, ap (λ l. l ++ x ∷ xs) e)
-      at true rest (inr h) = let r = rest h in (x ∷ r.0, r.1, ap (λ l. x ∷ l) r.2)
+      at : (b : Bool) → (Contains (slice_split test xs) part → IsPart xs part) → Contains (cond b ([] ∷ slice_split test xs) (onto_first x (slice_split test xs))) part → IsPart (x ∷ xs) part
+      at true rest (zero, b, e) = ([], x ∷ xs, ap (λ l. l ++ x ∷ xs) e)
+      at true rest (suc k, b, e) = let r = rest (k, omega (arith, b), e) in (x ∷ r.0, r.1, ap (λ l. x ∷ l) r.2)
       at false rest h = in_onto x xs part (slice_split test xs) (first_is_front xs) rest h
 
 occurs : (text part word : List ℕ) → IsPart text part → IsPart part word → (k : ℕ) × OccursAt text word k
@@ -209,22 +209,22 @@ none_found text None none finds e t = finds
 none_found text (Some k) none finds e t = absurd (false≢true (sym (ap not t) ∙ sym e))
 
 module _ (text : List ℕ) (nowhere : Nowhere (OccursAt text (codes "weak")) 0 (length text + 1)) where
-  no_word : (part : List ℕ) → In (parts_of text) part → In (words_in part) (codes "weak") → ⊥
+  no_word : (part : List ℕ) → Contains (parts_of text) part → Contains (words_in part) (codes "weak") → ⊥
   no_word part p w =
       let at = occurs text part (codes "weak") (part_of_split (λ b. eqb b 10) text part p)
       (part_of_split is_ascii_whitespace part (codes "weak") (filter_member has_byte (slice_split is_ascii_whitespace part) (codes "weak") w).0) in
       let fits = at.1.fits in
       nowhere at.0 (omega arith) (omega (arith, fits)) at.1
 
-  not_weak : (part : List ℕ) → In (parts_of text) part → (b : Bool) (slots : List Slot) → AreSlotsOf (words_in part) slots → list_any is_weak slots ≡ b → b ≡ false
+  not_weak : (part : List ℕ) → Contains (parts_of text) part → (b : Bool) (slots : List Slot) → AreSlotsOf (words_in part) slots → list_any is_weak slots ≡ b → b ≡ false
   not_weak part p false slots are e = refl
   not_weak part p true slots are e =
       absurd (no_word part p (in_drop 3 (words_in part) (codes "weak") (weak_word are.0 (content_of (words_in part)) (ap (list_any is_weak) (sym are.2) ∙ e))))
 
-  same_lines : (Strong : List ℕ → Type 0) (parts : List (List ℕ)) → ((part : List ℕ) → In parts part → In (parts_of text) part) → AllZip (IsReadAs Strong) parts parts
+  same_lines : (Strong : List ℕ → Type 0) (parts : List (List ℕ)) → ((part : List ℕ) → Contains parts part → Contains (parts_of text) part) → AllZip (IsReadAs Strong) parts parts
   same_lines Strong [] all = tt
   same_lines Strong (part ∷ parts) all =
-      (inl ((λ slots are. let e = not_weak part (all part (inl refl)) (list_any is_weak slots) slots are refl in e), refl), same_lines Strong parts (λ p h. all p (inr h)))
+      (inl ((λ slots are. let e = not_weak part (all part (zero, omega arith, refl)) (list_any is_weak slots) slots are refl in e), refl), same_lines Strong parts (λ p h. all p (suc h.0, omega (arith, h.1), h.2)))
 
   pub same_text : IsWithoutWeak text text
   same_text = record {

@@ -1,5 +1,5 @@
 -- The lines of an image add up to the image.
-use Rattle.std.proofs.Common.{◌≡◌, ℕ, zero, suc, ◌+◌, ◌-◌, ◌*◌, ◌^◌, ◌<◌, ◌≤◌, inl, inr, Bool, List, [], ◌∷◌, ◌++◌, length, get_or, take, drop, map, flat_map, set, min, replicate}
+use Rattle.std.proofs.Common.{◌≡◌, ℕ, zero, suc, ◌+◌, ◌-◌, ◌*◌, ◌^◌, ◌<◌, ◌≤◌, inl, inr, Bool, List, [], ◌∷◌, ◌++◌, length, get_or, take, drop, map, flat_map, set, min, replicate, Contains}
 use Rattle.std.proofs.Common.{refl, sym, ◌∙◌, ap, subst, arith, append_assoc, append-nil, length-append, length-take-le, drop-drop, take_all}
 use Rattle.std.specs.Prelude.{Option, Some, None, IfSome, All, slice_index, slice_index_or}
 use Rattle.std.specs.List.{range_with_len}
@@ -12,13 +12,12 @@ use Rattle.std.proofs.Math.Seq.{take-add}
 use Rattle.std.proofs.Math.Nat.{mul-le-mul_left}
 use Rattle.g1_words.specs.Kind.{MayHoldCards}
 use Rattle.g1_words.specs.Heap.{free_region, kind, top, pinned, region, regions, start, end, objects, objects_in, objects_by, object_at}
-use Rattle.g1_words.specs.Valid.{IsFirst, IsHumongous, IsWholeRun, HoldsBy, IsShapedBy, IsValid, Tiles}
+use Rattle.g1_words.specs.Valid.{IsFirst, IsHumongous, IsWholeRun, HoldsBy, IsShapedBy, Tiles}
 use Rattle.g1_words.specs.declared.object.Object.{Object}
 use Rattle.g1_words.specs.declared.region.Region.{Region}
 use Rattle.g1_words.specs.declared.region.Kind.{Kind}
 use Rattle.g1_words.specs.declared.region.Kind.TheVariants.{Free, Ordinary, HumongousFirst, Continuation}
 use Rattle.g1_words.proofs.Computed.{object_is, holds_are, range_below}
-use Rattle.g1_words.proofs.Members.{In, Contains-from_in}
 use Rattle.g1_words.proofs.Lists.{range_split}
 use Rattle.g1_image.specs.Image.{Image, IsImage, IsUsedCard, remembered_of, used_words}
 use Rattle.g1_text.specs.Laws.{LinesAddUp, LinesSayImage}
@@ -64,11 +63,11 @@ remembered_words : (r : ℕ) (cards : List ℕ) → map words_of (said_remembere
 remembered_words r [] = refl
 remembered_words r (c ∷ cs) = refl
 
-flat_words : (f : ℕ → List Line) (g : ℕ → List (List (List ℕ))) (xs : List ℕ) → ((x : ℕ) → In xs x → map words_of (f x) ≡ g x) → map words_of (flat_map f xs) ≡ flat_map g xs
+flat_words : (f : ℕ → List Line) (g : ℕ → List (List (List ℕ))) (xs : List ℕ) → ((x : ℕ) → Contains xs x → map words_of (f x) ≡ g x) → map words_of (flat_map f xs) ≡ flat_map g xs
 flat_words f g [] each = refl
 flat_words f g (x ∷ xs) each =
-    let first = each x (inl refl) in
-    let rest = flat_words f g xs (λ y m. each y (inr m)) in
+    let first = each x (zero, omega arith, refl) in
+    let rest = flat_words f g xs (λ y m. each y (suc m.0, omega (arith, m.1), m.2)) in
     map-append words_of (f x) (flat_map f xs) ∙ (λ t. first t ++ rest t)
 
 module _ (i : Image) (good : IsImage i) where
@@ -100,16 +99,13 @@ abbrev rooted : Image → List ℕ → List ℕ → Content
 rooted i roots log = record (read_so_far i [] (replicate i.heap.geometry.n []) [] 0 [] []) { roots = roots; log = log }
 
 module _ (i : Image) (good : IsImage i) where
-  valid : IsValid i.heap
-  valid = good.heap
-
   roots_add : (m count : ℕ) → m + count ≡ length i.heap.roots → Adds (rooted i (take m i.heap.roots) []) (map (said_root i) (range_with_len m count)) (rooted i i.heap.roots [])
   roots_add m zero e = λ t. rooted i (take_all m i.heap.roots (omega (arith, e)) t) []
   roots_add m (suc count) e = (
     rooted i (take (m + 1) i.heap.roots) [],
     (
       sym (length-take-le m i.heap.roots (omega (arith, e))),
-      omega (arith, e, valid.root_count),
+      omega (arith, e, good.heap.root_count),
       small_at i.heap.roots m (roots_small i good),
       (λ t. rooted i (take_more i.heap.roots m 0 (omega (arith, e)) t) []),
     ),
@@ -118,8 +114,8 @@ module _ (i : Image) (good : IsImage i) where
 
   card_small : (c : ℕ) → IsUsedCard i.heap c → c < 2 ^ 32
   card_small c used =
-      let more : c * 4 ≤ c * i.heap.geometry.k = mul-le-mul_left c valid.limits.k_least in
-      omega (arith, more, used.in_heap, valid.limits.words_most)
+      let more : c * 4 ≤ c * i.heap.geometry.k = mul-le-mul_left c good.heap.limits.k_least in
+      omega (arith, more, used.in_heap, good.heap.limits.words_most)
 
   log_small : All (λ x. x < 2 ^ 32) i.log
   log_small k d lt = card_small (get_or i.log k d) (good.log.used k d lt)
@@ -173,10 +169,10 @@ after_regions i r beyond = read_so_far i (take r i.heap.regions) (sets_said i r)
 
 module _ (i : Image) (good : IsImage i) (r : ℕ) (below : r < i.heap.geometry.n) where
   regions_below : length (take r i.heap.regions) ≡ r
-  regions_below = length-take-le r i.heap.regions (omega (arith, below, (valid i good).region_count))
+  regions_below = length-take-le r i.heap.regions (omega (arith, below, good.heap.region_count))
 
   one_more : take (r + 1) i.heap.regions ≡ take r i.heap.regions ++ region i.heap r ∷ []
-  one_more = take_more i.heap.regions r free_region (omega (arith, below, (valid i good).region_count))
+  one_more = take_more i.heap.regions r free_region (omega (arith, below, good.heap.region_count))
 
   used_more : used_words i.heap.geometry.w (take (r + 1) i.heap.regions) i.heap.words
       ≡ used_words i.heap.geometry.w (take r i.heap.regions) i.heap.words ++ take (top i.heap r) (drop (r * i.heap.geometry.w) i.heap.words)
@@ -232,7 +228,7 @@ module _ (i : Image) (good : IsImage i) (r : ℕ) (below : r < i.heap.geometry.n
         record c { remembered = sets_said i (r + 1) },
         (
           omega (arith, place, sets_below),
-          omega (arith, below, (valid i good).limits.n_most),
+          omega (arith, below, good.heap.limits.n_most),
           subst (All (λ y. y < 2 ^ 32)) (sym is) (cards_small i good r below),
           (λ t. record c { remembered = sym new t }),
         ),
@@ -251,8 +247,8 @@ module _ (i : Image) (good : IsImage i) (r : ℕ) (below : r < i.heap.geometry.n
   objects_small : length (objects_in i.heap r) < 2 ^ 64
   objects_small = let few = objects_few (kind i.heap r) i.heap r in let small = top_small i good r below in omega (arith, few, small)
 
-  members : (k : Kind) → kind i.heap r ≡ k → (o : Object) → In (objects_by k i.heap r) o → IsPlain i.heap.words o
-  members k is o m = plain i good r o below (subst (λ l. In l o) (ap (λ x. objects_by x i.heap r) (sym is)) m)
+  members : (k : Kind) → kind i.heap r ≡ k → (o : Object) → Contains (objects_by k i.heap r) o → IsPlain i.heap.words o
+  members k is o m = plain i good r o below (subst (λ l. Contains l o) (ap (λ x. objects_by x i.heap r) (sym is)) m)
 
   filled : (ats : List ℕ) (k : Kind) → kind i.heap r ≡ k → IsShapedBy k i.heap r → (b : ℕ) → GoesOn i.heap r b
       → MayFollow (after_regions i r b) k × (after : ℕ) × GoesOn i.heap (r + 1) after × Filled k b after ats
@@ -275,8 +271,8 @@ module _ (i : Image) (good : IsImage i) (r : ℕ) (below : r < i.heap.geometry.n
       let from : r * w ≡ r * w + 0 = omega arith in
       let placed : Tiles i.heap.words (r * w + 0) os (r * w + top i.heap r) =
       subst (λ a. Tiles i.heap.words a os (r * w + top i.heap r)) from (subst (λ l. Tiles i.heap.words (r * w) l (r * w + top i.heap r)) are tiles) in
-      let each : (o : Object) → In os o → IsPlain i.heap.words o × (4 * o.size ≤ 3 * w) =
-      λ o m. (members Ordinary is o m, (let c = Contains-from_in shaped.2 o (subst (λ l. In l o) (sym are) m) in subst (λ (x : Object). 4 * x.size ≤ 3 * w) c.2 (shaped.4 c.0 o c.1))) in
+      let each : (o : Object) → Contains os o → IsPlain i.heap.words o × (4 * o.size ≤ 3 * w) =
+      λ o m. (members Ordinary is o m, (let c = subst (λ l. Contains l o) (sym are) m in subst (λ (x : Object). 4 * x.size ≤ 3 * w) c.2 (shaped.4 c.0 o c.1))) in
       let few : 0 + length os < 2 ^ 64 = (let same : length os ≡ length (objects_in i.heap r) = ap (λ k. length (objects_by k i.heap r)) (sym is) in omega (arith, same, objects_small)) in
       let added = objects_add i good r below (pinned i.heap r) (sets_said i (r + 1)) os (words_said i r b) (b - 0) 0 (top i.heap r) 0 ats placed shaped.1 each few in
       let height : top i.heap r - 0 ≡ top i.heap r = omega arith in
@@ -299,7 +295,7 @@ module _ (i : Image) (good : IsImage i) (r : ℕ) (below : r < i.heap.geometry.n
       let same : shaped.0 ≡ o = object_is i.heap shaped.0 shaped.1.object ∙ ap (object_at i.heap) shaped.1.at in
       let shape : IsFirst i.heap r o × IsHumongous i.heap o × (top i.heap r ≡ min w o.size) × IsWholeRun i.heap r o.size =
       subst (λ x. IsFirst i.heap r x × IsHumongous i.heap x × (top i.heap r ≡ min w x.size) × IsWholeRun i.heap r x.size) same (shaped.1, shaped.2, shaped.3, shaped.4) in
-      let is_plain : IsPlain i.heap.words o = members HumongousFirst is o (inl refl) in
+      let is_plain : IsPlain i.heap.words o = members HumongousFirst is o (zero, omega arith, refl) in
       let used : List ℕ = used_words w (take r i.heap.regions) i.heap.words in
       let here : List ℕ = drop (r * w) i.heap.words in
       let words : words_said i r b ++ take o.size here ≡ words_said i (r + 1) (o.size - w) =
@@ -310,7 +306,7 @@ module _ (i : Image) (good : IsImage i) (r : ℕ) (below : r < i.heap.geometry.n
         (
           within_region i r (pinned i.heap r) (sets_said i (r + 1)) HumongousFirst (words_said i r b ++ take o.size here) (o.size - w) (min w o.size) 1 (ats ++ o.at ∷ []),
           object_adds i good r below (pinned i.heap r) (sets_said i (r + 1)) HumongousFirst (words_said i r b) (b - 0) 0 0 ats o is_plain (omega arith)
-              (refl, shape.1, omega (arith, is_plain.within, (valid i good).word_count)) (omega arith),
+              (refl, shape.1, omega (arith, is_plain.within, good.heap.word_count)) (omega arith),
           (λ t. within_region i r (pinned i.heap r) (sets_said i (r + 1)) HumongousFirst (words t) (o.size - w) (sym shape.2 t) 1 (ats ++ o.at ∷ [])),
         ),
       )
@@ -344,7 +340,7 @@ module _ (i : Image) (good : IsImage i) (r : ℕ) (below : r < i.heap.geometry.n
       let ats : List ℕ = addresses_said i r in
       let opened : Content = within_region i r p (sets_said i r) k (words_said i r b) (b - t) t 0 ats in
       let remembered : Content = within_region i r p (sets_said i (r + 1)) k (words_said i r b) (b - t) t 0 ats in
-      let all = filled ats k refl ((valid i good).shaped r below).by_kind b on in
+      let all = filled ats k refl (good.heap.shaped r below).by_kind b on in
       let closed : Content = within_region i r p (sets_said i (r + 1)) k (words_said i (r + 1) all.1) all.1 (top i.heap r) (length (objects_in i.heap r)) (ats ++ map address_of (objects_in i.heap r)) in
       let counts : map (counts_at i) (range_with_len 0 r) ++ counts_at i r ∷ [] ≡ map (counts_at i) (range_with_len 0 (r + 1)) = sym (map-range_with_len_more (counts_at i) 0 r r (omega arith)) in
       let same : closed ≡ after_regions i (r + 1) all.1 = (λ s. read_so_far i (sym one_more s) (sets_said i (r + 1)) (words_said i (r + 1) all.1) all.1 (counts s) (addresses_more s)) in
@@ -356,12 +352,12 @@ module _ (i : Image) (good : IsImage i) (r : ℕ) (below : r < i.heap.geometry.n
           (
             sym regions_below,
             below,
-            omega (arith, below, (valid i good).limits.n_most),
+            omega (arith, below, good.heap.limits.n_most),
             all.0,
             omega (arith, small),
             objects_small,
             omega (arith, (good.remembered r below).count),
-            (valid i good).pins r below,
+            good.heap.pins r below,
             refl,
           ),
           adds_both (said_remembered r (remembered_of i r)) (map (said_object i.heap.words) (objects_in i.heap r)) opened remembered (after_regions i (r + 1) all.1)
@@ -403,7 +399,7 @@ module _ (i : Image) (good : IsImage i) where
   last_content b none =
       let n : ℕ = i.heap.geometry.n in
       let w : ℕ = i.heap.geometry.w in
-      let all : take n i.heap.regions ≡ i.heap.regions = take_all n i.heap.regions (omega (arith, (valid i good).region_count)) in
+      let all : take n i.heap.regions ≡ i.heap.regions = take_all n i.heap.regions (omega (arith, good.heap.region_count)) in
       let every : take n i.remembered ≡ i.remembered = take_all n i.remembered (omega (arith, good.one_each)) in
       let zero_left : n - n ≡ 0 = omega arith in
       let sets : sets_said i n ≡ i.remembered = (λ t. every t ++ replicate (zero_left t) []) ∙ append-nil i.remembered in
@@ -430,8 +426,8 @@ module _ (i : Image) (good : IsImage i) where
 
   counts_agree : (r : ℕ) → r < i.heap.geometry.n → CountsAgree (content_of i) (counts_at i r)
   counts_agree r lt = record {
-    region = omega (arith, lt, (valid i good).region_count);
-    holds = some_object (kind i.heap r) r refl ((valid i good).shaped r lt).by_kind;
+    region = omega (arith, lt, good.heap.region_count);
+    holds = some_object (kind i.heap r) r refl (good.heap.shaped r lt).by_kind;
     top = refl;
     objects = refl;
     cards = refl;
@@ -439,13 +435,13 @@ module _ (i : Image) (good : IsImage i) where
 
   current_is : (c : Option ℕ) → i.heap.current ≡ c → IfSome c (λ r. r < i.heap.geometry.n) → IfSome c (λ r. (r < length i.heap.regions) × (kind i.heap r ≡ Ordinary))
   current_is None e lt = tt
-  current_is (Some r) e lt = (omega (arith, lt, (valid i good).region_count), ((valid i good).shaped r lt).current e)
+  current_is (Some r) e lt = (omega (arith, lt, good.heap.region_count), (good.heap.shaped r lt).current e)
 
   agrees : Agrees (content_of i)
   agrees = record {
     roots = refl;
     dirty = refl;
-    current = current_is i.heap.current refl (valid i good).current_in;
+    current = current_is i.heap.current refl good.heap.current_in;
     regions = λ k d lt.
         let n : ℕ = i.heap.geometry.n in
         let there : k < n = omega (arith, lt, length-map-range_with_len (counts_at i) 0 n) in
@@ -458,9 +454,9 @@ module _ (i : Image) (good : IsImage i) where
     current = i.heap.current;
     roots = length i.heap.roots;
     dirty = length i.log;
-    limits = (valid i good).limits;
-    region = current_fits i.heap.current i.heap.geometry.n (valid i good).limits.n_most (valid i good).current_in;
-    root_count = omega (arith, (valid i good).root_count);
+    limits = good.heap.limits;
+    region = current_fits i.heap.current i.heap.geometry.n good.heap.limits.n_most good.heap.current_in;
+    root_count = omega (arith, good.heap.root_count);
     dirty_count = omega (arith, good.log.count);
     line = refl;
     says = refl;
@@ -481,7 +477,7 @@ module _ (i : Image) (good : IsImage i) where
 
   -- each region was said, and no humongous object goes on
   pub all_closed : ((content_of i).beyond ≡ 0) × ((content_of i).geometry.n ≤ length (content_of i).regions)
-  all_closed = (refl, omega (arith, (valid i good).region_count))
+  all_closed = (refl, omega (arith, good.heap.region_count))
 
 -- THE LINES OF AN IMAGE ADD UP to the image
 pub lines_add_up : LinesAddUp

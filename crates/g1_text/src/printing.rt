@@ -3,7 +3,7 @@ ghost use Rattle.g1_words.specs.Heap.{objects_in, objects, regions};
 ghost use Rattle.g1_text.specs.Lines.{line_text, further, text_of, reference_word, heading, root_lines, root_line, cards_words, log_lines, region_line, remembered_lines, object_line, region_lines, image_text};
 
 use g1_image::Image;
-use g1_words::{Fault, Heap, Object, Region, Words, data, laws, objects_in, slots};
+use g1_words::{Fault, Heap, Object, Region, Words, data, objects_in, slots};
 use itoa::Buffer;
 use std::alloc::{AllocError, Global};
 
@@ -48,7 +48,6 @@ pub fn object_line(alloc: Global, heap: &Heap, object: &Object) -> Result<String
     ensures text { Contains (objects heap.now) object.now → IfOk result (λ s. string_bytes s ≡ line_text (object_line heap.now.words object.now)) }
     ensures memory { IfErr result (λ e. e ≡ Fault.Memory) }
 {
-    laws::valid(heap);
     let mut text = String::new(alloc);
     let words = heap.words();
     let laid = words.laid().len() as u64;
@@ -203,9 +202,9 @@ fn push_objects(
     requires starts { starts.now ≡ map (λ o. o.at) (objects_in heap.now region) }
     ensures { OnOk result (string_bytes text.new ≡ string_bytes text.old ++ text_of (map (object_line heap.now.words) (objects_in heap.now region))) }
 {
-    laws::valid(heap);
+    let words = heap.words();
     for start in starts {
-        push_object(text, heap.words(), &heap.object(*start))?;
+        push_object(text, words, &heap.object(*start))?;
     }
     Ok(())
 }

@@ -1,5 +1,5 @@
 -- The log after a slot that leads into another region is written.
-use Rattle.std.proofs.Common.{◌≡◌, ◌≢◌, ℕ, zero, suc, ◌-◌, ◌/◌, ◌<◌, Bool, true, false, refl, cond, ◌||◌, List, [], ◌∷◌, ◌++◌, sym, ◌∙◌, ap, arith, eqb, eq-eqb}
+use Rattle.std.proofs.Common.{◌≡◌, ◌≢◌, ℕ, zero, suc, ◌-◌, ◌/◌, ◌<◌, true, false, refl, cond, ◌||◌, List, [], ◌∷◌, ◌++◌, sym, ◌∙◌, ap, arith, eqb, eq-eqb}
 use Rattle.std.specs.List.{list_any}
 use Rattle.std.proofs.lemmas.Bool.{true_from_ne_false, ne_eqb}
 use Rattle.g1_words.specs.Geometry.{Geometry}

@@ -2,7 +2,7 @@
 use Rattle.std.proofs.Common.{◌≡◌, ℕ, zero, suc, ◌+◌, ◌^◌, ◌<◌, ◌≤◌, ◌⊎◌, inl, inr, List, [], ◌∷◌, ◌++◌, length, get_or, drop, Contains, refl, sym, ◌∙◌, ap, subst, arith, length-append}
 use Rattle.std.proofs.lemmas.Bool.{cases_lt, cases_order}
 use Rattle.g1_words.specs.Geometry.{Geometry}
-use Rattle.g1_words.proofs.Members.{In, In-from_contains}
+use Rattle.g1_words.proofs.Members.{none_contains}
 use Rattle.g1_trace.specs.declared.command.Command.{Command}
 use Rattle.g1_trace.specs.declared.command.Command.TheVariants.{New, Get, Put, Set, Say, Same, Copy, Drop, Pause}
 use Rattle.g1_trace.specs.TraceText.{AllFit, numbers_of, command_line, heap_line, IsHeapLine, IsCommandLine, IsText, IsBadRest, IsFirstBadLine}
@@ -142,23 +142,20 @@ heap_told line =
 
 -- bytes have a first end of a line, or none
 abbrev EndsAt : List ℕ → Type 0
-EndsAt bytes = (line : List ℕ) × (more : List ℕ) × (bytes ≡ line ++ 10 ∷ more) × (In line 10 → ⊥)
+EndsAt bytes = (line : List ℕ) × (more : List ℕ) × (bytes ≡ line ++ 10 ∷ more) × (Contains line 10 → ⊥)
 
-end_told : (bytes : List ℕ) → EndsAt bytes ⊎ (In bytes 10 → ⊥)
-end_told [] = inr (λ i. i)
+end_told : (bytes : List ℕ) → EndsAt bytes ⊎ (Contains bytes 10 → ⊥)
+end_told [] = inr (none_contains 10)
 end_told (b ∷ bs) = by (same_number b 10) (end_told bs)
   where
-    apart : (line : List ℕ) → (b ≡ 10 → ⊥) → (In line 10 → ⊥) → In (b ∷ line) 10 → ⊥
-    apart line n m (inl e) = n e
-    apart line n m (inr i) = m i
+    apart : (line : List ℕ) → (b ≡ 10 → ⊥) → (Contains line 10 → ⊥) → Contains (b ∷ line) 10 → ⊥
+    apart line n m (zero, b, e) = n e
+    apart line n m (suc k, b, e) = m (k, omega (arith, b), e)
 
-    by : Told (b ≡ 10) → EndsAt bs ⊎ (In bs 10 → ⊥) → EndsAt (b ∷ bs) ⊎ (In (b ∷ bs) 10 → ⊥)
-    by (inl e) r = inl ([], bs, (λ t. e t ∷ bs), λ i. i)
+    by : Told (b ≡ 10) → EndsAt bs ⊎ (Contains bs 10 → ⊥) → EndsAt (b ∷ bs) ⊎ (Contains (b ∷ bs) 10 → ⊥)
+    by (inl e) r = inl ([], bs, (λ t. e t ∷ bs), none_contains 10)
     by (inr n) (inl (line, more, e, m)) = inl (b ∷ line, more, ap (λ xs. b ∷ xs) e, apart line n m)
     by (inr n) (inr m) = inr (apart bs n m)
-
-unended : (xs : List ℕ) → (In xs 10 → ⊥) → Contains xs 10 → ⊥
-unended xs n c = n (In-from_contains xs 10 c)
 
 -- a trace's text, or a first bad line
 abbrev Outcome : List ℕ → Type 0
@@ -172,16 +169,16 @@ module _ (bytes : List ℕ) (g : Geometry) (roots : ℕ) where
   bad_told cs rest r p = inr (length cs + 2, bad_later bytes g.w g.k g.n roots cs rest (length cs + 2) r refl p)
 
   -- what is left is told by the rest of the lines after one that is a command's
-  line_told : (cs : List Command) (rest line more : List ℕ) → IsRead bytes g.w g.k g.n roots cs rest → rest ≡ line ++ 10 ∷ more → (In line 10 → ⊥) → Told (IsCommandLine line)
+  line_told : (cs : List Command) (rest line more : List ℕ) → IsRead bytes g.w g.k g.n roots cs rest → rest ≡ line ++ 10 ∷ more → (Contains line 10 → ⊥) → Told (IsCommandLine line)
       → ((c : Command) → IsRead bytes g.w g.k g.n roots (cs ++ c ∷ []) more → Outcome bytes) → Outcome bytes
   line_told cs rest line more r e n (inl (c, f, is)) next = next c (read_more bytes g.w g.k g.n roots cs (cs ++ c ∷ []) rest line more c r e is f refl)
   line_told cs rest line more r e n (inr m) next = let z : length cs + 1 ≡ suc (length cs) = omega arith in
-      bad_told cs rest r (subst (λ k. IsBadRest k rest) (sym z) (inr (line, more, e, unended line n, m)))
+      bad_told cs rest r (subst (λ k. IsBadRest k rest) (sym z) (inr (line, more, e, n, m)))
 
-  rest_told : (cs : List Command) (rest : List ℕ) (fuel : ℕ) → 0 < length rest → length rest ≤ suc fuel → IsRead bytes g.w g.k g.n roots cs rest → EndsAt rest ⊎ (In rest 10 → ⊥)
+  rest_told : (cs : List Command) (rest : List ℕ) (fuel : ℕ) → 0 < length rest → length rest ≤ suc fuel → IsRead bytes g.w g.k g.n roots cs rest → EndsAt rest ⊎ (Contains rest 10 → ⊥)
       → ((ds : List Command) (more : List ℕ) → length more ≤ fuel → IsRead bytes g.w g.k g.n roots ds more → Outcome bytes) → Outcome bytes
   rest_told cs rest fuel some le r (inl (line, more, e, n)) next = line_told cs rest line more r e n (command_told line) (λ c q. next (cs ++ c ∷ []) more (shorter rest line more fuel e le) q)
-  rest_told cs rest fuel some le r (inr n) next = bad_told cs rest r (inl (unended rest n, inl some))
+  rest_told cs rest fuel some le r (inr n) next = bad_told cs rest r (inl (n, inl some))
 
   later_told : (fuel : ℕ) (cs : List Command) (rest : List ℕ) → length rest ≤ fuel → IsRead bytes g.w g.k g.n roots cs rest → Outcome bytes
   later_told fuel cs [] le r = inl (g, roots, cs, read_end bytes g roots cs [] r refl)
@@ -192,10 +189,10 @@ module _ (bytes : List ℕ) (g : Geometry) (roots : ℕ) where
 pub text_or_bad_line : (bytes : List ℕ) → Outcome bytes
 text_or_bad_line bytes = by (end_told bytes)
   where
-    on : (line more : List ℕ) → bytes ≡ line ++ 10 ∷ more → (In line 10 → ⊥) → Told (IsHeapLine line) → Outcome bytes
+    on : (line more : List ℕ) → bytes ≡ line ++ 10 ∷ more → (Contains line 10 → ⊥) → Told (IsHeapLine line) → Outcome bytes
     on line more e n (inl (w, k, m, roots, f, is)) = later_told bytes (record { w = w; k = k; n = m }) roots (length more) [] more (omega arith) (read_start bytes line more w k m roots [] e is f refl)
-    on line more e n (inr no_line) = inr (1, record { good = []; rest = bytes; split = refl; are_lines = tt; number = omega arith; bad = inr (line, more, e, unended line n, no_line) })
+    on line more e n (inr no_line) = inr (1, record { good = []; rest = bytes; split = refl; are_lines = tt; number = omega arith; bad = inr (line, more, e, n, no_line) })
 
-    by : EndsAt bytes ⊎ (In bytes 10 → ⊥) → Outcome bytes
+    by : EndsAt bytes ⊎ (Contains bytes 10 → ⊥) → Outcome bytes
     by (inl (line, more, e, n)) = on line more e n (heap_told line)
-    by (inr n) = inr (1, record { good = []; rest = bytes; split = refl; are_lines = tt; number = omega arith; bad = inl (unended bytes n, inr refl) })
+    by (inr n) = inr (1, record { good = []; rest = bytes; split = refl; are_lines = tt; number = omega arith; bad = inl (n, inr refl) })

@@ -1,20 +1,19 @@
 -- Each effect, done on two views of the same objects, leaves two views of the same objects.
-use Rattle.std.proofs.Common.{◌≡◌, ℕ, zero, suc, ◌⊎◌, inl, inr, Bool, true, false, cond, List, [], ◌∷◌, set, replicate, map, refl, sym, ◌∙◌, ap, subst, arith, eqb, eqb-true, eq-eqb}
+use Rattle.std.proofs.Common.{◌≡◌, ℕ, zero, suc, ◌⊎◌, inl, inr, Bool, true, false, cond, List, [], ◌∷◌, set, replicate, map, refl, sym, ◌∙◌, ap, subst, arith, eqb, eqb-true, eq-eqb, Contains}
 use Rattle.std.proofs.lemmas.List.{map-set}
-use Rattle.g1_words.proofs.Members.{In}
 use Rattle.g1_words.specs.Copy.{renamed}
 use Rattle.g1_trace.specs.Commands.{View}
 use Rattle.g1_trace.specs.Views.{Seen, SameView, SeenWord}
 use Rattle.g1_trace.proofs.ChangedViews.{IsRootSet, IsSlotSet, IsValueSet, IsMade}
-use Rattle.g1_trace.proofs.Views.{In-set, no_zeros, root_seen, slot_seen, seen_within, both_seen, equal_or_not}
+use Rattle.g1_trace.proofs.Views.{Contains-set, no_zeros, root_seen, slot_seen, seen_within, both_seen, equal_or_not}
 
 word_named : (v : View) (x a : ℕ) → SeenWord v x → x ≡ suc a → Seen v a
 word_named v x a s e = subst (SeenWord v) e s
 
-map-renamed : (f g : ℕ → ℕ) (xs : List ℕ) → ((a : ℕ) → In xs (suc a) → f a ≡ g a) → map (renamed f) xs ≡ map (renamed g) xs
+map-renamed : (f g : ℕ → ℕ) (xs : List ℕ) → ((a : ℕ) → Contains xs (suc a) → f a ≡ g a) → map (renamed f) xs ≡ map (renamed g) xs
 map-renamed f g [] e = refl
-map-renamed f g (zero ∷ xs) e = ap (λ ys. 0 ∷ ys) (map-renamed f g xs (λ a h. e a (inr h)))
-map-renamed f g (suc x ∷ xs) e = λ t. suc (e x (inl refl) t) ∷ map-renamed f g xs (λ a h. e a (inr h)) t
+map-renamed f g (zero ∷ xs) e = ap (λ ys. 0 ∷ ys) (map-renamed f g xs (λ a h. e a (suc h.0, omega (arith, h.1), h.2)))
+map-renamed f g (suc x ∷ xs) e = λ t. suc (e x (zero, omega arith, refl) t) ∷ map-renamed f g xs (λ a h. e a (suc h.0, omega (arith, h.1), h.2)) t
 
 pub map-renamed_zeros : (f : ℕ → ℕ) (n : ℕ) → map (renamed f) (replicate n 0) ≡ replicate n 0
 map-renamed_zeros f zero = refl
@@ -25,8 +24,8 @@ map-renamed_zeros f (suc n) = ap (λ ys. 0 ∷ ys) (map-renamed_zeros f n)
 pub root_set_seen : (v t : View) (r x : ℕ) → SeenWord v x → IsRootSet v r x t → (a : ℕ) → Seen t a → Seen v a
 root_set_seen v t r x s e =
     seen_within t (Seen v)
-    (λ a h. elim (In-set v.roots r x (suc a) (subst (λ xs. In xs (suc a)) e.roots h)) [ inl q ↦ word_named v x a s q | inr g ↦ root_seen v a g ])
-    (λ b a p h. slot_seen v b a p (subst (λ xs. In xs (suc a)) (e.slots b p) h))
+    (λ a h. elim (Contains-set v.roots r x (suc a) (subst (λ xs. Contains xs (suc a)) e.roots h)) [ inl q ↦ word_named v x a s q | inr g ↦ root_seen v a g ])
+    (λ b a p h. slot_seen v b a p (subst (λ xs. Contains xs (suc a)) (e.slots b p) h))
 
 pub root_set_same : (v u t w : View) (r x : ℕ) → (same : SameView v u) → SeenWord v x → IsRootSet v r x t → IsRootSet u r (renamed same.rename x) w → SameView t w
 root_set_same v u t w r x same s e d =
@@ -41,20 +40,20 @@ root_set_same v u t w r x same s e d =
 
 -- ---- a slot is set
 
-slot_list : (v t : View) (m k x : ℕ) → IsSlotSet v m k x t → (b : ℕ) → Seen v b → (a : ℕ) → In (t.slots b) (suc a) → (x ≡ suc a) ⊎ In (v.slots b) (suc a)
+slot_list : (v t : View) (m k x : ℕ) → IsSlotSet v m k x t → (b : ℕ) → Seen v b → (a : ℕ) → Contains (t.slots b) (suc a) → (x ≡ suc a) ⊎ Contains (v.slots b) (suc a)
 slot_list v t m k x e b s a h =
     elim (equal_or_not b m) [
-      | inl n ↦ inr (subst (λ xs. In xs (suc a)) (e.slots b s n) h)
-      | inr q ↦ elim (In-set (v.slots m) k x (suc a) (subst (λ xs. In xs (suc a)) e.written (subst (λ z. In (t.slots z) (suc a)) q h))) [
+      | inl n ↦ inr (subst (λ xs. Contains xs (suc a)) (e.slots b s n) h)
+      | inr q ↦ elim (Contains-set (v.slots m) k x (suc a) (subst (λ xs. Contains xs (suc a)) e.written (subst (λ z. Contains (t.slots z) (suc a)) q h))) [
         | inl y ↦ inl y
-        | inr g ↦ inr (subst (λ z. In (v.slots z) (suc a)) (sym q) g)
+        | inr g ↦ inr (subst (λ z. Contains (v.slots z) (suc a)) (sym q) g)
       ]
     ]
 
 pub slot_set_seen : (v t : View) (m k x : ℕ) → SeenWord v x → IsSlotSet v m k x t → (a : ℕ) → Seen t a → Seen v a
 slot_set_seen v t m k x s e =
     seen_within t (Seen v)
-    (λ a h. root_seen v a (subst (λ xs. In xs (suc a)) e.roots h))
+    (λ a h. root_seen v a (subst (λ xs. Contains xs (suc a)) e.roots h))
     (λ b a p h. elim (slot_list v t m k x e b p a h) [ inl q ↦ word_named v x a s q | inr g ↦ slot_seen v b a p g ])
 
 pub slot_set_same : (v u t w : View) (m k x : ℕ) → (same : SameView v u) → Seen v m → SeenWord v x → IsSlotSet v m k x t → IsSlotSet u (same.rename m) k (renamed same.rename x) w → SameView t w
@@ -78,8 +77,8 @@ slot_set_same v u t w m k x same sm s e d =
 pub value_set_seen : (v t : View) (m k x : ℕ) → IsValueSet v m k x t → (a : ℕ) → Seen t a → Seen v a
 value_set_seen v t m k x e =
     seen_within t (Seen v)
-    (λ a h. root_seen v a (subst (λ xs. In xs (suc a)) e.roots h))
-    (λ b a p h. slot_seen v b a p (subst (λ xs. In xs (suc a)) (e.slots b p) h))
+    (λ a h. root_seen v a (subst (λ xs. Contains xs (suc a)) e.roots h))
+    (λ b a p h. slot_seen v b a p (subst (λ xs. Contains xs (suc a)) (e.slots b p) h))
 
 pub value_set_same : (v u t w : View) (m k x : ℕ) → (same : SameView v u) → Seen v m → IsValueSet v m k x t → IsValueSet u (same.rename m) k x w → SameView t w
 value_set_same v u t w m k x same sm e d =
@@ -101,10 +100,10 @@ value_set_same v u t w m k x same sm e d =
 pub made_seen : (v t : View) (m r refs count : ℕ) → IsMade v m r refs count t → (a : ℕ) → Seen t a → (a ≡ m) ⊎ Seen v a
 made_seen v t m r refs count e =
     seen_within t (λ a. (a ≡ m) ⊎ Seen v a)
-    (λ a h. elim (In-set v.roots r (suc m) (suc a) (subst (λ xs. In xs (suc a)) e.roots h)) [ inl q ↦ inl (omega (arith, q)) | inr g ↦ inr (root_seen v a g) ])
+    (λ a h. elim (Contains-set v.roots r (suc m) (suc a) (subst (λ xs. Contains xs (suc a)) e.roots h)) [ inl q ↦ inl (omega (arith, q)) | inr g ↦ inr (root_seen v a g) ])
     (λ b a p h. elim p [
-      | inl q ↦ absurd (no_zeros refs a (subst (λ xs. In xs (suc a)) e.new_slots (subst (λ z. In (t.slots z) (suc a)) q h)))
-      | inr s ↦ inr (slot_seen v b a s (subst (λ xs. In xs (suc a)) (e.slots b s) h))
+      | inl q ↦ absurd (no_zeros refs a (subst (λ xs. Contains xs (suc a)) e.new_slots (subst (λ z. Contains (t.slots z) (suc a)) q h)))
+      | inr s ↦ inr (slot_seen v b a s (subst (λ xs. Contains xs (suc a)) (e.slots b s) h))
     ])
 
 module _ (v u t w : View) (m a r refs count : ℕ) (same : SameView v u) (e : IsMade v m r refs count t) (d : IsMade u a r refs count w) where
@@ -129,7 +128,7 @@ module _ (v u t w : View) (m a r refs count : ℕ) (same : SameView v u) (e : Is
   at_old : (b : ℕ) → Seen v b → with_new b ≡ same.rename b
   at_old b s = at_other b (not_new b s)
 
-  names_kept : (xs : List ℕ) → ((b : ℕ) → In xs (suc b) → Seen v b) → map (renamed with_new) xs ≡ map (renamed same.rename) xs
+  names_kept : (xs : List ℕ) → ((b : ℕ) → Contains xs (suc b) → Seen v b) → map (renamed with_new) xs ≡ map (renamed same.rename) xs
   names_kept xs s = map-renamed with_new same.rename xs (λ b h. at_old b (s b h))
 
   -- no old object has the new one's name

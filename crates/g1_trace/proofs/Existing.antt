@@ -70,7 +70,7 @@ decided_size g roots =
     decided_as (IsWithinLimits g.w g.k g.n × (roots ≤ most_roots)) (IsHeapSize g roots) (λ p. record { sizes = p.0; roots = p.1 }) (λ s. (s.sizes, s.roots))
     (decided_both (IsWithinLimits g.w g.k g.n) (roots ≤ most_roots) (decided_limits g.w g.k g.n) (decided_le roots most_roots))
 
-writes : (c : Command) → AllFit (numbers_of c) → WritesWord c
+pub writes : (c : Command) → AllFit (numbers_of c) → WritesWord c
 writes (New r refs words) f = tt
 writes (Get r q m) f = tt
 writes (Put r m q) f = tt
@@ -81,7 +81,7 @@ writes (Copy r q) f = tt
 writes (Drop r) f = tt
 writes (Pause b) f = tt
 
-all_write : (commands : List Command) → All (λ c. AllFit (numbers_of c)) commands → AllByRecursion WritesWord commands
+pub all_write : (commands : List Command) → All (λ c. AllFit (numbers_of c)) commands → AllByRecursion WritesWord commands
 all_write [] f = tt
 all_write (c ∷ cs) f = (writes c (All-head (λ c. AllFit (numbers_of c)) c cs f), all_write cs (All-tail (λ c. AllFit (numbers_of c)) c cs f))
 

@@ -6,9 +6,8 @@ use Rattle.g1_words.specs.declared.object.Object.{Object}
 use Rattle.g1_words.specs.declared.region.Kind.{Kind}
 use Rattle.g1_words.specs.declared.region.Kind.TheVariants.{Free, Ordinary, HumongousFirst, Continuation}
 use Rattle.g1_words.specs.Heap.{Heap, kind, top, region_of, card_of, objects, objects_in, object_at, regions, slots}
-use Rattle.g1_words.specs.References.{refs, refs_at, root_targets}
+use Rattle.g1_words.specs.References.{refs, refs_at}
 use Rattle.g1_words.proofs.Indices.{range_bounds}
-use Rattle.g1_words.proofs.Members.{In, In-from_contains, Contains-from_in}
 use Rattle.g1_words.proofs.Shapes.{IsTiled, IsBuiltBy, IsBuilt, built}
 use Rattle.g1_words.proofs.Standing.{home, word_used, words_apart, built_is_sound}
 use Rattle.g1_image.specs.Image.{Image, IsUsedCard}
@@ -16,7 +15,7 @@ use Rattle.g1_image.specs.Cards.{IsTracked}
 use Rattle.g1_image.proofs.Covers.{covered_tells, card_region}
 use Rattle.g1_trace.specs.Mutator.{heap_view, logged, slot_address, value_address, with_roots, with_words}
 use Rattle.g1_trace.specs.Views.{Seen, SeenWord}
-use Rattle.g1_trace.proofs.Views.{In-set, named-in, in-named}
+use Rattle.g1_trace.proofs.Views.{Contains-set, named-in, in-named}
 use Rattle.g1_trace.proofs.SameObjects.{region_same, flat_map-same}
 use Rattle.g1_trace.proofs.Ready.{seen_object, below_end}
 use Rattle.g1_trace.proofs.Written.{refs_cases, written_built}
@@ -71,8 +70,8 @@ module _ (i : Image) (tracked : IsTracked i) where
             (written_built i.heap v a k x here low high (seen_fits x w) (λ o m n b q. is_object b q)) refl
             (logged_is_log i (a + k) tracked.image.heap.limits tracked.image.log (card_used a k here high) x);
         covered = (covered_tells (with_words i (set i.heap.words (a + k) x) (logged i (a + k) x))).1 (λ e c.
-            elim (refs_cases i.heap v a k x here low high e (In-from_contains (refs (record (i.heap) { words = set i.heap.words (a + k) x })) e c)) [
-              | inl old ↦ elim ((covered_tells i).0 tracked.covered e (Contains-from_in (refs i.heap) e old)) [
+            elim (refs_cases i.heap v a k x here low high e c) [
+              | inl old ↦ elim ((covered_tells i).0 tracked.covered e old) [
                 | inl s ↦ inl s
                 | inr y ↦ elim y [ inl s ↦ inr (inl s) | inr s ↦ inr (inr (logged_still i (a + k) x (card_of i.heap e.slot) s)) ]
               ]
@@ -98,11 +97,11 @@ module _ (i : Image) (tracked : IsTracked i) where
       → IsTracked (with_words i (set i.heap.words (a + k) x) i.log)
   value_at a k x here low high fits =
       let v = built i.heap tracked.image.heap in
-      let no_slot : (o : Object) → In (objects i.heap) o → In (slots o) (a + k) → ⊥ = λ o m n.
+      let no_slot : (o : Object) → Contains (objects i.heap) o → Contains (slots o) (a + k) → ⊥ = λ o m n.
       let hm = home i.heap v (object_at i.heap a) here in
-      let om = home i.heap v o (Contains-from_in (objects i.heap) o m) in
+      let om = home i.heap v o m in
       let r = range_bounds (o.at + 1) o.refs (a + k) n in
-      let f : o.refs < o.size = (built_is_sound i.heap v).slots_fit o (Contains-from_in (objects i.heap) o m) in
+      let f : o.refs < o.size = (built_is_sound i.heap v).slots_fit o m in
       let z : a + k ≡ o.at + (a + k - o.at) = omega (arith, r) in
       let same : a ≡ o.at = words_apart i.heap v hm.0 om.0 (object_at i.heap a) o k (a + k - o.at) hm.1 om.1 high (omega (arith, r, f)) z in
       let whole : o ≡ object_at i.heap o.at = om.2.1 in
@@ -113,8 +112,8 @@ module _ (i : Image) (tracked : IsTracked i) where
         image = image_kept i (with_words i (set i.heap.words (a + k) x) i.log) refl (λ r n. refl) tracked.image
             (written_built i.heap v a k x here above high fits (λ o m n. absurd (no_slot o m n))) refl tracked.image.log;
         covered = (covered_tells (with_words i (set i.heap.words (a + k) x) i.log)).1 (λ e c.
-            elim (refs_cases i.heap v a k x here above high e (In-from_contains (refs (record (i.heap) { words = set i.heap.words (a + k) x })) e c)) [
-              | inl old ↦ (covered_tells i).0 tracked.covered e (Contains-from_in (refs i.heap) e old)
+            elim (refs_cases i.heap v a k x here above high e c) [
+              | inl old ↦ (covered_tells i).0 tracked.covered e old
               | inr new ↦ absurd (no_slot new.2.0 new.2.1 new.2.2)
             ]);
       }
@@ -158,7 +157,7 @@ module _ (h : Heap) (v : IsBuilt h) (rs : List ℕ) where
   shaped_roots r HumongousFirst s = record { refs = s.refs; humongous = s.humongous; run = s.run }
   shaped_roots r Continuation s = s
 
-  pub roots_built : length rs ≤ most_roots → ((a : ℕ) → In rs (suc a) → Contains (objects h) (object_at h a)) → IsBuilt (record h { roots = rs })
+  pub roots_built : length rs ≤ most_roots → ((a : ℕ) → Contains rs (suc a) → Contains (objects h) (object_at h a)) → IsBuilt (record h { roots = rs })
   roots_built few named = record {
     limits = v.limits;
     word_count = v.word_count;
@@ -168,7 +167,7 @@ module _ (h : Heap) (v : IsBuilt h) (rs : List ℕ) where
     shaped = λ r lt. shaped_roots r (kind h r) (v.shaped r lt);
     pins = v.pins;
     zero_above = v.zero_above;
-    root_named = λ a c. still a (named a (named-in rs a (In-from_contains (root_targets (record h { roots = rs })) a c)));
+    root_named = λ a c. still a (named a (named-in rs a c));
     slot_named = λ e c. still e.target (v.slot_named e (subst (λ es. Contains es e) same_refs c));
     current = v.current;
   }
@@ -179,9 +178,9 @@ root_tracked i tracked r x w =
     let few : length (set i.heap.roots r x) ≤ most_roots = (let l = tracked.image.heap.root_count in let e = length-set i.heap.roots r x in omega (arith, l, e)) in
     record {
       image = image_kept i (with_roots i (set i.heap.roots r x)) refl (λ q n. refl) tracked.image
-          (roots_built i.heap v (set i.heap.roots r x) few (λ a m. elim (In-set i.heap.roots r x (suc a) m) [
+          (roots_built i.heap v (set i.heap.roots r x) few (λ a m. elim (Contains-set i.heap.roots r x (suc a) m) [
             | inl q ↦ seen_object i.heap (built_is_sound i.heap v) a (subst (SeenWord (heap_view i.heap)) q w)
-            | inr n ↦ v.root_named a (Contains-from_in (root_targets i.heap) a (in-named i.heap.roots a n))
+            | inr n ↦ v.root_named a (in-named i.heap.roots a n)
           ])) refl tracked.image.log;
       covered = (covered_tells (with_roots i (set i.heap.roots r x))).1 (λ e c. (covered_tells i).0 tracked.covered e (subst (λ es. Contains es e) (same_refs i.heap v (set i.heap.roots r x)) c));
     }

@@ -8,27 +8,25 @@ use Rattle.std.proofs.lemmas.Map.Made.{IsDistinct-from_AllPairs}
 use Rattle.std.proofs.lemmas.Map.Steps.{length-le_from_distinct_below}
 use Rattle.std.proofs.Math.Nat.{mul-le-mul_left}
 use Rattle.std.proofs.lemmas.Bool.{or_cases}
+use Rattle.std.proofs.lemmas.List.Elements.{Contains-append_left, All-push, Contains-push}
 use Rattle.g1_words.specs.Geometry.{Geometry, IsWithinBounds}
 use Rattle.g1_words.specs.declared.region.Kind.{Kind}
 use Rattle.g1_words.specs.declared.region.Kind.TheVariants.{Free, Ordinary, HumongousFirst, Continuation}
 use Rattle.g1_words.specs.Heap.{Heap, kind, region_of, card_of}
 use Rattle.g1_words.specs.Lists.{has}
-use Rattle.g1_words.proofs.Members.{In, In-from_contains, Contains-from_in, In-append_left, In-append_right, In-append_cases, has_from_in, in_from_has}
+use Rattle.g1_words.proofs.Members.{has_from_contains, Contains-from_has, none_contains}
 use Rattle.g1_words.proofs.Ordered.{Ordered-from_pairs, pairs_from_ordered}
 use Rattle.g1_words.proofs.Rising.{Ordered-append}
 use Rattle.g1_words.proofs.Shapes.{IsBuilt, valid_of}
-use Rattle.g1_words.proofs.Lists.{all_from_in}
+use Rattle.g1_words.proofs.Lists.{all_in}
 use Rattle.g1_image.specs.Image.{Image, IsUsedCard, MayHoldCards, IsRememberedSet, IsLog, IsImage, region_of_card, remembered_of}
 use Rattle.g1_trace.specs.Mutator.{logged}
-
-all_in : {A : Type 0} (P : A → Type 0) (xs : List A) → All P xs → (x : A) → In xs x → P x
-all_in P xs all x m = let c = Contains-from_in xs x m in subst P c.2 (all c.0 x c.1)
 
 -- distinct cards of a heap are few
 pub few_cards : (h : Heap) (cards : List ℕ) → IsWithinBounds h.geometry.w h.geometry.k h.geometry.n → All (IsUsedCard h) cards → AllPairs (λ c d. c ≢ d) cards → length cards < 2 ^ 32
 few_cards h cards limits used distinct =
     let below : (c : ℕ) → list_any (eqb c) cards ≡ true → c < h.geometry.n * h.geometry.w = λ c e.
-    let u : c * h.geometry.k < h.geometry.n * h.geometry.w = (all_in (IsUsedCard h) cards used c (in_from_has cards c e)).in_heap in
+    let u : c * h.geometry.k < h.geometry.n * h.geometry.w = (all_in (IsUsedCard h) cards c used (Contains-from_has cards c e)).in_heap in
     let some : 1 ≤ h.geometry.k = omega (arith, limits.k_least) in
     let more : c * 1 ≤ c * h.geometry.k = mul-le-mul_left c some in
     omega (arith, u, more) in
@@ -36,54 +34,44 @@ few_cards h cards limits used distinct =
     omega (arith, few, limits.words_most)
 
 module _ (i : Image) (p : ℕ) where
-  log_at : (c : ℕ) (t : Bool) → In i.log c → In (cond t i.log (i.log ++ card_of i.heap p ∷ [])) c
+  log_at : (c : ℕ) (t : Bool) → Contains i.log c → Contains (cond t i.log (i.log ++ card_of i.heap p ∷ [])) c
   log_at c true m = m
-  log_at c false m = In-append_left i.log (card_of i.heap p ∷ []) c m
+  log_at c false m = Contains-append_left i.log (card_of i.heap p ∷ []) c m
 
   -- a card that was logged still is
-  log_keeps : (x c : ℕ) → In i.log c → In (logged i p x) c
-  log_keeps zero c m = m
-  log_keeps (suc b) c m = log_at c ((region_of i.heap p == region_of i.heap b) || has i.log (card_of i.heap p)) m
-
   pub logged_still : (x c : ℕ) → Contains i.log c → Contains (logged i p x) c
-  logged_still x c m = Contains-from_in (logged i p x) c (log_keeps x c (In-from_contains i.log c m))
+  logged_still zero c m = m
+  logged_still (suc b) c m = log_at c ((region_of i.heap p == region_of i.heap b) || has i.log (card_of i.heap p)) m
 
   new_at : (b : ℕ) (t : Bool) → ((region_of i.heap p == region_of i.heap b) || has i.log (card_of i.heap p)) ≡ t
-      → (region_of i.heap p ≡ region_of i.heap b) ⊎ In (cond t i.log (i.log ++ card_of i.heap p ∷ [])) (card_of i.heap p)
-  new_at b false e = inr (In-append_right i.log (card_of i.heap p ∷ []) (card_of i.heap p) (inl refl))
+      → (region_of i.heap p ≡ region_of i.heap b) ⊎ Contains (cond t i.log (i.log ++ card_of i.heap p ∷ [])) (card_of i.heap p)
+  new_at b false e = inr (Contains-push i.log (card_of i.heap p))
   new_at b true e = elim (or_cases (region_of i.heap p == region_of i.heap b) (has i.log (card_of i.heap p)) e) [
     | inl s ↦ inl (eqb-true (region_of i.heap p) (region_of i.heap b) s)
-    | inr l ↦ inr (in_from_has i.log (card_of i.heap p) l)
+    | inr l ↦ inr (Contains-from_has i.log (card_of i.heap p) l)
   ]
 
   -- the card of what is written is logged, where it names an object of another region
   pub logged_now : (b : ℕ) → (region_of i.heap p ≡ region_of i.heap b) ⊎ Contains (logged i p (suc b)) (card_of i.heap p)
-  logged_now b = elim (new_at b ((region_of i.heap p == region_of i.heap b) || has i.log (card_of i.heap p)) refl) [
-    | inl s ↦ inl s
-    | inr m ↦ inr (Contains-from_in (logged i p (suc b)) (card_of i.heap p) m)
-  ]
+  logged_now b = new_at b ((region_of i.heap p == region_of i.heap b) || has i.log (card_of i.heap p)) refl
 
   module _ (valid : IsWithinBounds i.heap.geometry.w i.heap.geometry.k i.heap.geometry.n) (good : IsLog i.heap i.log) (used : IsUsedCard i.heap (card_of i.heap p)) where
-    one_more : (In i.log (card_of i.heap p) → ⊥) → IsLog i.heap (i.log ++ card_of i.heap p ∷ [])
+    one_more : (Contains i.log (card_of i.heap p) → ⊥) → IsLog i.heap (i.log ++ card_of i.heap p ∷ [])
     one_more fresh =
         let c : ℕ = card_of i.heap p in
-        let all : All (IsUsedCard i.heap) (i.log ++ c ∷ []) = all_from_in (IsUsedCard i.heap) (i.log ++ c ∷ []) (λ x m. by x (In-append_cases i.log (c ∷ []) x m)) in
+        let all : All (IsUsedCard i.heap) (i.log ++ c ∷ []) = All-push (IsUsedCard i.heap) i.log c good.used used in
         let apart : AllPairs (λ x y. x ≢ y) (i.log ++ c ∷ []) = pairs_from_ordered (λ x y. x ≢ y) (i.log ++ c ∷ [])
-        (Ordered-append (λ x y. x ≢ y) i.log (c ∷ []) (Ordered-from_pairs (λ x y. x ≢ y) i.log good.distinct) ((λ y k. absurd k), tt)
-        (λ x y mx my e. fresh (subst (In i.log) (e ∙ last y my) mx))) in
+        (Ordered-append (λ x y. x ≢ y) i.log (c ∷ []) (Ordered-from_pairs (λ x y. x ≢ y) i.log good.distinct) ((λ y k. absurd (none_contains y k)), tt)
+        (λ x y mx my e. fresh (subst (Contains i.log) (e ∙ last y my) mx))) in
         record { used = all; distinct = apart; count = few_cards i.heap (i.log ++ c ∷ []) valid all apart }
       where
-        last : (y : ℕ) → In (card_of i.heap p ∷ []) y → y ≡ card_of i.heap p
-        last y (inl e) = sym e
-        last y (inr e) = absurd e
-
-        by : (x : ℕ) → In i.log x ⊎ In (card_of i.heap p ∷ []) x → IsUsedCard i.heap x
-        by x (inl m) = all_in (IsUsedCard i.heap) i.log good.used x m
-        by x (inr m) = subst (IsUsedCard i.heap) (sym (last x m)) used
+        last : (y : ℕ) → Contains (card_of i.heap p ∷ []) y → y ≡ card_of i.heap p
+        last y (zero, b, e) = sym e
+        last y (suc k, b, e) = absurd (omega (arith, b))
 
     log_is_at : (b : ℕ) (t : Bool) → ((region_of i.heap p == region_of i.heap b) || has i.log (card_of i.heap p)) ≡ t → IsLog i.heap (cond t i.log (i.log ++ card_of i.heap p ∷ []))
     log_is_at b true e = good
-    log_is_at b false e = one_more (λ m. absurd (clash (region_of i.heap p == region_of i.heap b) (has i.log (card_of i.heap p)) (has_from_in i.log (card_of i.heap p) m) e))
+    log_is_at b false e = one_more (λ m. clash (region_of i.heap p == region_of i.heap b) (has i.log (card_of i.heap p)) (has_from_contains i.log (card_of i.heap p) m) e)
       where
         clash : (x y : Bool) → y ≡ true → (x || y) ≡ false → ⊥
         clash true y f g = cc

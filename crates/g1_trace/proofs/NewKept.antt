@@ -9,9 +9,7 @@ use Rattle.g1_words.specs.declared.object.Object.{Object}
 use Rattle.g1_words.specs.declared.region.Kind.TheVariants.{Free, Ordinary}
 use Rattle.g1_words.specs.declared.region.Region.{Region}
 use Rattle.g1_words.specs.Heap.{Heap, free_region, kind, top, regions, objects_in}
-use Rattle.g1_words.specs.References.{refs}
 use Rattle.g1_words.proofs.Indices.{range_bounds}
-use Rattle.g1_words.proofs.Members.{In-from_contains, Contains-from_in}
 use Rattle.g1_words.proofs.Shapes.{IsBuilt, built}
 use Rattle.g1_image.specs.Image.{Image}
 use Rattle.g1_image.specs.Cards.{IsTracked}
@@ -49,7 +47,7 @@ module _ (i : Image) (tracked : IsTracked i) (r size refs0 root : ℕ) (unused :
       record {
         image = image_kept i j refl (λ x n. stay x n (used_below i.heap tracked.image.heap.region_count x n)) tracked.image b refl tracked.image.log;
         covered = (covered_tells j).1 (λ e c. (covered_tells i).0 tracked.covered e
-            (Contains-from_in (refs i.heap) e (refs_stay i.heap v r size refs0 root lt unused fits small here elsewhere e (In-from_contains (refs j.heap) e c))));
+            (refs_stay i.heap v r size refs0 root lt unused fits small here elsewhere e c));
       }
 
   ordinary_kept : is_humongous i.heap size ≡ false → top i.heap r + size ≤ i.heap.geometry.w → (kind i.heap r ≡ Ordinary) ⊎ ((kind i.heap r ≡ Free) × (top i.heap r ≡ 0)) → IsTracked j

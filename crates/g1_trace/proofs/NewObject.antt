@@ -6,6 +6,7 @@ use Rattle.std.proofs.lemmas.Nat.{div-mul-add}
 use Rattle.std.proofs.lemmas.List.{length-set, get_or-set_same, get_or-set_other}
 use Rattle.std.proofs.lemmas.List.FromFn.{length-map-range_with_len, get_or-map-range_with_len}
 use Rattle.std.specs.Prelude.{◌==◌, IsTrue, if◌then◌else◌}
+use Rattle.std.proofs.lemmas.List.Elements.{Contains-append_left, Contains-push, Contains-push_cases}
 use Rattle.g1_words.specs.Geometry.{most_words}
 use Rattle.g1_words.specs.declared.object.Object.{Object}
 use Rattle.g1_words.specs.declared.region.Region.{Region}
@@ -13,16 +14,16 @@ use Rattle.g1_words.specs.declared.region.Kind.{Kind}
 use Rattle.g1_words.specs.declared.region.Kind.TheVariants.{Free, Ordinary, HumongousFirst, Continuation}
 use Rattle.g1_words.specs.Valid.{MayBePinned}
 use Rattle.g1_words.specs.Heap.{Heap, free_region, region, kind, top, word, regions, objects, objects_in, object_at, slots, tiles}
-use Rattle.g1_words.specs.References.{Ref, refs, refs_at, named, root_targets}
-use Rattle.g1_words.proofs.Computed.{In-range}
+use Rattle.g1_words.specs.References.{Ref, refs, refs_at, named}
+use Rattle.g1_words.proofs.Computed.{Contains-range}
 use Rattle.g1_words.proofs.Indices.{range_bounds}
-use Rattle.g1_words.proofs.Members.{In, In-from_contains, Contains-from_in, In-flat_map, flat_map_cases, In-append_left, In-append_right, In-append_cases}
+use Rattle.g1_words.proofs.Members.{Contains-flat_map, flat_map_cases, none_contains}
 use Rattle.g1_words.proofs.Shapes.{IsPlain, IsTiled, TakesRun, IsBuiltBy, IsBuilt}
 use Rattle.g1_words.proofs.Standing.{tiled_from, built_is_sound, w_pos}
 use Rattle.g1_trace.specs.Mutator.{is_humongous, is_in_run, run_region, grown, region_after, heap_with}
 use Rattle.g1_trace.proofs.Laid.{IsUnused}
-use Rattle.g1_trace.proofs.Views.{equal_or_not, In-set, named-in, in-named}
-use Rattle.g1_trace.proofs.SameObjects.{region_same}
+use Rattle.g1_trace.proofs.Views.{equal_or_not, Contains-set, named-in, in-named}
+use Rattle.g1_trace.proofs.SameObjects.{region_same, in_heap}
 
 -- objects that fill the words are the tiles
 pub tiled_tiles : (h : Heap) (m a : ℕ) (os : List Object) (end : ℕ) → IsTiled h a os end → end ≤ a + m → tiles h m a end ≡ os
@@ -78,71 +79,66 @@ module _ (h : Heap) (v : IsBuilt h) (r size refs0 root : ℕ) (lt : r < h.geomet
   no_header : (o : Object) → Contains (objects h) o → o.at ≡ r * h.geometry.w + top h r → ⊥
   no_header o c e = let p = pos_of o c in unused.apart o (r * h.geometry.w + top h r) c (omega (arith, e)) (omega (arith, e, p)) (omega arith) (omega (arith, fits))
 
-  pub in_all : (q : ℕ) → q < h.geometry.n → (o : Object) → In (objects_in h q) o → Contains (objects h) o
-  in_all q l o m = Contains-from_in (objects h) o (In-flat_map (objects_in h) (regions h) q o (In-range 0 h.geometry.n q (omega arith) (omega (arith, l))) m)
-
   -- a region that stays has the objects that it had
   pub same_region : (q : ℕ) → q < h.geometry.n → region j q ≡ region h q → objects_in j q ≡ objects_in h q
-  same_region q l e = region_same h j q refl e (λ o m. same_word o.at (no_header o (in_all q l o m)))
+  same_region q l e = region_same h j q refl e (λ o m. same_word o.at (no_header o (in_heap h q l o m)))
 
-  pub tiled_kept : (b : ℕ) (os : List Object) (end : ℕ) → ((o : Object) → In os o → Contains (objects h) o) → IsTiled h b os end → IsTiled j b os end
+  pub tiled_kept : (b : ℕ) (os : List Object) (end : ℕ) → ((o : Object) → Contains os o → Contains (objects h) o) → IsTiled h b os end → IsTiled j b os end
   tiled_kept b [] end f t = t
   tiled_kept b (o ∷ os) end f t =
       let at : o.at ≡ b = ap (λ (x : Object). x.at) t.0 in
-      (t.0 ∙ sym (same_object b (λ e. no_header o (f o (inl refl)) (at ∙ e))), t.1, tiled_kept (b + o.size) os end (λ q g. f q (inr g)) t.2)
+      (t.0 ∙ sym (same_object b (λ e. no_header o (f o (zero, omega arith, refl)) (at ∙ e))), t.1, tiled_kept (b + o.size) os end (λ q g. f q (suc g.0, omega (arith, g.1), g.2)) t.2)
 
   -- what is to be shown of the regions: each has its objects, and region r the new one after them
   module _ (here : objects_in j r ≡ objects_in h r ++ new ∷ []) (elsewhere : (q : ℕ) → q < h.geometry.n → q ≢ r → objects_in j q ≡ objects_in h q) where
-    object_cases : (o : Object) → In (objects j) o → In (objects h) o ⊎ (o ≡ new)
+    object_cases : (o : Object) → Contains (objects j) o → Contains (objects h) o ⊎ (o ≡ new)
     object_cases o m =
         let x = flat_map_cases (objects_in j) (regions h) o m in
         let l : x.0 < h.geometry.n = let b = range_bounds 0 h.geometry.n x.0 x.1 in omega (arith, b) in
         elim (equal_or_not x.0 r) [
-          | inl n ↦ inl (In-flat_map (objects_in h) (regions h) x.0 o x.1 (subst (λ xs. In xs o) (elsewhere x.0 l n) x.2))
-          | inr e ↦ elim (In-append_cases (objects_in h r) (new ∷ []) o (subst (λ xs. In xs o) here (subst (λ q. In (objects_in j q) o) e x.2))) [
-            | inl old ↦ inl (In-flat_map (objects_in h) (regions h) r o (subst (In (regions h)) e x.1) old)
-            | inr (inl q) ↦ inr (sym q)
-            | inr (inr q) ↦ absurd q
+          | inl n ↦ inl (Contains-flat_map (objects_in h) (regions h) x.0 o x.1 (subst (λ xs. Contains xs o) (elsewhere x.0 l n) x.2))
+          | inr e ↦ elim (Contains-push_cases (objects_in h r) new o (subst (λ xs. Contains xs o) here (subst (λ q. Contains (objects_in j q) o) e x.2))) [
+            | inl old ↦ inl (Contains-flat_map (objects_in h) (regions h) r o (subst (Contains (regions h)) e x.1) old)
+            | inr q ↦ inr (sym q)
           ]
         ]
 
-    old_stays : (o : Object) → In (objects h) o → In (objects j) o
+    old_stays : (o : Object) → Contains (objects h) o → Contains (objects j) o
     old_stays o m =
         let x = flat_map_cases (objects_in h) (regions h) o m in
         let l : x.0 < h.geometry.n = let b = range_bounds 0 h.geometry.n x.0 x.1 in omega (arith, b) in
-        In-flat_map (objects_in j) (regions h) x.0 o x.1 (elim (equal_or_not x.0 r) [
-          | inl n ↦ subst (λ xs. In xs o) (sym (elsewhere x.0 l n)) x.2
-          | inr e ↦ subst (λ q. In (objects_in j q) o) (sym e) (subst (λ xs. In xs o) (sym here) (In-append_left (objects_in h r) (new ∷ []) o (subst (λ q. In (objects_in h q) o) e x.2)))
+        Contains-flat_map (objects_in j) (regions h) x.0 o x.1 (elim (equal_or_not x.0 r) [
+          | inl n ↦ subst (λ xs. Contains xs o) (sym (elsewhere x.0 l n)) x.2
+          | inr e ↦ subst (λ q. Contains (objects_in j q) o) (sym e) (subst (λ xs. Contains xs o) (sym here)
+              (Contains-append_left (objects_in h r) (new ∷ []) o (subst (λ q. Contains (objects_in h q) o) e x.2)))
         ])
 
     new_there : Contains (objects j) (object_at j (r * h.geometry.w + top h r))
     new_there =
-        subst (λ o. Contains (objects j) o) (sym new_object) (Contains-from_in (objects j) new
-        (In-flat_map (objects_in j) (regions h) r new (In-range 0 h.geometry.n r (omega arith) (omega (arith, lt)))
-        (subst (λ xs. In xs new) (sym here) (In-append_right (objects_in h r) (new ∷ []) new (inl refl)))))
+        subst (λ o. Contains (objects j) o) (sym new_object) (Contains-flat_map (objects_in j) (regions h) r new (Contains-range 0 h.geometry.n r (omega arith) (omega (arith, lt)))
+        (subst (λ xs. Contains xs new) (sym here) (Contains-push (objects_in h r) new)))
 
     named_there : (b : ℕ) → Contains (objects h) (object_at h b) → Contains (objects j) (object_at j b)
     named_there b c = subst (λ o. Contains (objects j) o) (sym (same_object b (no_header (object_at h b) c)))
-        (Contains-from_in (objects j) (object_at h b) (old_stays (object_at h b) (In-from_contains (objects h) (object_at h b) c)))
+        (old_stays (object_at h b) c)
 
     -- the new object's slots name nothing
-    pub refs_stay : (e : Ref) → In (refs j) e → In (refs h) e
+    pub refs_stay : (e : Ref) → Contains (refs j) e → Contains (refs h) e
     refs_stay e m =
         let x = flat_map_cases (λ o. flat_map (refs_at j) (slots o)) (objects j) e m in
         let s = flat_map_cases (refs_at j) (slots x.0) e x.2 in
         let b = range_bounds (x.0.at + 1) x.0.refs s.0 s.1 in
         elim (object_cases x.0 x.1) [
           | inl old ↦
-              let c = Contains-from_in (objects h) x.0 old in
-              let p = pos_of x.0 c in
-              let n : s.0 ≡ r * h.geometry.w + top h r → ⊥ = λ q. unused.apart x.0 s.0 c (omega (arith, b)) (omega (arith, b, p)) (omega (arith, q)) (omega (arith, q, fits)) in
-              In-flat_map (λ o. flat_map (refs_at h) (slots o)) (objects h) x.0 e old
-              (In-flat_map (refs_at h) (slots x.0) s.0 e s.1 (subst (λ z. In (map (λ b. record { slot = s.0; target = b }) (named z)) e) (same_word s.0 n) s.2))
+              let p = pos_of x.0 old in
+              let n : s.0 ≡ r * h.geometry.w + top h r → ⊥ = λ q. unused.apart x.0 s.0 old (omega (arith, b)) (omega (arith, b, p)) (omega (arith, q)) (omega (arith, q, fits)) in
+              Contains-flat_map (λ o. flat_map (refs_at h) (slots o)) (objects h) x.0 e old
+              (Contains-flat_map (refs_at h) (slots x.0) s.0 e s.1 (subst (λ z. Contains (map (λ b. record { slot = s.0; target = b }) (named z)) e) (same_word s.0 n) s.2))
           | inr q ↦
               let at : x.0.at ≡ r * h.geometry.w + top h r = ap (λ (o : Object). o.at) q in
               let rs : x.0.refs ≡ refs0 = ap (λ (o : Object). o.refs) q in
               let z : word j s.0 ≡ 0 = same_word s.0 (λ f. absurd (omega (arith, f, b, at))) ∙ unused.zeros s.0 (omega (arith, b, at)) (omega (arith, b, at, rs, fits)) in
-              absurd (subst (λ z. In (map (λ b. record { slot = s.0; target = b }) (named z)) e) z s.2)
+              absurd (none_contains e (subst (λ z. Contains (map (λ b. record { slot = s.0; target = b }) (named z)) e) z s.2))
         ]
 
     pins : (q : ℕ) → q < h.geometry.n → MayBePinned j q
@@ -164,12 +160,12 @@ module _ (h : Heap) (v : IsBuilt h) (r size refs0 root : ℕ) (lt : r < h.geomet
       shaped = shaped;
       pins = pins;
       zero_above = zeros;
-      root_named = λ b c. elim (In-set h.roots root (suc (r * h.geometry.w + top h r)) (suc b)
-          (named-in (set h.roots root (suc (r * h.geometry.w + top h r))) b (In-from_contains (root_targets j) b c))) [
+      root_named = λ b c. elim (Contains-set h.roots root (suc (r * h.geometry.w + top h r)) (suc b)
+          (named-in (set h.roots root (suc (r * h.geometry.w + top h r))) b c)) [
             | inl q ↦ let e : r * h.geometry.w + top h r ≡ b = omega (arith, q) in subst (λ x. Contains (objects j) (object_at j x)) e new_there
-            | inr m ↦ named_there b (v.root_named b (Contains-from_in (root_targets h) b (in-named h.roots b m)))
+            | inr m ↦ named_there b (v.root_named b (in-named h.roots b m))
           ];
-      slot_named = λ e c. named_there e.target (v.slot_named e (Contains-from_in (refs h) e (refs_stay e (In-from_contains (refs j) e c))));
+      slot_named = λ e c. named_there e.target (v.slot_named e (refs_stay e c));
       current = current;
     }
 
@@ -200,7 +196,7 @@ module _ (h : Heap) (v : IsBuilt h) (r size refs0 root : ℕ) (lt : r < h.geomet
       subst (λ x. 0 < x) (sym t) s.0,
       subst (λ x. x ≤ h.geometry.w) (sym t) s.1,
       subst (λ os. IsTiled j (q * h.geometry.w) os (q * h.geometry.w + top j q)) (sym o)
-          (subst (λ x. IsTiled j (q * h.geometry.w) (objects_in h q) (q * h.geometry.w + x)) (sym t) (tiled_kept (q * h.geometry.w) (objects_in h q) (q * h.geometry.w + top h q) (in_all q l) s.2)),
+          (subst (λ x. IsTiled j (q * h.geometry.w) (objects_in h q) (q * h.geometry.w + x)) (sym t) (tiled_kept (q * h.geometry.w) (objects_in h q) (q * h.geometry.w + top h q) (in_heap h q l) s.2)),
     )
     other_at q HumongousFirst l n t o k s =
         let f = sym (first_same q room n) in

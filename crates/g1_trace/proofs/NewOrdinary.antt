@@ -11,7 +11,8 @@ use Rattle.g1_words.proofs.Shapes.{IsTiled, IsBuiltBy, IsBuilt}
 use Rattle.g1_trace.specs.Mutator.{is_humongous, is_in_run, run_region, grown, region_after, heap_with}
 use Rattle.g1_trace.proofs.Laid.{IsUnused}
 use Rattle.g1_trace.proofs.Views.{equal_or_not}
-use Rattle.g1_trace.proofs.NewObject.{tiled_tiles, tiled_append, new_object, in_all, same_region, tiled_kept, new_built, other_shaped, zeros_kept}
+use Rattle.g1_trace.proofs.NewObject.{tiled_tiles, tiled_append, new_object, same_region, tiled_kept, new_built, other_shaped, zeros_kept}
+use Rattle.g1_trace.proofs.SameObjects.{in_heap}
 
 not_equal_at : (x y : ℕ) (b : Bool) → eqb x y ≡ b → (x ≡ y → ⊥) → eqb x y ≡ false
 not_equal_at x y true e n = absurd (n (eqb-true x y e))
@@ -53,7 +54,7 @@ module _ (h : Heap) (v : IsBuilt h) (r size refs0 root : ℕ) (lt : r < h.geomet
       let e : r * h.geometry.w + top h r + size ≡ r * h.geometry.w + (top h r + size) = omega arith in
       subst (λ x. IsTiled j (r * h.geometry.w) (objects_in h r ++ new ∷ []) x) e
       (tiled_append j (r * h.geometry.w) (objects_in h r) (r * h.geometry.w + top h r) new
-      (tiled_kept h v r size refs0 root lt unused fits small (r * h.geometry.w) (objects_in h r) (r * h.geometry.w + top h r) (in_all h v r size refs0 root lt unused fits small r lt) old_tiled)
+      (tiled_kept h v r size refs0 root lt unused fits small (r * h.geometry.w) (objects_in h r) (r * h.geometry.w + top h r) (in_heap h r lt) old_tiled)
       (sym (new_object h v r size refs0 root lt unused fits small)) (fits, ltb-false (3 * h.geometry.w) (4 * size) plain))
 
   pub ordinary_here : objects_in j r ≡ objects_in h r ++ new ∷ []

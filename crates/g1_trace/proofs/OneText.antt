@@ -1,8 +1,9 @@
 -- A text has one trace, and no bad line; bytes have one first bad line.
-use Rattle.std.proofs.Common.{◌≡◌, ℕ, zero, suc, ◌+◌, ◌<◌, ◌≤◌, inl, inr, List, [], ◌∷◌, ◌++◌, length, get_or, drop, map, refl, sym, ◌∙◌, ap, subst, arith, append_assoc}
+use Rattle.std.proofs.Common.{◌≡◌, ℕ, zero, suc, ◌+◌, ◌<◌, ◌≤◌, inl, inr, List, [], ◌∷◌, ◌++◌, length, get_or, drop, map, refl, sym, ◌∙◌, ap, subst, arith, append_assoc, Contains, append-nil}
 use Rattle.std.specs.Prelude.{All, decimal}
+use Rattle.std.proofs.lemmas.List.Elements.{Contains-append_right}
 use Rattle.g1_words.specs.Geometry.{Geometry}
-use Rattle.g1_words.proofs.Members.{In, Contains-from_in}
+use Rattle.g1_words.proofs.Members.{Contains-first, Contains-later, none_contains}
 use Rattle.g1_trace.specs.declared.command.Command.{Command}
 use Rattle.g1_trace.specs.declared.command.Command.TheVariants.{New, Get, Put, Set, Say, Same, Copy, Drop, Pause}
 use Rattle.g1_trace.specs.TraceText.{spaced, name_of, numbers_of, AllFit, command_line, heap_line, ended, IsLineAt, AreLines, IsBadRest}
@@ -10,7 +11,7 @@ use Rattle.g1_trace.specs.Laws.{OneTrace, NoBadLine, OneBadLine}
 use Rattle.g1_trace.proofs.Words.{one_split}
 use Rattle.g1_trace.proofs.Numerals.{decimal_clean, fit_head, fit_rest, spaced_end, spaced_one, Clean, clean_append}
 use Rattle.g1_trace.proofs.Names.{name_word, only_new, only_get, only_put, only_set, only_say, only_same, only_copy, only_drop, only_pause}
-use Rattle.g1_trace.proofs.Texts.{lines_of, ended_lines, later_lines, append_nil}
+use Rattle.g1_trace.proofs.Texts.{lines_of, ended_lines, later_lines}
 
 -- bytes have one first line
 line_split : (a b xs ys : List ℕ) → Clean a → Clean b → a ++ 10 ∷ xs ≡ b ++ 10 ∷ ys → (a ≡ b) × (xs ≡ ys)
@@ -58,13 +59,12 @@ line_clean : (m : ℕ) (line : List ℕ) → IsLineAt m line → Clean line
 line_clean zero line (w, k, n, roots, f, e) = subst Clean (sym e) (heap_clean w k n roots f)
 line_clean (suc m) line (c, f, e) = subst Clean (sym e) (command_clean c f)
 
-clean_from : (xs : List ℕ) → (In xs 10 → ⊥) → Clean xs
+clean_from : (xs : List ℕ) → (Contains xs 10 → ⊥) → Clean xs
 clean_from [] f = tt
-clean_from (x ∷ xs) f = ((λ e. f (inl e)), clean_from xs (λ i. f (inr i)))
+clean_from (x ∷ xs) f = ((λ e. f (zero, omega arith, e)), clean_from xs (λ i. f (Contains-later x xs 10 i)))
 
-in_middle : (xs ys : List ℕ) → In (xs ++ 10 ∷ ys) 10
-in_middle [] ys = inl refl
-in_middle (x ∷ xs) ys = inr (in_middle xs ys)
+in_middle : (xs ys : List ℕ) → Contains (xs ++ 10 ∷ ys) 10
+in_middle xs ys = Contains-append_right xs (10 ∷ ys) 10 (Contains-first 10 ys)
 
 -- ---- one trace a text
 
@@ -89,7 +89,7 @@ rest_fit c cs f k d lt = f (suc k) d (omega (arith, lt))
 
 -- an ended line isn't nothing
 ended_some : (line more : List ℕ) → [] ≡ (line ++ 10 ∷ []) ++ more → ⊥
-ended_some line more e = subst (λ xs. In xs 10) (sym (append_assoc line (10 ∷ []) more) ∙ sym e) (in_middle line more)
+ended_some line more e = none_contains 10 (subst (λ xs. Contains xs 10) (sym (append_assoc line (10 ∷ []) more) ∙ sym e) (in_middle line more))
 
 -- the first lines of the same bytes
 first_lines : (a b xs ys : List ℕ) → Clean a → Clean b → (a ++ 10 ∷ []) ++ xs ≡ (b ++ 10 ∷ []) ++ ys → (a ≡ b) × (xs ≡ ys)
@@ -124,16 +124,16 @@ one_trace bytes g h roots more cs ds p q =
 
 -- what begins with a line of its form isn't bad
 starts_good : (m : ℕ) (rest line more : List ℕ) → IsLineAt m line → rest ≡ (line ++ 10 ∷ []) ++ more → IsBadRest m rest → ⊥
-starts_good m rest line more is e (inl b) = b.0 (Contains-from_in rest 10 (subst (λ xs. In xs 10) (sym (append_assoc line (10 ∷ []) more) ∙ sym e) (in_middle line more)))
+starts_good m rest line more is e (inl b) = b.0 (subst (λ xs. Contains xs 10) (sym (append_assoc line (10 ∷ []) more) ∙ sym e) (in_middle line more))
 starts_good m rest line more is e (inr (bad, after, f, clean, b)) =
-    let s = line_split bad line after more (clean_from bad (λ i. clean (Contains-from_in bad 10 i))) (line_clean m line is) (sym f ∙ e ∙ append_assoc line (10 ∷ []) more) in
+    let s = line_split bad line after more (clean_from bad clean) (line_clean m line is) (sym f ∙ e ∙ append_assoc line (10 ∷ []) more) in
     b (subst (IsLineAt m) (sym s.0) is)
 
 -- nothing is no bad rest, after some lines
 nothing_good : (m : ℕ) (rest : List ℕ) → 0 < m → rest ≡ [] → IsBadRest m rest → ⊥
 nothing_good m rest some e (inl (clean, inl lt)) = let l : length rest ≡ 0 = ap length e in absurd (omega (arith, l, lt))
 nothing_good m rest some e (inl (clean, inr z)) = absurd (omega (arith, z, some))
-nothing_good m rest some e (inr (line, more, f, clean, b)) = subst (λ xs. In xs 10) (sym f ∙ e) (in_middle line more)
+nothing_good m rest some e (inr (line, more, f, clean, b)) = none_contains 10 (subst (λ xs. Contains xs 10) (sym f ∙ e) (in_middle line more))
 
 after_none : (m : ℕ) (rest : List ℕ) → IsBadRest (length {A = List ℕ} [] + m) rest → IsBadRest m rest
 after_none m rest b = let z : length {A = List ℕ} [] + m ≡ m = omega arith in subst (λ k. IsBadRest k rest) z b
@@ -170,7 +170,7 @@ no_bad_line bytes g roots cs n p b =
     let lines : List (List ℕ) = heap_line g.w g.k g.n roots ∷ map command_line cs in
     let are : AreLines 0 lines = ((g.w, g.k, g.n, roots, p.first, refl), later_lines 0 cs p.later) in
     let text : bytes ≡ ended lines = p.text ∙ ap (λ xs. (heap_line g.w g.k g.n roots ++ 10 ∷ []) ++ xs) (sym (ended_lines cs)) in
-    text_no_bad 0 b.good lines b.rest b.are_lines are (sym b.split ∙ text ∙ sym (append_nil (ended lines))) (from_zero (length b.good) b.rest b.bad) (omega arith)
+    text_no_bad 0 b.good lines b.rest b.are_lines are (sym b.split ∙ text ∙ sym (append-nil (ended lines))) (from_zero (length b.good) b.rest b.bad) (omega arith)
 
 pub one_bad_line : OneBadLine
 one_bad_line bytes n m p q =

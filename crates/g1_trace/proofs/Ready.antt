@@ -1,5 +1,5 @@
 -- A valid heap is ready for every command.
-use Rattle.std.proofs.Common.{◌≡◌, ℕ, ◌+◌, ◌-◌, ◌*◌, ◌/◌, ◌%◌, ◌<◌, ◌≤◌, inl, inr, Bool, true, false, cond, List, [], ◌∷◌, length, Option, Some, None, Contains, refl, sym, ◌∙◌, ap, subst}
+use Rattle.std.proofs.Common.{◌≡◌, ℕ, ◌+◌, ◌-◌, ◌*◌, ◌/◌, ◌%◌, ◌<◌, ◌≤◌, Bool, true, false, cond, List, [], ◌∷◌, length, Option, Some, None, Contains, refl, sym, ◌∙◌, ap, subst, zero, suc}
 use Rattle.std.proofs.Common.{arith, leb, ltb-false, leb-true, mod-lt, div-add-mod'}
 use Rattle.std.specs.List.{range_with_len, list_all, find}
 use Rattle.std.proofs.lemmas.Nat.{div-mul-add, le-div}
@@ -8,50 +8,42 @@ use Rattle.std.proofs.lemmas.Bool.{and_parts}
 use Rattle.g1_words.specs.declared.object.Object.{Object}
 use Rattle.g1_words.specs.declared.region.Kind.TheVariants.{Free}
 use Rattle.g1_words.specs.Heap.{Heap, kind, top, word, region_of, regions, objects, object_at, is_free}
-use Rattle.g1_words.specs.References.{refs, targets}
-use Rattle.g1_words.specs.Live.{seed, child, Live}
 use Rattle.g1_words.proofs.Indices.{range_bounds}
-use Rattle.g1_words.proofs.Members.{In, In-from_contains, Contains-from_in}
-use Rattle.g1_words.proofs.Computed.{In-range}
+use Rattle.g1_words.proofs.Computed.{Contains-range}
 use Rattle.g1_words.proofs.NextFit.{free_by_test}
-use Rattle.g1_words.proofs.OneToOne.{target_in_refs}
 use Rattle.g1_words.proofs.Shapes.{IsBuiltBy, IsBuilt}
 use Rattle.g1_words.proofs.Sound.{IsSound}
 use Rattle.g1_words.proofs.Standing.{home, word_used, words_apart, built_is_sound, w_pos}
+use Rattle.g1_words.proofs.Members.{Contains-later}
+use Rattle.g1_after.proofs.GraphsCompose.{live_object}
 use Rattle.g1_trace.specs.Mutator.{heap_view, is_humongous, run_length, is_free_region, is_free_run, fits_current}
 use Rattle.g1_trace.specs.Views.{Seen}
 use Rattle.g1_trace.proofs.Laid.{CoversWord, IsLaid, IsUnused, IsReady}
 use Rattle.g1_trace.proofs.GraphViews.{seen_live}
 
-live_object : (h : Heap) → IsSound h → (a : ℕ) → Live h a → Contains (objects h) (object_at h a)
-live_object h sound a (seed c) = sound.root_named a c
-live_object h sound b (child {a = a} r c) =
-    let e = target_in_refs h [] (object_at h a) b (In-from_contains (objects h) (object_at h a) (live_object h sound a r)) (In-from_contains (targets h a) b c) in
-    subst (λ x. Contains (objects h) (object_at h x)) e.2 (sound.slot_named e.0 (Contains-from_in (refs h) e.0 e.1))
-
 pub seen_object : (h : Heap) → IsSound h → (a : ℕ) → Seen (heap_view h) a → Contains (objects h) (object_at h a)
 seen_object h sound a s = live_object h sound a (seen_live h a s)
 
 found_at : {X : Type 0} (p : X → Bool) (x : X) (xs : List X) (r : X) (b : Bool) → p x ≡ b → cond b (Some x) (find p xs) ≡ Some r →
-    (find p xs ≡ Some r → In xs r × (p r ≡ true)) → In (x ∷ xs) r × (p r ≡ true)
-found_at {X} p x xs r true e q f = (inl (some_of q), ap p (sym (some_of q)) ∙ e)
+    (find p xs ≡ Some r → Contains xs r × (p r ≡ true)) → Contains (x ∷ xs) r × (p r ≡ true)
+found_at {X} p x xs r true e q f = ((zero, omega arith, some_of q), ap p (sym (some_of q)) ∙ e)
   where
     some_of : Some x ≡ Some r → x ≡ r
     some_of g = cc
-found_at p x xs r false e q f = let m = f q in (inr m.0, m.1)
+found_at p x xs r false e q f = let m = f q in (Contains-later x xs r m.0, m.1)
 
 -- what a search finds is a member that passes
-pub found : {X : Type 0} (p : X → Bool) (xs : List X) (r : X) → find p xs ≡ Some r → In xs r × (p r ≡ true)
+pub found : {X : Type 0} (p : X → Bool) (xs : List X) (r : X) → find p xs ≡ Some r → Contains xs r × (p r ≡ true)
 found p [] r e = cc
 found p (x ∷ xs) r e = found_at p x xs r (p x) refl e (found p xs r)
 
-each_passes : {X : Type 0} (p : X → Bool) (xs : List X) → list_all p xs ≡ true → (x : X) → In xs x → p x ≡ true
-each_passes p [] e x k = absurd k
-each_passes p (y ∷ xs) e x (inl q) = ap p (sym q) ∙ (and_parts (p y) (list_all p xs) e).0
-each_passes p (y ∷ xs) e x (inr k) = each_passes p xs (and_parts (p y) (list_all p xs) e).1 x k
+each_passes : {X : Type 0} (p : X → Bool) (xs : List X) → list_all p xs ≡ true → (x : X) → Contains xs x → p x ≡ true
+each_passes p [] e x k = absurd (omega (arith, k.1))
+each_passes p (y ∷ xs) e x (zero, b, q) = ap p (sym q) ∙ (and_parts (p y) (list_all p xs) e).0
+each_passes p (y ∷ xs) e x (suc j, b, eq) = each_passes p xs (and_parts (p y) (list_all p xs) e).1 x (j, omega (arith, b), eq)
 
 module _ (h : Heap) (valid : IsBuilt h) where
-  sound : IsSound h
+  abbrev sound : IsSound h
   sound = built_is_sound h valid
 
   -- an object that is seen has its words below the end of the heap
@@ -125,7 +117,7 @@ module _ (h : Heap) (valid : IsBuilt h) where
       let both = and_parts (leb (r + m) h.geometry.n) (list_all (λ q. is_free (kind h q)) (range_with_len r m)) e in (
         leb-true (r + m) h.geometry.n both.0,
         λ c lt. free_by_test (kind h (r + c))
-            (each_passes (λ q. is_free (kind h q)) (range_with_len r m) both.1 (r + c) (In-range r m (r + c) (omega arith) (omega (arith, lt)))),
+            (each_passes (λ q. is_free (kind h q)) (range_with_len r m) both.1 (r + c) (Contains-range r m (r + c) (omega arith) (omega (arith, lt)))),
       )
 
   -- a run of free regions

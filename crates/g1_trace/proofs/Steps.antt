@@ -1,10 +1,9 @@
 -- One command on an image is one command on the plain store.
-use Rattle.std.proofs.Common.{◌≡◌, ℕ, ◌+◌, ◌*◌, ◌^◌, ◌<◌, ◌≤◌, ◌⊎◌, inl, inr, Bool, true, false, cond, [], ◌∷◌, ◌++◌, length, set, replicate, Some, None, Ok, Contains, refl, sym, ◌∙◌, ap}
+use Rattle.std.proofs.Common.{◌≡◌, ℕ, ◌+◌, ◌*◌, ◌^◌, ◌<◌, ◌≤◌, ◌⊎◌, inl, inr, Bool, true, false, cond, [], ◌∷◌, ◌++◌, length, set, replicate, Some, None, Ok, Contains, refl, sym, ◌∙◌, ap, zero}
 use Rattle.std.proofs.Common.{subst, arith, ltb, ltb-false}
 use Rattle.std.proofs.lemmas.List.{length-map, length-set, length-append}
 use Rattle.g1_words.specs.Geometry.{most_words}
 use Rattle.g1_words.specs.Heap.{Heap, top, object_at}
-use Rattle.g1_words.proofs.Members.{Contains-from_in}
 use Rattle.g1_words.proofs.Shapes.{built}
 use Rattle.g1_image.specs.Image.{Image}
 use Rattle.g1_words.specs.Copy.{renamed}
@@ -16,7 +15,6 @@ use Rattle.g1_pause.specs.Follows.{Follows}
 use Rattle.g1_pause.proofs.Following.{evacuation_follows}
 use Rattle.g1_trace.specs.declared.command.Command.{Command}
 use Rattle.g1_trace.specs.declared.command.Reply.{Reply}
-use Rattle.g1_trace.specs.declared.command.Reply.TheVariants.{Full, Room}
 use Rattle.g1_trace.specs.Commands.{Effect, Nothing, SetRoot, SetSlot, SetValue, MakeNew, MakePause, Answer, answer_of}
 use Rattle.g1_trace.specs.Store.{Store, Stored, object, store_view, store_after, refusals, IsPlainStep}
 use Rattle.g1_trace.specs.Mutator.{heap_view, region_for, heap_with, IsEffect, IsStep}
@@ -125,7 +123,7 @@ module _ (cost : Cost) (s : Store) (i j : Image) (tracked : IsTracked i) (shows 
   effect_kept (SetRoot r x) told reply fits (q, e) = inl (q, subst (λ (y : Image). Shows (store_after s (SetRoot r x)) y.heap) (sym e) (root_kept r x fits.1))
   effect_kept (SetSlot m k x) told reply fits (q, e) = inl (q, subst (λ (y : Image). Shows (store_after s (SetSlot m k x)) y.heap) (sym e) (slot_kept m k x fits.0 fits.1 fits.2))
   effect_kept (SetValue m k x) told reply fits (q, e) = inl (q, subst (λ (y : Image). Shows (store_after s (SetValue m k x)) y.heap) (sym e) (value_kept m k x fits.0 fits.1))
-  effect_kept (MakeNew root refs count) told reply fits (inl (p, q, e)) = inr (Contains-from_in (Full ∷ []) reply (inl (sym q)), unchanged s shows e)
+  effect_kept (MakeNew root refs count) told reply fits (inl (p, q, e)) = inr ((zero, omega arith, sym q), unchanged s shows e)
   effect_kept (MakeNew root refs count) told reply fits (inr (r, p, q, e)) =
       inl (
         q,
@@ -133,7 +131,7 @@ module _ (cost : Cost) (s : Store) (i j : Image) (tracked : IsTracked i) (shows 
             (place_found root refs count r (ltb (i.heap.geometry.n * i.heap.geometry.w) (1 + refs + count)) refl p),
       )
   effect_kept (MakePause b) told reply fits (inl (made, q)) = inl (q, pause_kept b made)
-  effect_kept (MakePause b) told reply fits (inr (fault, refused, q, e)) = inr (Contains-from_in (Room ∷ []) reply (inl (sym q)), unchanged s shows e)
+  effect_kept (MakePause b) told reply fits (inr (fault, refused, q, e)) = inr ((zero, omega arith, sym q), unchanged s shows e)
 
   step_kept : (c : Command) (reply : Reply) → IsStep cost i c reply j → (t : Store) × IsPlainStep s c reply t × Shows t j.heap
   unfolding Kept

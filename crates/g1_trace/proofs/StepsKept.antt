@@ -1,5 +1,5 @@
 -- Every command keeps a tracked image, and whole traces reply as the plain store does.
-use Rattle.std.proofs.Common.{◌≡◌, ◌≢◌, ℕ, zero, suc, ◌+◌, ◌-◌, ◌*◌, ◌^◌, ◌<◌, ◌≤◌, inl, inr, Bool, true, false, cond, List, [], length, get_or, replicate, flat_map, refl, sym, ap, subst}
+use Rattle.std.proofs.Common.{◌≡◌, ◌≢◌, ℕ, zero, suc, ◌+◌, ◌-◌, ◌*◌, ◌^◌, ◌<◌, ◌≤◌, inl, inr, Bool, true, false, cond, List, [], length, get_or, replicate, flat_map, sym, ap, subst, Contains}
 use Rattle.std.proofs.Common.{arith, ltb, lit<, ◌∙◌}
 use Rattle.std.specs.Prelude.{⊤, Some, None}
 use Rattle.std.proofs.lemmas.List.{length-replicate}
@@ -8,10 +8,11 @@ use Rattle.g1_words.specs.Geometry.{Geometry, IsWithinBounds, most_roots}
 use Rattle.g1_words.specs.declared.object.Object.{Object}
 use Rattle.g1_words.specs.declared.region.Region.{Region}
 use Rattle.g1_words.specs.Heap.{Heap, free_region, region, word, regions, objects_by, objects_in, objects, object_at, slots}
-use Rattle.g1_words.specs.References.{Ref, refs, refs_at, root_targets}
-use Rattle.g1_words.proofs.Members.{In, In-from_contains, flat_map_cases}
+use Rattle.g1_words.specs.References.{Ref, refs, refs_at}
+use Rattle.g1_words.proofs.Members.{flat_map_cases, none_contains}
 use Rattle.g1_words.proofs.Ordered.{pairs_from_ordered}
 use Rattle.g1_words.proofs.Shapes.{IsBuiltBy, IsBuilt, valid_of}
+use Rattle.g1_words.proofs.Lists.{same_there}
 use Rattle.g1_image.specs.Image.{Image, IsRememberedSet}
 use Rattle.g1_image.specs.Cards.{IsTracked}
 use Rattle.g1_image.proofs.Covers.{covered_tells}
@@ -99,36 +100,31 @@ step_keeps cost i c reply j m tr st =
 
 -- ---- the start
 
-zeros_get : {X : Type 0} (n r : ℕ) (x : X) → get_or (replicate n x) r x ≡ x
-zeros_get zero r x = refl
-zeros_get (suc n) zero x = refl
-zeros_get (suc n) (suc r) x = zeros_get n r x
-
 module _ (g : Geometry) (roots : ℕ) (limits : IsWithinBounds g.w g.k g.n) (few : roots ≤ most_roots) where
   all_free : (r : ℕ) → region (empty_image g roots).heap r ≡ free_region
-  all_free r = zeros_get g.n r free_region
+  all_free r = same_there free_region g.n r
 
-  no_objects : (o : Object) → In (objects (empty_image g roots).heap) o → ⊥
+  no_objects : (o : Object) → Contains (objects (empty_image g roots).heap) o → ⊥
   no_objects o m =
       let h : Heap = (empty_image g roots).heap in
       let x = flat_map_cases (objects_in h) (regions h) o m in
-      subst (λ (q : Region). In (objects_by q.kind h x.0) o) (all_free x.0) x.2
+      none_contains o (subst (λ (q : Region). Contains (objects_by q.kind h x.0) o) (all_free x.0) x.2)
 
-  no_refs : (e : Ref) → In (refs (empty_image g roots).heap) e → ⊥
+  no_refs : (e : Ref) → Contains (refs (empty_image g roots).heap) e → ⊥
   no_refs e m = let h : Heap = (empty_image g roots).heap in let x = flat_map_cases (λ o. flat_map (refs_at h) (slots o)) (objects h) e m in no_objects x.0 x.1
 
   empty_built : IsBuilt (empty_image g roots).heap
   empty_built = record {
     limits = limits;
     word_count = length-replicate (g.n * g.w) 0;
-    word_fits = λ a. subst (λ x. x < 2 ^ 64) (sym (zeros_get (g.n * g.w) a 0)) (lit< tt);
+    word_fits = λ a. subst (λ x. x < 2 ^ 64) (sym (same_there 0 (g.n * g.w) a)) (lit< tt);
     region_count = length-replicate g.n free_region;
     root_count = subst (λ x. x ≤ most_roots) (sym (length-replicate roots 0)) few;
     shaped = λ r lt. subst (λ (q : Region). IsBuiltBy (empty_image g roots).heap r q.kind) (sym (all_free r)) (ap (λ (q : Region). q.top) (all_free r));
     pins = λ r lt t. absurd (let clash : false ≡ true = sym (ap (λ (q : Region). q.pinned) (all_free r)) ∙ t in cc);
-    zero_above = λ r m lt le small. zeros_get (g.n * g.w) (r * g.w + m) 0;
-    root_named = λ a c. absurd (no_zeros roots a (named-in (replicate roots 0) a (In-from_contains (root_targets (empty_image g roots).heap) a c)));
-    slot_named = λ e c. absurd (no_refs e (In-from_contains (refs (empty_image g roots).heap) e c));
+    zero_above = λ r m lt le small. same_there 0 (g.n * g.w) (r * g.w + m);
+    root_named = λ a c. absurd (no_zeros roots a (named-in (replicate roots 0) a c));
+    slot_named = λ e c. absurd (no_refs e c);
     current = λ r e. let clash : None ≡ Some r = e in cc;
   }
 
@@ -145,10 +141,10 @@ module _ (g : Geometry) (roots : ℕ) (limits : IsWithinBounds g.w g.k g.n) (few
     image = record {
       heap = valid_of (empty_image g roots).heap empty_built;
       one_each = length-replicate {A = List ℕ} g.n [];
-      remembered = λ r lt. subst (IsRememberedSet (empty_image g roots).heap r) (sym (zeros_get {X = List ℕ} g.n r [])) (no_cards (empty_image g roots).heap r);
+      remembered = λ r lt. subst (IsRememberedSet (empty_image g roots).heap r) (sym (same_there {A = List ℕ} [] g.n r)) (no_cards (empty_image g roots).heap r);
       log = record { used = λ k d lt. absurd (omega (arith, lt)); distinct = pairs_from_ordered (λ c d. c ≢ d) [] tt; count = lit< tt };
     };
-    covered = (covered_tells (empty_image g roots)).1 (λ e c. absurd (no_refs e (In-from_contains (refs (empty_image g roots).heap) e c)));
+    covered = (covered_tells (empty_image g roots)).1 (λ e c. absurd (no_refs e c));
   }
 
 pub whole_traces : WholeTraces

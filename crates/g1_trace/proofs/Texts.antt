@@ -1,12 +1,12 @@
 -- The lines of a trace that are read so far, and the first bad one.
-use Rattle.std.proofs.Common.{◌≡◌, ◌≢◌, ℕ, zero, suc, ◌+◌, ◌<◌, ◌≤◌, ◌⊎◌, inl, inr, List, [], ◌∷◌, ◌++◌, length, get_or, map, flat_map, Contains, refl, sym, ◌∙◌, ap, subst, arith, append_assoc}
+use Rattle.std.proofs.Common.{◌≡◌, ◌≢◌, ℕ, zero, suc, ◌+◌, ◌<◌, ◌≤◌, ◌⊎◌, inl, inr, List, [], ◌∷◌, ◌++◌, length, get_or, map, flat_map, Contains, refl, sym, ◌∙◌, ap, subst, arith, append_assoc, append-nil}
 use Rattle.std.proofs.Common.{length-append}
 use Rattle.std.specs.Prelude.{All}
 use Rattle.std.proofs.lemmas.Bool.{cases_order}
 use Rattle.std.proofs.lemmas.List.{get_or_default, length-map}
 use Rattle.std.proofs.lemmas.Grind.{flat_map-append}
+use Rattle.std.proofs.lemmas.List.Elements.{All-push}
 use Rattle.g1_words.specs.Geometry.{Geometry}
-use Rattle.g1_words.proofs.Members.{In, In-from_contains, Contains-from_in, In-append_cases}
 use Rattle.g1_trace.specs.declared.command.Command.{Command}
 use Rattle.g1_trace.specs.TraceText.{AllFit, numbers_of, command_line, heap_line, ended, IsHeapLine, IsCommandLine, AreLines, IsBadRest, IsFirstBadLine, IsText}
 
@@ -20,23 +20,8 @@ pub record IsRead (bytes : List ℕ) (w k n roots : ℕ) (cs : List Command) (re
   pub first : AllFit (w ∷ k ∷ n ∷ roots ∷ [])
   pub later : All (λ c. AllFit (numbers_of c)) cs
 
-pub append_nil : (xs : List ℕ) → xs ++ [] ≡ xs
-append_nil [] = refl
-append_nil (x ∷ xs) = ap (λ ys. x ∷ ys) (append_nil xs)
-
 pub no_end : (xs : List ℕ) → ((k : ℕ) → k < length xs → get_or xs k 0 ≢ 10) → Contains xs 10 → ⊥
 no_end xs f (k, lt, e) = f k lt (get_or_default xs k 0 10 lt ∙ e)
-
-all_more : (cs : List Command) (c : Command) → All (λ c. AllFit (numbers_of c)) cs → AllFit (numbers_of c) → All (λ c. AllFit (numbers_of c)) (cs ++ c ∷ [])
-all_more cs c old new k d lt =
-    let m = Contains-from_in (cs ++ c ∷ []) (get_or (cs ++ c ∷ []) k d) (In-from_contains (cs ++ c ∷ []) (get_or (cs ++ c ∷ []) k d)
-    (k, lt, get_or_default (cs ++ c ∷ []) k (get_or (cs ++ c ∷ []) k d) d lt)) in
-    by (get_or (cs ++ c ∷ []) k d) (In-append_cases cs (c ∷ []) (get_or (cs ++ c ∷ []) k d) (In-from_contains (cs ++ c ∷ []) (get_or (cs ++ c ∷ []) k d) m))
-  where
-    by : (x : Command) → In cs x ⊎ In (c ∷ []) x → AllFit (numbers_of x)
-    by x (inl i) = let p = Contains-from_in cs x i in subst (λ (y : Command). AllFit (numbers_of y)) p.2 (old p.0 x p.1)
-    by x (inr (inl e)) = subst (λ (y : Command). AllFit (numbers_of y)) e new
-    by x (inr (inr e)) = absurd e
 
 pub read_start : (bytes line rest : List ℕ) (w k n roots : ℕ) (cs : List Command) → bytes ≡ line ++ 10 ∷ rest → line ≡ heap_line w k n roots →
     AllFit (w ∷ k ∷ n ∷ roots ∷ []) → cs ≡ [] → IsRead bytes w k n roots cs rest
@@ -53,16 +38,16 @@ pub read_more : (bytes : List ℕ) (w k n roots : ℕ) (cs more : List Command) 
 read_more bytes w k n roots cs more rest line left c r e is fits longer =
     let one : rest ≡ (command_line c ++ 10 ∷ []) ++ left = e ∙ ap (λ l. l ++ 10 ∷ left) is ∙ sym (append_assoc (command_line c) (10 ∷ []) left) in
     let lines : lines_of (cs ++ c ∷ []) ≡ lines_of cs ++ (command_line c ++ 10 ∷ []) =
-    flat_map-append (λ c. command_line c ++ 10 ∷ []) cs (c ∷ []) ∙ ap (λ xs. lines_of cs ++ xs) (append_nil (command_line c ++ 10 ∷ [])) in
+    flat_map-append (λ c. command_line c ++ 10 ∷ []) cs (c ∷ []) ∙ ap (λ xs. lines_of cs ++ xs) (append-nil (command_line c ++ 10 ∷ [])) in
     subst (λ xs. IsRead bytes w k n roots xs left) (sym longer) (record {
       text = r.text ∙ ap (λ xs. (heap_line w k n roots ++ 10 ∷ []) ++ (lines_of cs ++ xs)) one
           ∙ ap (λ xs. (heap_line w k n roots ++ 10 ∷ []) ++ xs) (sym (append_assoc (lines_of cs) (command_line c ++ 10 ∷ []) left) ∙ ap (λ xs. xs ++ left) (sym lines));
       first = r.first;
-      later = all_more cs c r.later fits;
+      later = All-push (λ c. AllFit (numbers_of c)) cs c r.later fits;
     })
 
 pub read_end : (bytes : List ℕ) (g : Geometry) (roots : ℕ) (cs : List Command) (rest : List ℕ) → IsRead bytes g.w g.k g.n roots cs rest → length rest ≡ 0 → IsText bytes g roots cs
-read_end bytes g roots cs [] r e = record { text = r.text ∙ ap (λ xs. (heap_line g.w g.k g.n roots ++ 10 ∷ []) ++ xs) (append_nil (lines_of cs)); first = r.first; later = r.later }
+read_end bytes g roots cs [] r e = record { text = r.text ∙ ap (λ xs. (heap_line g.w g.k g.n roots ++ 10 ∷ []) ++ xs) (append-nil (lines_of cs)); first = r.first; later = r.later }
 read_end bytes g roots cs (x ∷ rest) r e = absurd (omega (arith, e))
 
 -- a line and its end are a byte at least

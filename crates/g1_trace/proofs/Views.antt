@@ -4,8 +4,9 @@ use Rattle.std.proofs.Common.{subst, arith, eqb, eqb-true, eq-eqb, ltb, ltb-true
 use Rattle.std.proofs.lemmas.List.{length-map}
 use Rattle.g1_words.specs.References.{named}
 use Rattle.g1_words.specs.Live.{Reached, seed, child}
-use Rattle.g1_words.proofs.Members.{In, In-from_contains, Contains-from_in}
 use Rattle.g1_words.specs.Copy.{renamed}
+use Rattle.g1_words.proofs.Members.{Contains-first, Contains-flat_map, Contains-later, Contains-map, flat_map_cases}
+use Rattle.g1_words.proofs.Sound.{named_suc}
 use Rattle.g1_trace.specs.declared.command.Command.{Command}
 use Rattle.g1_trace.specs.declared.command.Command.TheVariants.{New, Get, Put, Set, Say, Same, Copy, Drop, Pause}
 use Rattle.g1_trace.specs.declared.command.Reply.{Reply}
@@ -32,56 +33,45 @@ pub Reached-within : (seeds : List ℕ) (kids : ℕ → List ℕ) (P : ℕ → T
 Reached-within seeds kids P s k a (seed c) = s a c
 Reached-within seeds kids P s k b (child {a = a} r c) = k a b (Reached-within seeds kids P s k a r) c
 
--- every word of the list is null or in P
-Words : (ℕ → Type 0) → List ℕ → Type 0
-Words P xs = (x : ℕ) → In xs (suc x) → P x
+pub named-in : (xs : List ℕ) (a : ℕ) → Contains (flat_map named xs) a → Contains xs (suc a)
+named-in xs a h = let m = flat_map_cases named xs a h in subst (Contains xs) (named_suc m.0 a m.2) m.1
 
-pub named-in : (xs : List ℕ) (a : ℕ) → In (flat_map named xs) a → In xs (suc a)
-named-in [] a h = absurd h
-named-in (zero ∷ xs) a h = inr (named-in xs a h)
-named-in (suc x ∷ xs) a (inl e) = inl (ap suc e)
-named-in (suc x ∷ xs) a (inr h) = inr (named-in xs a h)
+pub in-named : (xs : List ℕ) (a : ℕ) → Contains xs (suc a) → Contains (flat_map named xs) a
+in-named xs a h = Contains-flat_map named xs (suc a) a h (Contains-first a [])
 
-pub in-named : (xs : List ℕ) (a : ℕ) → In xs (suc a) → In (flat_map named xs) a
-in-named [] a h = absurd h
-in-named (zero ∷ xs) a (inl e) = absurd (omega (arith, e))
-in-named (zero ∷ xs) a (inr h) = in-named xs a h
-in-named (suc x ∷ xs) a (inl e) = inl (omega (arith, e))
-in-named (suc x ∷ xs) a (inr h) = inr (in-named xs a h)
+Contains-suc_at : (xs : List ℕ) (k a : ℕ) → get_or xs k 0 ≡ suc a → Contains xs (suc a)
+Contains-suc_at [] k a e = absurd (omega (arith, e))
+Contains-suc_at (x ∷ xs) zero a e = (zero, omega arith, e)
+Contains-suc_at (x ∷ xs) (suc k) a e = let m = Contains-suc_at xs k a e in (suc m.0, omega (arith, m.1), m.2)
 
-In-get_or : (xs : List ℕ) (k a : ℕ) → get_or xs k 0 ≡ suc a → In xs (suc a)
-In-get_or [] k a e = absurd (omega (arith, e))
-In-get_or (x ∷ xs) zero a e = inl e
-In-get_or (x ∷ xs) (suc k) a e = inr (In-get_or xs k a e)
+pub Contains-set : (xs : List ℕ) (k x y : ℕ) → Contains (set xs k x) y → (x ≡ y) ⊎ Contains xs y
+Contains-set [] k x y h = absurd (omega (arith, h.1))
+Contains-set (z ∷ xs) zero x y (zero, b, e) = inl e
+Contains-set (z ∷ xs) zero x y (suc k, b, e) = inr (suc k, omega (arith, b), e)
+Contains-set (z ∷ xs) (suc k) x y (zero, b, e) = inr (zero, omega arith, e)
+Contains-set (z ∷ xs) (suc k) x y (suc j, b, eq) = elim (Contains-set xs k x y (j, omega (arith, b), eq)) [ inl e ↦ inl e | inr g ↦ inr (Contains-later z xs y g) ]
 
-pub In-set : (xs : List ℕ) (k x y : ℕ) → In (set xs k x) y → (x ≡ y) ⊎ In xs y
-In-set [] k x y h = absurd h
-In-set (z ∷ xs) zero x y (inl e) = inl e
-In-set (z ∷ xs) zero x y (inr h) = inr (inr h)
-In-set (z ∷ xs) (suc k) x y (inl e) = inr (inl e)
-In-set (z ∷ xs) (suc k) x y (inr h) = elim (In-set xs k x y h) [ inl e ↦ inl e | inr g ↦ inr (inr g) ]
-
-pub no_zeros : (n a : ℕ) → In (replicate n 0) (suc a) → ⊥
-no_zeros zero a h = absurd h
-no_zeros (suc n) a (inl e) = absurd (omega (arith, e))
-no_zeros (suc n) a (inr h) = no_zeros n a h
+pub no_zeros : (n a : ℕ) → Contains (replicate n 0) (suc a) → ⊥
+no_zeros zero a h = absurd (omega (arith, h.1))
+no_zeros (suc n) a (zero, b, e) = absurd (omega (arith, e))
+no_zeros (suc n) a (suc k, b, e) = no_zeros n a (k, omega (arith, b), e)
 
 module _ (v : View) where
-  pub root_seen : (a : ℕ) → In v.roots (suc a) → Seen v a
-  root_seen a h = seed (Contains-from_in (flat_map named v.roots) a (in-named v.roots a h))
+  pub root_seen : (a : ℕ) → Contains v.roots (suc a) → Seen v a
+  root_seen a h = seed (in-named v.roots a h)
 
-  pub slot_seen : (b a : ℕ) → Seen v b → In (v.slots b) (suc a) → Seen v a
-  slot_seen b a s h = child s (Contains-from_in (flat_map named (v.slots b)) a (in-named (v.slots b) a h))
+  pub slot_seen : (b a : ℕ) → Seen v b → Contains (v.slots b) (suc a) → Seen v a
+  slot_seen b a s h = child s (in-named (v.slots b) a h)
 
   -- what is seen stays within P
-  pub seen_within : (P : ℕ → Type 0) → ((a : ℕ) → In v.roots (suc a) → P a) → ((b a : ℕ) → P b → In (v.slots b) (suc a) → P a) → (a : ℕ) → Seen v a → P a
+  pub seen_within : (P : ℕ → Type 0) → ((a : ℕ) → Contains v.roots (suc a) → P a) → ((b a : ℕ) → P b → Contains (v.slots b) (suc a) → P a) → (a : ℕ) → Seen v a → P a
   seen_within P s k =
-      Reached-within (flat_map named v.roots) (λ b. flat_map named (v.slots b)) P (λ a c. s a (named-in v.roots a (In-from_contains (flat_map named v.roots) a c)))
-      (λ b a p c. k b a p (named-in (v.slots b) a (In-from_contains (flat_map named (v.slots b)) a c)))
+      Reached-within (flat_map named v.roots) (λ b. flat_map named (v.slots b)) P (λ a c. s a (named-in v.roots a c))
+      (λ b a p c. k b a p (named-in (v.slots b) a c))
 
-  word_seen_at : (xs : List ℕ) (k x : ℕ) → get_or xs k 0 ≡ x → ((a : ℕ) → In xs (suc a) → Seen v a) → SeenWord v x
+  word_seen_at : (xs : List ℕ) (k x : ℕ) → get_or xs k 0 ≡ x → ((a : ℕ) → Contains xs (suc a) → Seen v a) → SeenWord v x
   word_seen_at xs k zero e f = tt
-  word_seen_at xs k (suc a) e f = f a (In-get_or xs k a e)
+  word_seen_at xs k (suc a) e f = f a (Contains-suc_at xs k a e)
 
   pub root_word : (r : ℕ) → SeenWord v (get_or v.roots r 0)
   root_word r = word_seen_at v.roots r (get_or v.roots r 0) refl root_seen
@@ -169,11 +159,6 @@ answer_goes_on v c none = for_pauses v (λ r. ⊥) c none
 
 -- ---- two views of the same objects answer alike
 
-in-renamed : (f : ℕ → ℕ) (xs : List ℕ) (a : ℕ) → In xs (suc a) → In (map (renamed f) xs) (suc (f a))
-in-renamed f [] a h = absurd h
-in-renamed f (x ∷ xs) a (inl e) = inl (ap (renamed f) e)
-in-renamed f (x ∷ xs) a (inr h) = inr (in-renamed f xs a h)
-
 -- two words that are seen are equal where their new names are
 eqb-renamed : (f : ℕ → ℕ) (x y : ℕ) → (x ≡ y → ⊥) ⊎ (x ≡ y) → (renamed f x ≡ renamed f y → x ≡ y) → eqb (renamed f x) (renamed f y) ≡ eqb x y
 eqb-renamed f x y (inr e) back = eq-eqb (renamed f x) (renamed f y) (ap (renamed f) e) ∙ sym (eq-eqb x y e)
@@ -200,11 +185,11 @@ module _ (v u : View) (same : SameView v u) where
   -- what is seen in one is seen under its other name
   pub both_seen : (a : ℕ) → Seen v a → Seen v a × Seen u (same.rename a)
   both_seen = seen_within v (λ a. Seen v a × Seen u (same.rename a))
-      (λ a h. (root_seen v a h, root_seen u (same.rename a) (subst (λ xs. In xs (suc (same.rename a))) (sym same.roots) (in-renamed same.rename v.roots a h))))
+      (λ a h. (root_seen v a h, root_seen u (same.rename a) (subst (λ xs. Contains xs (suc (same.rename a))) (sym same.roots) (Contains-map (renamed same.rename) v.roots (suc a) h))))
       (λ b a p h. (
         slot_seen v b a p.0 h,
         slot_seen u (same.rename b) (same.rename a) p.1
-            (subst (λ xs. In xs (suc (same.rename a))) (sym (same.slots b p.0)) (in-renamed same.rename (v.slots b) a h)),
+            (subst (λ xs. Contains xs (suc (same.rename a))) (sym (same.slots b p.0)) (Contains-map (renamed same.rename) (v.slots b) (suc a) h)),
       ))
 
   root_same : (r : ℕ) → get_or u.roots r 0 ≡ renamed same.rename (get_or v.roots r 0)

@@ -1,8 +1,7 @@
 -- A run on images is a run on the plain store.
-use Rattle.std.proofs.Common.{◌≡◌, ℕ, suc, List, [], ◌∷◌, replicate, refl, sym, subst}
+use Rattle.std.proofs.Common.{◌≡◌, ℕ, suc, List, [], ◌∷◌, replicate, refl, sym, subst, Contains}
 use Rattle.std.specs.List.{AllByRecursion}
 use Rattle.g1_words.specs.Geometry.{Geometry}
-use Rattle.g1_words.proofs.Members.{In}
 use Rattle.g1_image.specs.Image.{Image}
 use Rattle.g1_image.specs.Cards.{IsTracked}
 use Rattle.g1_choose.specs.declared.parameters.Cost.{Cost}
@@ -20,7 +19,7 @@ use Rattle.g1_trace.proofs.Steps.{step_shows}
 
 -- nothing is seen where all roots are null
 nothing_seen : (v : View) (n : ℕ) → v.roots ≡ replicate n 0 → (a : ℕ) → Seen v a → ⊥
-nothing_seen v n e = seen_within v (λ _. ⊥) (λ a h. no_zeros n a (subst (λ xs. In xs (suc a)) e h)) (λ b a p h. p)
+nothing_seen v n e = seen_within v (λ _. ⊥) (λ a h. no_zeros n a (subst (λ xs. Contains xs (suc a)) e h)) (λ b a p h. p)
 
 -- at the start nothing is there to be shown
 pub start_shows : (g : Geometry) (roots : ℕ) → Shows (empty_store roots) (empty_image g roots).heap

@@ -8,19 +8,14 @@ use Rattle.g1_words.specs.declared.region.Kind.{Kind}
 use Rattle.g1_words.specs.declared.region.Kind.TheVariants.{Free, Ordinary, HumongousFirst, Continuation}
 use Rattle.g1_words.specs.Heap.{Heap, kind, top, region_of, regions, objects, objects_in, object_at, slots}
 use Rattle.g1_words.specs.References.{Ref, refs, refs_at, named}
-use Rattle.g1_words.proofs.Computed.{In-range}
 use Rattle.g1_words.proofs.Indices.{range_bounds}
-use Rattle.g1_words.proofs.Members.{In, In-from_contains, Contains-from_in, In-flat_map, flat_map_cases, map_cases}
+use Rattle.g1_words.proofs.Members.{Contains-flat_map, flat_map_cases, map_cases}
 use Rattle.g1_words.proofs.Shapes.{IsTiled, TakesRun, IsBuiltBy, IsBuilt}
 use Rattle.g1_words.proofs.Standing.{home, ordinary_word, run_word, word_used, words_apart, built_is_sound, w_pos}
+use Rattle.g1_words.proofs.Sound.{named_suc}
 use Rattle.g1_trace.proofs.Views.{equal_or_not}
 use Rattle.g1_trace.proofs.Ready.{below_end}
-use Rattle.g1_trace.proofs.SameObjects.{region_same, flat_map-same}
-
-named_word : (x a : ℕ) → In (named x) a → x ≡ suc a
-named_word zero a h = absurd h
-named_word (suc b) a (inl e) = ap suc e
-named_word (suc b) a (inr h) = absurd h
+use Rattle.g1_trace.proofs.SameObjects.{region_same, flat_map-same, in_heap}
 
 -- object a has the word a + k, which isn't its header; y is written there
 module _ (h : Heap) (valid : IsBuilt h) (a k y : ℕ) (here : Contains (objects h) (object_at h a)) (low : 0 < k) (high : k < (object_at h a).size) where
@@ -39,11 +34,8 @@ module _ (h : Heap) (valid : IsBuilt h) (a k y : ℕ) (here : Contains (objects 
   same_object : (q : ℕ) → (q ≡ a + k → ⊥) → object_at (record h { words = set h.words (a + k) y }) q ≡ object_at h q
   same_object q n = ap (λ x. record { at = q; size = x / 2 ^ 32; refs = x % 2 ^ 32 }) (same_word q n)
 
-  in_region : (r : ℕ) → r < h.geometry.n → (o : Object) → In (objects_in h r) o → Contains (objects h) o
-  in_region r lt o m = Contains-from_in (objects h) o (In-flat_map (objects_in h) (regions h) r o (In-range 0 h.geometry.n r (omega arith) (omega (arith, lt))) m)
-
   pub same_in : (r : ℕ) → r < h.geometry.n → objects_in (record h { words = set h.words (a + k) y }) r ≡ objects_in h r
-  same_in r lt = region_same h (record h { words = set h.words (a + k) y }) r refl refl (λ o m. same_word o.at (no_header o (in_region r lt o m)))
+  same_in r lt = region_same h (record h { words = set h.words (a + k) y }) r refl refl (λ o m. same_word o.at (no_header o (in_heap h r lt o m)))
 
   pub same_objects : objects (record h { words = set h.words (a + k) y }) ≡ objects h
   same_objects = flat_map-same (objects_in (record h { words = set h.words (a + k) y })) (objects_in h) (regions h) (λ r m. same_in r (let b = range_bounds 0 h.geometry.n r m in omega (arith, b)))
@@ -69,11 +61,11 @@ module _ (h : Heap) (valid : IsBuilt h) (a k y : ℕ) (here : Contains (objects 
             ]
       ]
 
-  tiled_kept : (b : ℕ) (os : List Object) (end : ℕ) → ((o : Object) → In os o → Contains (objects h) o) → IsTiled h b os end → IsTiled (record h { words = set h.words (a + k) y }) b os end
+  tiled_kept : (b : ℕ) (os : List Object) (end : ℕ) → ((o : Object) → Contains os o → Contains (objects h) o) → IsTiled h b os end → IsTiled (record h { words = set h.words (a + k) y }) b os end
   tiled_kept b [] end f t = t
   tiled_kept b (o ∷ os) end f t =
       let at : o.at ≡ b = ap (λ (x : Object). x.at) t.0 in
-      (t.0 ∙ sym (same_object b (λ e. no_header o (f o (inl refl)) (at ∙ e))), t.1, tiled_kept (b + o.size) os end (λ q g. f q (inr g)) t.2)
+      (t.0 ∙ sym (same_object b (λ e. no_header o (f o (zero, omega arith, refl)) (at ∙ e))), t.1, tiled_kept (b + o.size) os end (λ q g. f q (suc g.0, omega (arith, g.1), g.2)) t.2)
 
   first_kept : (r : ℕ) → kind h r ≡ HumongousFirst → object_at (record h { words = set h.words (a + k) y }) (r * h.geometry.w) ≡ object_at h (r * h.geometry.w)
   first_kept r two = same_object (r * h.geometry.w) (not_first r two)
@@ -84,7 +76,7 @@ module _ (h : Heap) (valid : IsBuilt h) (a k y : ℕ) (here : Contains (objects 
     s.0,
     s.1,
     subst (λ os. IsTiled (record h { words = set h.words (a + k) y }) (r * h.geometry.w) os (r * h.geometry.w + top h r)) (sym (same_in r lt))
-        (tiled_kept (r * h.geometry.w) (objects_in h r) (r * h.geometry.w + top h r) (in_region r lt) s.2),
+        (tiled_kept (r * h.geometry.w) (objects_in h r) (r * h.geometry.w + top h r) (in_heap h r lt) s.2),
   )
   shaped_kept r HumongousFirst lt e s =
       let q : object_at h (r * h.geometry.w) ≡ object_at (record h { words = set h.words (a + k) y }) (r * h.geometry.w) = sym (first_kept r e) in
@@ -96,24 +88,24 @@ module _ (h : Heap) (valid : IsBuilt h) (a k y : ℕ) (here : Contains (objects 
   shaped_kept r Continuation lt e s = (s.0, s.1, s.2, subst (λ (o : Object). (r - s.0) * h.geometry.w < o.size) (sym (first_kept s.0 s.1)) s.3)
 
   -- the references after: those that were there, and what is written
-  pub refs_cases : (e : Ref) → In (refs (record h { words = set h.words (a + k) y })) e
-      → In (refs h) e ⊎ ((e.slot ≡ a + k) × (y ≡ suc e.target) × ((o : Object) × In (objects h) o × In (slots o) (a + k)))
+  pub refs_cases : (e : Ref) → Contains (refs (record h { words = set h.words (a + k) y })) e
+      → Contains (refs h) e ⊎ ((e.slot ≡ a + k) × (y ≡ suc e.target) × ((o : Object) × Contains (objects h) o × Contains (slots o) (a + k)))
   refs_cases e m =
       let f : Object → List Ref = λ o. flat_map (refs_at (record h { words = set h.words (a + k) y })) (slots o) in
-      let x = flat_map_cases f (objects h) e (subst (λ os. In (flat_map f os) e) same_objects m) in
+      let x = flat_map_cases f (objects h) e (subst (λ os. Contains (flat_map f os) e) same_objects m) in
       let s = flat_map_cases (refs_at (record h { words = set h.words (a + k) y })) (slots x.0) e x.2 in
       elim (equal_or_not s.0 (a + k)) [
-        | inl n ↦ inl (In-flat_map (λ o. flat_map (refs_at h) (slots o)) (objects h) x.0 e x.1 (In-flat_map (refs_at h) (slots x.0) s.0 e s.1
-            (subst (λ z. In (map (λ b. record { slot = s.0; target = b }) (named z)) e) (same_word s.0 n) s.2)))
+        | inl n ↦ inl (Contains-flat_map (λ o. flat_map (refs_at h) (slots o)) (objects h) x.0 e x.1 (Contains-flat_map (refs_at h) (slots x.0) s.0 e s.1
+            (subst (λ z. Contains (map (λ b. record { slot = s.0; target = b }) (named z)) e) (same_word s.0 n) s.2)))
         | inr q ↦
             let t = map_cases (λ b. record { slot = s.0; target = b }) (named (get_or (set h.words (a + k) y) s.0 0)) e s.2 in
             let len : a + k < length h.words = in_words in
             let wrote : get_or (set h.words (a + k) y) s.0 0 ≡ y = ap (λ z. get_or (set h.words (a + k) y) z 0) q ∙ get_or-set_same h.words (a + k) y 0 len in
             inr (
               ap (λ (z : Ref). z.slot) (sym t.2) ∙ q,
-              sym wrote ∙ named_word (get_or (set h.words (a + k) y) s.0 0) t.0 t.1
+              sym wrote ∙ named_suc (get_or (set h.words (a + k) y) s.0 0) t.0 t.1
                   ∙ ap (λ (z : Ref). suc z.target) t.2,
-              (x.0, x.1, subst (In (slots x.0)) q s.1),
+              (x.0, x.1, subst (Contains (slots x.0)) q s.1),
             )
       ]
     where
@@ -123,7 +115,7 @@ module _ (h : Heap) (valid : IsBuilt h) (a k y : ℕ) (here : Contains (objects 
           let n : length h.words ≡ h.geometry.n * h.geometry.w = valid.word_count in
           omega (arith, laid, n)
 
-  module _ (fits : y < 2 ^ 64) (names : (o : Object) → In (objects h) o → In (slots o) (a + k) → (b : ℕ) → y ≡ suc b → Contains (objects h) (object_at h b)) where
+  module _ (fits : y < 2 ^ 64) (names : (o : Object) → Contains (objects h) o → Contains (slots o) (a + k) → (b : ℕ) → y ≡ suc b → Contains (objects h) (object_at h b)) where
     object_kept : (q : ℕ) → Contains (objects h) (object_at h q) → Contains (objects (record h { words = set h.words (a + k) y })) (object_at (record h { words = set h.words (a + k) y }) q)
     object_kept q c =
         subst (λ (o : Object). Contains (objects (record h { words = set h.words (a + k) y })) o) (sym (same_object q (no_header (object_at h q) c)))
@@ -151,8 +143,8 @@ module _ (h : Heap) (valid : IsBuilt h) (a k y : ℕ) (here : Contains (objects 
           let below : a + k < r * h.geometry.w + top h r = subst (λ x. a + k < x * h.geometry.w + top h x) at u.2 in
           absurd (omega (arith, below, e, le))) ∙ valid.zero_above r m lt le small;
       root_named = λ q c. object_kept q (valid.root_named q c);
-      slot_named = λ e c. elim (refs_cases e (In-from_contains (refs (record h { words = set h.words (a + k) y })) e c)) [
-        | inl m ↦ object_kept e.target (valid.slot_named e (Contains-from_in (refs h) e m))
+      slot_named = λ e c. elim (refs_cases e c) [
+        | inl m ↦ object_kept e.target (valid.slot_named e m)
         | inr x ↦ object_kept e.target (names x.2.0 x.2.1 x.2.2 e.target x.1)
       ];
       current = valid.current;

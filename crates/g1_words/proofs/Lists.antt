@@ -1,14 +1,13 @@
 -- Lists, their members and ranges.
-use Rattle.std.proofs.Common.{◌≡◌, ◌≢◌, ℕ, zero, suc, ◌+◌, ◌-◌, ◌≤◌, inl, inr, Bool, true, false, cond, not, ◌||◌, List, [], ◌∷◌, ◌++◌, map, filter, flat_map, replicate, get_or, All, refl, sym, ◌∙◌, ap, subst, arith, eqb}
+use Rattle.std.proofs.Common.{◌≡◌, ◌≢◌, ℕ, zero, suc, ◌+◌, ◌-◌, ◌≤◌, Bool, true, false, cond, not, ◌||◌, List, [], ◌∷◌, ◌++◌, map, filter, flat_map, replicate, get_or, All, refl, sym, ◌∙◌, ap, subst, arith, eqb, Contains}
 use Rattle.std.proofs.Common.{append_assoc, append-nil, eqb-true}
 use Rattle.std.specs.List.{list_any, range_with_len}
 use Rattle.std.proofs.lemmas.List.{map-append}
 use Rattle.std.proofs.lemmas.List.Concat.{flat_map-append}
-use Rattle.std.proofs.lemmas.List.Elements.{filter-append}
+use Rattle.std.proofs.lemmas.List.Elements.{filter-append, Contains-append_left, Contains-get_or}
 use Rattle.std.proofs.lemmas.List.Folds.{list_any-append}
 use Rattle.g1_words.proofs.Firsts.{Distinct}
-use Rattle.g1_words.proofs.Indices.{get_or-In}
-use Rattle.g1_words.proofs.Members.{In, Contains-from_in, In-append_left, In-map}
+use Rattle.g1_words.proofs.Members.{Contains-map}
 use Rattle.g1_words.proofs.Ordered.{Ordered}
 use Rattle.g1_words.specs.Lists.{has}
 use Rattle.g1_words.specs.Survivors.{firsts}
@@ -50,35 +49,35 @@ filter_range_no p n e =
     ap (filter p) (first_numbers_more n) ∙ filter-append p (range_with_len 0 n) (n ∷ [])
     ∙ ap (λ b. filter p (range_with_len 0 n) ++ cond b (n ∷ []) []) e ∙ append-nil (filter p (range_with_len 0 n))
 
-pub all_in : {A : Type 0} (P : A → Type 0) (xs : List A) (x : A) → All P xs → In xs x → P x
-all_in P xs x all i = let c = Contains-from_in xs x i in subst P c.2 (all c.0 x c.1)
+pub all_in : {A : Type 0} (P : A → Type 0) (xs : List A) (x : A) → All P xs → Contains xs x → P x
+all_in P xs x all i = subst P i.2 (all i.0 x i.1)
 
-pub all_from_in : {A : Type 0} (P : A → Type 0) (xs : List A) → ((x : A) → In xs x → P x) → All P xs
-all_from_in P xs f = λ k d lt. f (get_or xs k d) (get_or-In xs k d lt)
+pub all_from_in : {A : Type 0} (P : A → Type 0) (xs : List A) → ((x : A) → Contains xs x → P x) → All P xs
+all_from_in P xs f = λ k d lt. f (get_or xs k d) (Contains-get_or xs k d lt)
 
-pub any_from_in : {A : Type 0} (p : A → Bool) (xs : List A) (x : A) → In xs x → p x ≡ true → list_any p xs ≡ true
-any_from_in p [] x i t = absurd i
-any_from_in p (y ∷ ys) x (inl e) t = rw (ap p e ∙ t) refl
-any_from_in p (y ∷ ys) x (inr i) t = elim (p y) as (λ b. (b || list_any p ys) ≡ true) [ true ↦ refl | false ↦ any_from_in p ys x i t ]
+pub any_from_in : {A : Type 0} (p : A → Bool) (xs : List A) (x : A) → Contains xs x → p x ≡ true → list_any p xs ≡ true
+any_from_in p [] x i t = absurd (omega (arith, i.1))
+any_from_in p (y ∷ ys) x (zero, b, e) t = rw (ap p e ∙ t) refl
+any_from_in p (y ∷ ys) x (suc k, lt, e) t = elim (p y) as (λ b. (b || list_any p ys) ≡ true) [ true ↦ refl | false ↦ any_from_in p ys x (k, omega (arith, lt), e) t ]
 
-pub none_passes : {A : Type 0} (p : A → Bool) (xs : List A) → ((x : A) → In xs x → p x ≡ false) → filter p xs ≡ []
+pub none_passes : {A : Type 0} (p : A → Bool) (xs : List A) → ((x : A) → Contains xs x → p x ≡ false) → filter p xs ≡ []
 none_passes p [] f = refl
-none_passes p (x ∷ xs) f = rw (f x (inl refl)) (none_passes p xs (λ y i. f y (inr i)))
+none_passes p (x ∷ xs) f = rw (f x (zero, omega arith, refl)) (none_passes p xs (λ y i. f y (suc i.0, omega (arith, i.1), i.2)))
 
 -- tests that the members don't tell apart
-pub filter_same_in : {A : Type 0} (p q : A → Bool) (xs : List A) → ((x : A) → In xs x → p x ≡ q x) → filter p xs ≡ filter q xs
+pub filter_same_in : {A : Type 0} (p q : A → Bool) (xs : List A) → ((x : A) → Contains xs x → p x ≡ q x) → filter p xs ≡ filter q xs
 filter_same_in p q [] f = refl
-filter_same_in p q (x ∷ xs) f = rw (f x (inl refl), filter_same_in p q xs (λ y i. f y (inr i))) refl
+filter_same_in p q (x ∷ xs) f = rw (f x (zero, omega arith, refl), filter_same_in p q xs (λ y i. f y (suc i.0, omega (arith, i.1), i.2))) refl
 
 -- what passes two tests, number by number
 pub by_number : {A : Type 0} (g : A → ℕ) (p q : A → Bool) (f : ℕ → List A) (t : ℕ → Bool) (xs : List ℕ)
-    → ((x : ℕ) → In xs x → map g (filter p (filter q (f x))) ≡ cond (t x) (x ∷ []) []) → map g (filter p (filter q (flat_map f xs))) ≡ filter t xs
+    → ((x : ℕ) → Contains xs x → map g (filter p (filter q (f x))) ≡ cond (t x) (x ∷ []) []) → map g (filter p (filter q (flat_map f xs))) ≡ filter t xs
 by_number g p q f t [] each = refl
 by_number g p q f t (x ∷ xs) each =
     ap (λ ys. map g (filter p ys)) (filter-append q (f x) (flat_map f xs))
     ∙ ap (map g) (filter-append p (filter q (f x)) (filter q (flat_map f xs)))
     ∙ map-append g (filter p (filter q (f x))) (filter p (filter q (flat_map f xs)))
-    ∙ (λ i. each x (inl refl) i ++ by_number g p q f t xs (λ y k. each y (inr k)) i)
+    ∙ (λ i. each x (zero, omega arith, refl) i ++ by_number g p q f t xs (λ y k. each y (suc k.0, omega (arith, k.1), k.2)) i)
     ∙ one (t x)
   where
     one : (b : Bool) → cond b (x ∷ []) [] ++ filter t xs ≡ cond b (x ∷ filter t xs) (filter t xs)
@@ -106,7 +105,7 @@ same_there d (suc n) (suc r) = same_there d n r
 
 pub Ordered-append_left : {A : Type 0} (R : A → A → Type 0) (xs ys : List A) → Ordered R (xs ++ ys) → Ordered R xs
 Ordered-append_left R [] ys o = tt
-Ordered-append_left R (x ∷ xs) ys o = ((λ y i. o.0 y (In-append_left xs ys y i)), Ordered-append_left R xs ys o.1)
+Ordered-append_left R (x ∷ xs) ys o = ((λ y i. o.0 y (Contains-append_left xs ys y i)), Ordered-append_left R xs ys o.1)
 
 pub Ordered-append_right : {A : Type 0} (R : A → A → Type 0) (xs ys : List A) → Ordered R (xs ++ ys) → Ordered R ys
 Ordered-append_right R [] ys o = o
@@ -114,18 +113,18 @@ Ordered-append_right R (x ∷ xs) ys o = Ordered-append_right R xs ys o.1
 
 pub Ordered-unmap : {A B : Type 0} (R : B → B → Type 0) (f : A → B) (xs : List A) → Ordered R (map f xs) → Ordered (λ x y. R (f x) (f y)) xs
 Ordered-unmap R f [] o = tt
-Ordered-unmap R f (x ∷ xs) o = ((λ y i. o.0 (f y) (In-map f xs y i)), Ordered-unmap R f xs o.1)
+Ordered-unmap R f (x ∷ xs) o = ((λ y i. o.0 (f y) (Contains-map f xs y i)), Ordered-unmap R f xs o.1)
 
 pub Distinct-differ : (xs : List ℕ) → Distinct xs → Ordered (λ x y. x ≢ y) xs
 Distinct-differ [] d = tt
-Distinct-differ (x ∷ xs) d = ((λ y i e. d.0 (subst (In xs) (sym e) i)), Distinct-differ xs d.1)
+Distinct-differ (x ∷ xs) d = ((λ y i e. d.0 (subst (Contains xs) (sym e) i)), Distinct-differ xs d.1)
 
-pub keep_apart : (x : ℕ) (xs : List ℕ) → (In xs x → ⊥) → filter (λ y. not (eqb x y)) xs ≡ xs
+pub keep_apart : (x : ℕ) (xs : List ℕ) → (Contains xs x → ⊥) → filter (λ y. not (eqb x y)) xs ≡ xs
 keep_apart x [] d = refl
-keep_apart x (y ∷ ys) d = at (eqb x y) refl (keep_apart x ys (λ i. d (inr i)))
+keep_apart x (y ∷ ys) d = at (eqb x y) refl (keep_apart x ys (λ i. d (suc i.0, omega (arith, i.1), i.2)))
   where
     at : (b : Bool) → eqb x y ≡ b → filter (λ z. not (eqb x z)) ys ≡ ys → cond (not b) (y ∷ filter (λ z. not (eqb x z)) ys) (filter (λ z. not (eqb x z)) ys) ≡ y ∷ ys
-    at true e rest = absurd (d (inl (sym (eqb-true x y e))))
+    at true e rest = absurd (d (zero, omega arith, sym (eqb-true x y e)))
     at false e rest = ap (λ l. y ∷ l) rest
 
 pub firsts_distinct : (xs : List ℕ) → Distinct xs → firsts xs ≡ xs

@@ -160,7 +160,7 @@ first_there h r words q valid lt kind e at only =
     let same : first.0 ≡ q = only first.0 first.1.at (subst (λ x. IsObject x first.0) (sym e) first.1.object) in
     subst (λ o. HasObject h o) same (first_has h r first.0 lt first.1)
 
-top_by_kind : (k : Kind) (h : Heap) (r : ℕ) → IsShapedBy k h r → (region h r).top ≤ h.geometry.w
+pub top_by_kind : (k : Kind) (h : Heap) (r : ℕ) → IsShapedBy k h r → (region h r).top ≤ h.geometry.w
 top_by_kind Free h r s = omega arith
 top_by_kind Ordinary h r s = s.1
 top_by_kind HumongousFirst h r s = omega (arith, s.3)

@@ -11,8 +11,8 @@ use Rattle.g1_words.specs.declared.region.Kind.TheVariants.{Free, Ordinary, Humo
 use Rattle.g1_words.specs.Heap.{Heap, kind, top, start, end, word, objects, objects_in, object_at, slots}
 use Rattle.g1_words.specs.Valid.{IsObject, Tiles, IsFirst, HoldsBy, HasObject, IsReference, IsSlotOf, IsWholeRun, IsShapedBy, AllShaped, MayBePinned, IsValid}
 use Rattle.g1_words.specs.References.{Ref, refs, refs_at, named, root_targets}
-use Rattle.g1_words.proofs.Members.{In, In-from_contains, Contains-from_in, In-flat_map, In-map}
-use Rattle.g1_words.proofs.Computed.{object_is, holds_are, has_contains, contains_has, In-range}
+use Rattle.g1_words.proofs.Members.{Contains-flat_map, Contains-map}
+use Rattle.g1_words.proofs.Computed.{object_is, holds_are, has_contains, contains_has, Contains-range}
 use Rattle.g1_words.proofs.Sound.{sound}
 
 -- the object is one of an ordinary region
@@ -57,10 +57,10 @@ pub record IsBuilt (h : Heap) : Type 0 where
 
 -- ---- from the rules
 
-tiled_all : (h : Heap) (from : ℕ) (os : List Object) (to : ℕ) → Tiles h.words from os to → ((o : Object) → In os o → 4 * o.size ≤ 3 * h.geometry.w) → IsTiled h from os to
+tiled_all : (h : Heap) (from : ℕ) (os : List Object) (to : ℕ) → Tiles h.words from os to → ((o : Object) → Contains os o → 4 * o.size ≤ 3 * h.geometry.w) → IsTiled h from os to
 tiled_all h from [] to t f = t
 tiled_all h from (o ∷ os) to t f =
-    (object_is h o t.1 ∙ ap (object_at h) t.0, (t.1.refs_fit, f o (inl refl)), tiled_all h (from + o.size) os to t.2 (λ q k. f q (inr k)))
+    (object_is h o t.1 ∙ ap (object_at h) t.0, (t.1.refs_fit, f o (zero, omega arith, refl)), tiled_all h (from + o.size) os to t.2 (λ q k. f q (suc k.0, omega (arith, k.1), k.2)))
 
 module _ (h : Heap) (valid : IsValid h) where
   ordinary_built : (r : ℕ) → r < h.geometry.n → kind h r ≡ Ordinary → IsShapedBy Ordinary h r → IsBuiltBy h r Ordinary
@@ -68,8 +68,8 @@ module _ (h : Heap) (valid : IsValid h) where
       let os : List Object = s.2 in
       let held : HoldsBy Ordinary h r os = subst (λ k. HoldsBy k h r os) e s.3 in
       let same : os ≡ objects_in h r = holds_are (kind h r) h r os s.3 in
-      let bound : (o : Object) → In os o → 4 * o.size ≤ 3 * h.geometry.w = λ o k.
-      let c = Contains-from_in os o k in subst (λ (x : Object). 4 * x.size ≤ 3 * h.geometry.w) c.2 (s.4 c.0 o c.1) in
+      let bound : (o : Object) → Contains os o → 4 * o.size ≤ 3 * h.geometry.w = λ o k.
+      let c = k in subst (λ (x : Object). 4 * x.size ≤ 3 * h.geometry.w) c.2 (s.4 c.0 o c.1) in
       (s.0, s.1, subst (λ xs. IsTiled h (start h r) xs (end h r)) same (tiled_all h (start h r) os (end h r) held bound))
 
   first_by : (r : ℕ) → r < h.geometry.n → kind h r ≡ HumongousFirst → IsShapedBy HumongousFirst h r
@@ -200,17 +200,17 @@ module _ (h : Heap) (b : IsBuilt h) where
   all_shaped : AllShaped h
   all_shaped r lt = record { by_kind = shaped_of r (kind h r) lt refl (b.shaped r lt); current = λ e. (b.current r e).1 }
 
-  reference_of : (x : ℕ) → ((a : ℕ) → In (named x) a → Contains (objects h) (object_at h a)) → IsReference h x
+  reference_of : (x : ℕ) → ((a : ℕ) → Contains (named x) a → Contains (objects h) (object_at h a)) → IsReference h x
   reference_of zero f = inl refl
-  reference_of (suc a) f = inr (object_at h a, contains_has h (object_at h a) all_shaped (f a (inl refl)), omega arith)
+  reference_of (suc a) f = inr (object_at h a, contains_has h (object_at h a) all_shaped (f a (zero, omega arith, refl)), omega arith)
 
   slot_kept : (o : Object) (p : ℕ) → HasObject h o → IsSlotOf o p → IsReference h (word h p)
   slot_kept o p has slot = reference_of (word h p) (λ a k.
       let e : Ref = record { slot = p; target = a } in
-      let here : In (slots o) p = In-range (o.at + 1) o.refs p (omega (arith, slot.0)) (omega (arith, slot.1)) in
-      let there : In (refs_at h p) e = In-map (λ a. record { slot = p; target = a }) (named (word h p)) a k in
-      let one : In (flat_map (refs_at h) (slots o)) e = In-flat_map (refs_at h) (slots o) p e here there in
-      b.slot_named e (Contains-from_in (refs h) e (In-flat_map (λ o. flat_map (refs_at h) (slots o)) (objects h) o e (In-from_contains (objects h) o (has_contains h o has)) one)))
+      let here : Contains (slots o) p = Contains-range (o.at + 1) o.refs p (omega (arith, slot.0)) (omega (arith, slot.1)) in
+      let there : Contains (refs_at h p) e = Contains-map (λ a. record { slot = p; target = a }) (named (word h p)) a k in
+      let one : Contains (flat_map (refs_at h) (slots o)) e = Contains-flat_map (refs_at h) (slots o) p e here there in
+      b.slot_named e (Contains-flat_map (λ o. flat_map (refs_at h) (slots o)) (objects h) o e (has_contains h o has) one))
 
   current_of : (c : Option ℕ) → h.current ≡ c → IfSome c (λ r. r < h.geometry.n)
   current_of None e = tt
@@ -229,7 +229,7 @@ module _ (h : Heap) (b : IsBuilt h) where
     zero_above = b.zero_above;
     roots = λ k d lt. reference_of (get_or h.roots k d) (λ a m.
         let x : ℕ = get_or h.roots k d in
-        b.root_named a (Contains-from_in (root_targets h) a (In-flat_map named h.roots x a (In-from_contains h.roots x (k, lt, get_or_default h.roots k x d lt)) m)));
+        b.root_named a (Contains-flat_map named h.roots x a (k, lt, get_or_default h.roots k x d lt) m));
     slots = slot_kept;
     current_in = current_of h.current refl;
   }

@@ -8,7 +8,7 @@ use Rattle.g1_words.specs.declared.region.Kind.TheVariants.{Free, Ordinary, Humo
 use Rattle.g1_words.specs.Heap.{Heap, kind, start, end, word, region_of, objects, objects_in, object_at, slots}
 use Rattle.g1_words.specs.Valid.{IsObject, HasObject, IsReference, IsShapedBy, IsWholeRun, IsValid}
 use Rattle.g1_words.specs.References.{Ref, refs, refs_at, named, root_targets}
-use Rattle.g1_words.proofs.Members.{In, In-from_contains, Contains-from_in, flat_map_cases, map_cases}
+use Rattle.g1_words.proofs.Members.{flat_map_cases, map_cases, none_contains}
 use Rattle.g1_words.proofs.Tiling.{Tiles-le, same_object}
 use Rattle.g1_words.proofs.Bounds.{object_within}
 use Rattle.g1_words.proofs.Objects.{StandsIn, object_stands, object_place, div_between}
@@ -31,19 +31,28 @@ stands_object Ordinary h r o t = t.object
 stands_object HumongousFirst h r o t = t.1
 stands_object Continuation h r o t = absurd t
 
-pub named_is : (x a : ℕ) → In (named x) a → x ≡ a + 1
-named_is zero a i = absurd i
-named_is (suc b) a (inl e) = omega (arith, e)
-named_is (suc b) a (inr i) = absurd i
+pub named_is : (x a : ℕ) → Contains (named x) a → x ≡ a + 1
+named_is zero a i = absurd (omega (arith, i.1))
+named_is (suc b) a (zero, lt, e) = omega (arith, e)
+named_is (suc b) a (suc k, lt, e) = absurd (omega (arith, lt))
 
 -- an object of a valid heap is the one that its header tells
+pub w_positive : (h : Heap) → IsValid h → 0 < h.geometry.w
+w_positive h valid = let least = valid.limits.w_least in omega arith
+
+pub k_positive : (h : Heap) → IsValid h → 0 < h.geometry.k
+k_positive h valid = let least = valid.limits.k_least in omega arith
+
 pub has_is : (h : Heap) (o : Object) → IsValid h → HasObject h o → o ≡ object_at h o.at
 has_is h o valid has =
     let s = object_stands h o (o.at / h.geometry.w) valid has refl in
     object_is h o (stands_object (kind h (o.at / h.geometry.w)) h (o.at / h.geometry.w) o s.1)
 
+pub named_suc : (x a : ℕ) → Contains (named x) a → x ≡ suc a
+named_suc x a i = let k = named_is x a i in omega arith
+
 -- a reference word names an object
-pub reference_named : (h : Heap) (x a : ℕ) → IsValid h → IsReference h x → In (named x) a → Contains (objects h) (object_at h a)
+pub reference_named : (h : Heap) (x a : ℕ) → IsValid h → IsReference h x → Contains (named x) a → Contains (objects h) (object_at h a)
 reference_named h x a valid (inl e) i = let k = named_is x a i in absurd (omega arith)
 reference_named h x a valid (inr r) i =
     let k = named_is x a i in
@@ -99,18 +108,18 @@ module _ (h : Heap) (valid : IsValid h) where
   standing : (o : Object) → Contains (objects h) o → (region_of h o.at < h.geometry.n) × StandsIn (kind h (region_of h o.at)) h (region_of h o.at) o
   standing o c = object_stands h o (region_of h o.at) valid (has_of o c) refl
 
-  within_regions : (r : ℕ) (o : Object) → In (objects_in h r) o → r < h.geometry.n
+  within_regions : (r : ℕ) (o : Object) → Contains (objects_in h r) o → r < h.geometry.n
   within_regions r o i = elim (cases_lt r h.geometry.n) [
     | inl lt ↦ lt
-    | inr ge ↦ absurd (subst (λ l. In l o) (none_in_past h r (omega (arith, ge, valid.region_count))) i)
+    | inr ge ↦ absurd (none_contains o (subst (λ l. Contains l o) (none_in_past h r (omega (arith, ge, valid.region_count))) i))
   ]
 
   in_its_region : (r : ℕ) (o : Object) → Contains (objects_in h r) o → region_of h o.at ≡ r
   in_its_region r o c =
-      let lt : r < h.geometry.n = within_regions r o (In-from_contains (objects_in h r) o c) in
+      let lt : r < h.geometry.n = within_regions r o c in
       object_place h o valid (in_region_has h r o valid.shaped lt c)
 
-  slot_place : (o : Object) (p : ℕ) → In (slots o) p → (o.at < p) × (p ≤ o.at + o.refs)
+  slot_place : (o : Object) (p : ℕ) → Contains (slots o) p → (o.at < p) × (p ≤ o.at + o.refs)
   slot_place o p i = (omega (arith, range_above (o.at + 1) o.refs p i), omega (arith, range_below (o.at + 1) o.refs p i))
 
   pub sound : IsSound h
@@ -122,20 +131,20 @@ module _ (h : Heap) (valid : IsValid h) where
     slots_fit = λ o c. (stands_object (kind h (region_of h o.at)) h (region_of h o.at) o (standing o c).1).refs_fit;
     slots_at_home = λ o p c d e.
         let s = standing o c in
-        let b = slot_place o p (In-from_contains (slots o) p d) in
+        let b = slot_place o p d in
         slot_at_home (kind h (region_of h o.at)) (region_of h o.at) o p s.0 (valid.shaped (region_of h o.at) s.0).by_kind s.1 b.0 b.1 e;
     root_named = λ a c.
-        let m = flat_map_cases named h.roots a (In-from_contains (root_targets h) a c) in
-        let k = Contains-from_in h.roots m.0 m.1 in
+        let m = flat_map_cases named h.roots a c in
+        let k = m.1 in
         reference_named h m.0 a valid (subst (IsReference h) k.2 (valid.roots k.0 m.0 k.1)) m.2;
     slot_named = λ e c.
-        let m = flat_map_cases (λ o. flat_map (refs_at h) (slots o)) (objects h) e (In-from_contains (refs h) e c) in
+        let m = flat_map_cases (λ o. flat_map (refs_at h) (slots o)) (objects h) e c in
         let o : Object = m.0 in
         let p = flat_map_cases (refs_at h) (slots o) e m.2 in
         let b = slot_place o p.0 p.1 in
         let q = map_cases (λ a. record { slot = p.0; target = a }) (named (word h p.0)) e p.2 in
-        let named_there : In (named (word h p.0)) e.target = subst (λ (x : Ref). In (named (word h p.0)) x.target) q.2 q.1 in
-        reference_named h (word h p.0) e.target valid (valid.slots o p.0 (has_of o (Contains-from_in (objects h) o m.1)) (b.0, b.1)) named_there;
+        let named_there : Contains (named (word h p.0)) e.target = subst (λ (x : Ref). Contains (named (word h p.0)) x.target) q.2 q.1 in
+        reference_named h (word h p.0) e.target valid (valid.slots o p.0 (has_of o m.1) (b.0, b.1)) named_there;
   }
 
 -- an object of the heap ends within its words, and so do its slots within it

@@ -1,15 +1,15 @@
 -- What the rules of a valid heap say of its objects: where each stands, that no two meet, and the sound part of the rules.
-use Rattle.std.proofs.Common.{◌≡◌, ◌≢◌, ℕ, ◌+◌, ◌-◌, ◌*◌, ◌/◌, ◌%◌, ◌<◌, ◌≤◌, ◌⊎◌, inl, inr, List, [], ◌∷◌, Contains, refl, sym, ◌∙◌, ap, subst, arith, mod-lt, div-add-mod', min}
+use Rattle.std.proofs.Common.{◌≡◌, ◌≢◌, ℕ, ◌+◌, ◌-◌, ◌*◌, ◌/◌, ◌%◌, ◌<◌, ◌≤◌, ◌⊎◌, inl, inr, List, [], ◌∷◌, Contains, refl, sym, ◌∙◌, ap, subst, arith, mod-lt, div-add-mod', min, zero, suc}
 use Rattle.std.proofs.lemmas.Bool.{cases_lt}
 use Rattle.std.proofs.lemmas.Nat.{div-mul-add}
 use Rattle.std.proofs.Math.Nat.{mul-le-mul_right, add-mul}
 use Rattle.g1_words.proofs.Computed.{none_in_past}
 use Rattle.g1_words.proofs.Indices.{range_bounds}
-use Rattle.g1_words.proofs.Members.{In, In-from_contains, flat_map_cases}
+use Rattle.g1_words.proofs.Members.{flat_map_cases, none_contains}
 use Rattle.g1_words.proofs.Shapes.{BeginsRun, IsBuilt, IsBuiltBy, IsPlain, IsTiled}
 use Rattle.g1_words.proofs.Sound.{IsSound}
 use Rattle.g1_words.specs.Geometry.{IsWithinBounds}
-use Rattle.g1_words.specs.Heap.{Heap, end, kind, object_at, objects, objects_by, objects_in, region_of, regions, slots, top}
+use Rattle.g1_words.specs.Heap.{Heap, end, kind, object_at, objects, objects_by, objects_in, region_of, regions, top}
 use Rattle.g1_words.specs.declared.object.Object.{Object}
 use Rattle.g1_words.specs.declared.region.Kind.{Kind}
 use Rattle.g1_words.specs.declared.region.Kind.TheVariants.{Continuation, Free, HumongousFirst, Ordinary}
@@ -26,29 +26,29 @@ pub tiled_from : (h : Heap) (a : ℕ) (os : List Object) (end : ℕ) → IsTiled
 tiled_from h a [] end t = omega (arith, t)
 tiled_from h a (o ∷ os) end t = let k = tiled_from h (a + o.size) os end t.2 in omega arith
 
-pub tiled_member : (h : Heap) (a : ℕ) (os : List Object) (end : ℕ) → IsTiled h a os end → (o : Object) → In os o → (a ≤ o.at) × (o.at + o.size ≤ end) × (o ≡ object_at h o.at) × IsPlain h o
-tiled_member h a [] end t o k = absurd k
-tiled_member h a (p ∷ os) end t o (inl e) =
+pub tiled_member : (h : Heap) (a : ℕ) (os : List Object) (end : ℕ) → IsTiled h a os end → (o : Object) → Contains os o → (a ≤ o.at) × (o.at + o.size ≤ end) × (o ≡ object_at h o.at) × IsPlain h o
+tiled_member h a [] end t o k = absurd (omega (arith, k.1))
+tiled_member h a (p ∷ os) end t o (zero, b, e) =
     let at : p.at ≡ a = ap (λ (x : Object). x.at) t.0 in
     let m = tiled_from h (a + p.size) os end t.2 in
     let whole : p ≡ object_at h p.at = t.0 ∙ ap (object_at h) (sym at) in
     subst (λ (x : Object). (a ≤ x.at) × (x.at + x.size ≤ end) × (x ≡ object_at h x.at) × IsPlain h x) e (omega arith, omega arith, whole, t.1)
-tiled_member h a (p ∷ os) end t o (inr k) = let m = tiled_member h (a + p.size) os end t.2 o k in (omega (arith, m.0), m.1, m.2, m.3)
+tiled_member h a (p ∷ os) end t o (suc j, b, e) = let m = tiled_member h (a + p.size) os end t.2 o (j, omega (arith, b), e) in (omega (arith, m.0), m.1, m.2, m.3)
 
-pub tiled_apart : (h : Heap) (a : ℕ) (os : List Object) (end : ℕ) → IsTiled h a os end → (o p : Object) → In os o → In os p → (o.at ≡ p.at) ⊎ ((o.at + o.size ≤ p.at) ⊎ (p.at + p.size ≤ o.at))
-tiled_apart h a [] end t o p k m = absurd k
-tiled_apart h a (q ∷ os) end t o p (inl e) (inl f) = inl (ap (λ (x : Object). x.at) (sym e ∙ f))
-tiled_apart h a (q ∷ os) end t o p (inl e) (inr m) =
+pub tiled_apart : (h : Heap) (a : ℕ) (os : List Object) (end : ℕ) → IsTiled h a os end → (o p : Object) → Contains os o → Contains os p → (o.at ≡ p.at) ⊎ ((o.at + o.size ≤ p.at) ⊎ (p.at + p.size ≤ o.at))
+tiled_apart h a [] end t o p k m = absurd (omega (arith, k.1))
+tiled_apart h a (q ∷ os) end t o p (zero, b, e) (zero, lt, f) = inl (ap (λ (x : Object). x.at) (sym e ∙ f))
+tiled_apart h a (q ∷ os) end t o p (zero, lt, e) (suc k, less, eq) =
     let at : q.at ≡ a = ap (λ (x : Object). x.at) t.0 in
-    let b = tiled_member h (a + q.size) os end t.2 p m in
+    let b = tiled_member h (a + q.size) os end t.2 p (k, omega (arith, less), eq) in
     let c : q.at + q.size ≤ p.at = omega (arith, at, b.0) in
     inr (inl (subst (λ (x : Object). x.at + x.size ≤ p.at) e c))
-tiled_apart h a (q ∷ os) end t o p (inr k) (inl f) =
+tiled_apart h a (q ∷ os) end t o p (suc j, lt, e) (zero, less, f) =
     let at : q.at ≡ a = ap (λ (x : Object). x.at) t.0 in
-    let b = tiled_member h (a + q.size) os end t.2 o k in
+    let b = tiled_member h (a + q.size) os end t.2 o (j, omega (arith, lt), e) in
     let c : q.at + q.size ≤ o.at = omega (arith, at, b.0) in
     inr (inr (subst (λ (x : Object). x.at + x.size ≤ o.at) f c))
-tiled_apart h a (q ∷ os) end t o p (inr k) (inr m) = tiled_apart h (a + q.size) os end t.2 o p k m
+tiled_apart h a (q ∷ os) end t o p (suc j, b, e) (suc i, lt, eq) = tiled_apart h (a + q.size) os end t.2 o p (j, omega (arith, b), e) (i, omega (arith, lt), eq)
 
 -- ---- where an object of a region stands
 
@@ -72,34 +72,34 @@ abbrev pub Stands : Heap → ℕ → Object → Type 0
 Stands h r o = (r < h.geometry.n) × (o ≡ object_at h o.at) × (InOrdinary h r o ⊎ InHumongous h r o)
 
 stands_by : (h : Heap) (r : ℕ) (k : Kind) → r < h.geometry.n → kind h r ≡ k → IsBuiltBy h r k → (o : Object)
-    → In (objects_in h r) o → In (objects_by k h r) o → Stands h r o
-stands_by h r Free lt e s o all m = absurd m
+    → Contains (objects_in h r) o → Contains (objects_by k h r) o → Stands h r o
+stands_by h r Free lt e s o all m = absurd (omega (arith, m.1))
 stands_by h r Ordinary lt e s o all m =
     let t = tiled_member h (r * h.geometry.w) (objects_in h r) (r * h.geometry.w + top h r) s.2 o all in
     (lt, t.2, inl (record { kind = e; low = t.0; high = t.1; top = s.1; plain = t.3 }))
-stands_by h r HumongousFirst lt e s o all (inr m) = absurd m
-stands_by h r HumongousFirst lt e s o all (inl m) =
+stands_by h r HumongousFirst lt e s o all (suc k, b, eq) = absurd (omega (arith, b))
+stands_by h r HumongousFirst lt e s o all (zero, b, m) =
     let q : o ≡ object_at h (r * h.geometry.w) = sym m in
     let at : o.at ≡ r * h.geometry.w = ap (λ (x : Object). x.at) q in
     (lt, q ∙ ap (object_at h) (sym at), inr (record { kind = e; at = at; size = ap (λ (x : Object). x.size) q; refs = subst (λ (x : Object). x.refs < x.size) (sym q) s.refs; first = s }))
-stands_by h r Continuation lt e s o all m = absurd m
+stands_by h r Continuation lt e s o all m = absurd (omega (arith, m.1))
 
 module _ (h : Heap) (valid : IsBuilt h) where
   pub w_pos : 0 < h.geometry.w
   w_pos = width_positive h.geometry.w h.geometry.k h.geometry.n valid.limits
 
   -- a number past the last region has no objects
-  none_past : (r : ℕ) → h.geometry.n ≤ r → (o : Object) → In (objects_in h r) o → ⊥
-  none_past r le o k = subst (λ xs. In xs o) (none_in_past h r (omega (arith, valid.region_count, le))) k
+  none_past : (r : ℕ) → h.geometry.n ≤ r → (o : Object) → Contains (objects_in h r) o → ⊥
+  none_past r le o k = none_contains o (subst (λ xs. Contains xs o) (none_in_past h r (omega (arith, valid.region_count, le))) k)
 
-  pub stands : (r : ℕ) (o : Object) → In (objects_in h r) o → Stands h r o
+  pub stands : (r : ℕ) (o : Object) → Contains (objects_in h r) o → Stands h r o
   stands r o k = elim (cases_lt r h.geometry.n) [
     | inl lt ↦ stands_by h r (kind h r) lt refl (valid.shaped r lt) o k k
     | inr ge ↦ absurd (none_past r ge o k)
   ]
 
-  pub home : (o : Object) → Contains (objects h) o → (r : ℕ) × In (objects_in h r) o × Stands h r o
-  home o c = let m = flat_map_cases (objects_in h) (regions h) o (In-from_contains (objects h) o c) in (m.0, m.2, stands m.0 o m.2)
+  pub home : (o : Object) → Contains (objects h) o → (r : ℕ) × Contains (objects_in h r) o × Stands h r o
+  home o c = let m = flat_map_cases (objects_in h) (regions h) o c in (m.0, m.2, stands m.0 o m.2)
 
   -- a word of an ordinary object lies in its region, below top
   pub ordinary_word : (r : ℕ) (o : Object) (m : ℕ) → InOrdinary h r o → m < o.size → (region_of h (o.at + m) ≡ r) × (o.at + m < r * h.geometry.w + top h r)
@@ -170,7 +170,7 @@ module _ (h : Heap) (valid : IsBuilt h) where
       cc
 
   -- no two objects meet
-  pub words_apart : (r q : ℕ) (o p : Object) (m k : ℕ) → In (objects_in h r) o → In (objects_in h q) p → m < o.size → k < p.size → o.at + m ≡ p.at + k → o.at ≡ p.at
+  pub words_apart : (r q : ℕ) (o p : Object) (m k : ℕ) → Contains (objects_in h r) o → Contains (objects_in h q) p → m < o.size → k < p.size → o.at + m ≡ p.at + k → o.at ≡ p.at
   words_apart r q o p m k io ip lm lk e =
       let s = stands r o io in
       let t = stands q p ip in
@@ -180,7 +180,7 @@ module _ (h : Heap) (valid : IsBuilt h) where
             let b = word_in_ordinary q p k t lk one in
             let same : r ≡ q = sym (ordinary_word r o m a lm).0 ∙ ap (region_of h) e ∙ b.1 in
             let shape : IsBuiltBy h r Ordinary = subst (IsBuiltBy h r) a.kind (valid.shaped r s.0) in
-            elim (tiled_apart h (r * h.geometry.w) (objects_in h r) (r * h.geometry.w + top h r) shape.2 o p io (subst (λ x. In (objects_in h x) p) (sym same) ip)) [
+            elim (tiled_apart h (r * h.geometry.w) (objects_in h r) (r * h.geometry.w + top h r) shape.2 o p io (subst (λ x. Contains (objects_in h x) p) (sym same) ip)) [
               | inl z ↦ z
               | inr (inl z) ↦ absurd (omega arith)
               | inr (inr z) ↦ absurd (omega arith)
@@ -218,7 +218,7 @@ module _ (h : Heap) (valid : IsBuilt h) where
   pub built_is_sound : IsSound h
   built_is_sound = record {
     w_positive = w_pos;
-    in_region = λ r o c. home_region r o (stands r o (In-from_contains (objects_in h r) o c));
+    in_region = λ r o c. home_region r o (stands r o c);
     in_used = λ o c. let m = home o c in let z : o.at + 0 ≡ o.at = omega arith in
         subst (λ x. kind h (region_of h x) ≢ Free) z (word_used m.0 o 0 m.2 (let p = stands_refs m.0 o m.2 in omega arith)).1;
     fits = λ o c one. let m = home o c in
@@ -230,7 +230,7 @@ module _ (h : Heap) (valid : IsBuilt h) where
     slots_fit = λ o c. let m = home o c in stands_refs m.0 o m.2;
     slots_at_home = λ o p c d one.
         let m = home o c in
-        let b = range_bounds (o.at + 1) o.refs p (In-from_contains (slots o) p d) in
+        let b = range_bounds (o.at + 1) o.refs p d in
         let s = stands_refs m.0 o m.2 in
         let x : ℕ = p - o.at in
         let e : o.at + x ≡ p = omega arith in
@@ -241,12 +241,12 @@ module _ (h : Heap) (valid : IsBuilt h) where
   }
 
 -- a humongous first region has its object
-pub run_object : (h : Heap) → 0 < h.geometry.w → (r : ℕ) → kind h r ≡ HumongousFirst → BeginsRun h r → In (objects_in h r) (object_at h (r * h.geometry.w))
-run_object h pos r two s = subst (λ k. In (objects_by k h r) (object_at h (r * h.geometry.w))) (sym two) (inl refl)
+pub run_object : (h : Heap) → 0 < h.geometry.w → (r : ℕ) → kind h r ≡ HumongousFirst → BeginsRun h r → Contains (objects_in h r) (object_at h (r * h.geometry.w))
+run_object h pos r two s = subst (λ k. Contains (objects_by k h r) (object_at h (r * h.geometry.w))) (sym two) (zero, omega arith, refl)
 
 -- the same objects fill the same words of a heap that has their headers
-pub tiled_same : (h j : Heap) (a : ℕ) (os : List Object) (end : ℕ) → j.geometry.w ≡ h.geometry.w → ((o : Object) → In os o → object_at j o.at ≡ o) → IsTiled h a os end → IsTiled j a os end
+pub tiled_same : (h j : Heap) (a : ℕ) (os : List Object) (end : ℕ) → j.geometry.w ≡ h.geometry.w → ((o : Object) → Contains os o → object_at j o.at ≡ o) → IsTiled h a os end → IsTiled j a os end
 tiled_same h j a [] end w f t = t
 tiled_same h j a (o ∷ os) end w f t =
     let at : o.at ≡ a = ap (λ (x : Object). x.at) t.0 in
-    (sym (f o (inl refl)) ∙ ap (object_at j) at, subst (λ y. (o.refs < o.size) × (4 * o.size ≤ 3 * y)) (sym w) t.1, tiled_same h j (a + o.size) os end w (λ p k. f p (inr k)) t.2)
+    (sym (f o (zero, omega arith, refl)) ∙ ap (object_at j) at, subst (λ y. (o.refs < o.size) × (4 * o.size ≤ 3 * y)) (sym w) t.1, tiled_same h j (a + o.size) os end w (λ p k. f p (suc k.0, omega (arith, k.1), k.2)) t.2)

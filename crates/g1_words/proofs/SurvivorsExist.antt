@@ -1,9 +1,10 @@
 -- The search for survivors ends, so that each set has its list.
-use Rattle.std.proofs.Common.{◌≡◌, ℕ, zero, suc, ◌+◌, ◌<◌, ◌≤◌, inl, inr, not, List, [], ◌∷◌, ◌++◌, length, map, filter, flat_map, refl, sym, ◌∙◌, ap, subst, arith, append_assoc, append-nil}
+use Rattle.std.proofs.Common.{◌≡◌, ℕ, zero, suc, ◌+◌, ◌<◌, ◌≤◌, inl, inr, not, List, [], ◌∷◌, ◌++◌, length, map, filter, flat_map, refl, sym, ◌∙◌, ap, subst, arith, append_assoc, append-nil, Contains}
 use Rattle.std.proofs.Common.{length-append}
 use Rattle.std.proofs.lemmas.Grind.{flat_map-append}
+use Rattle.std.proofs.lemmas.List.Elements.{Contains-append_cases, Contains-append_left, Contains-append_right}
 use Rattle.g1_words.proofs.Firsts.{Distinct, Distinct-firsts, firsts-append}
-use Rattle.g1_words.proofs.Members.{In, In-append_cases, In-append_left, In-append_right, In-from_contains, In-map}
+use Rattle.g1_words.proofs.Members.{Contains-map}
 use Rattle.g1_words.proofs.OneToOne.{reached_object}
 use Rattle.g1_words.proofs.Sound.{IsSound}
 use Rattle.g1_words.proofs.Unique.{found_in, found_is_reached, search_ends}
@@ -13,20 +14,20 @@ use Rattle.g1_words.specs.Live.{Reached}
 use Rattle.g1_words.specs.Survivors.{IsBreadthFirst, Survivors, firsts, children, seeds}
 use Rattle.g1_words.specs.declared.object.Object.{Object}
 
-split_at : (ys : List ℕ) (x : ℕ) → In ys x → (p : List ℕ) × (q : List ℕ) × (ys ≡ p ++ x ∷ q)
-split_at [] x m = absurd m
-split_at (y ∷ ys) x (inl e) = ([], ys, ap (λ z. z ∷ ys) e)
-split_at (y ∷ ys) x (inr m) = let r = split_at ys x m in (y ∷ r.0, r.1, ap (λ zs. y ∷ zs) r.2)
+split_at : (ys : List ℕ) (x : ℕ) → Contains ys x → (p : List ℕ) × (q : List ℕ) × (ys ≡ p ++ x ∷ q)
+split_at [] x m = absurd (omega (arith, m.1))
+split_at (y ∷ ys) x (zero, b, e) = ([], ys, ap (λ z. z ∷ ys) e)
+split_at (y ∷ ys) x (suc k, b, e) = let r = split_at ys x (k, omega (arith, b), e) in (y ∷ r.0, r.1, ap (λ zs. y ∷ zs) r.2)
 
 -- a list without repeats whose members all stand in another is no longer than that
-pigeons : (xs ys : List ℕ) → Distinct xs → ((x : ℕ) → In xs x → In ys x) → length xs ≤ length ys
+pigeons : (xs ys : List ℕ) → Distinct xs → ((x : ℕ) → Contains xs x → Contains ys x) → length xs ≤ length ys
 pigeons [] ys d f = omega arith
 pigeons (x ∷ xs) ys d f =
-    let s = split_at ys x (f x (inl refl)) in
-    let k = pigeons xs (s.0 ++ s.1) d.1 (λ y m. elim (In-append_cases s.0 (x ∷ s.1) y (subst (λ zs. In zs y) s.2 (f y (inr m)))) [
-      | inl a ↦ In-append_left s.0 s.1 y a
-      | inr (inl e) ↦ absurd (d.0 (subst (λ z. In xs z) (sym e) m))
-      | inr (inr b) ↦ In-append_right s.0 s.1 y b
+    let s = split_at ys x (f x (zero, omega arith, refl)) in
+    let k = pigeons xs (s.0 ++ s.1) d.1 (λ y m. elim (Contains-append_cases s.0 (x ∷ s.1) y (subst (λ zs. Contains zs y) s.2 (f y (suc m.0, omega (arith, m.1), m.2)))) [
+      | inl a ↦ Contains-append_left s.0 s.1 y a
+      | inr (zero, b, e) ↦ absurd (d.0 (subst (λ z. Contains xs z) (sym e) m))
+      | inr (suc j, b, e) ↦ Contains-append_right s.0 s.1 y (j, omega (arith, b), e)
     ]) in
     let a = ap length s.2 ∙ length-append s.0 (x ∷ s.1) in
     let b = length-append s.0 s.1 in
@@ -50,7 +51,7 @@ module _ (seeds : List ℕ) (children : ℕ → List ℕ) where
   distinct zero = tt
   distinct (suc n) = Distinct-firsts (seeds ++ flat_map children (found_in seeds children n))
 
-  module _ (bound : List ℕ) (inside : (a : ℕ) → Reached seeds children a → In bound a) where
+  module _ (bound : List ℕ) (inside : (a : ℕ) → Reached seeds children a → Contains bound a) where
     next_from : (fuel n : ℕ) (t : List ℕ) → found_in seeds children (suc n) ≡ found_in seeds children n ++ t → length bound < suc fuel + length (found_in seeds children n)
         → (length bound < fuel + length (found_in seeds children (suc n)) → (m : ℕ) × (found_in seeds children m ≡ found_in seeds children (suc m))) →
         (m : ℕ) × (found_in seeds children m ≡ found_in seeds children (suc m))
@@ -67,4 +68,4 @@ module _ (seeds : List ℕ) (children : ℕ → List ℕ) where
 -- a set of a sound heap has its survivors
 pub survivors_exist : (h : Heap) (set : List ℕ) → IsSound h → (l : List ℕ) × Survivors h set l
 survivors_exist h set s = breadth_first_exists (seeds h set) (children h set) (map (λ o. o.at) (objects h))
-    (λ a r. In-map (λ (o : Object). o.at) (objects h) (object_at h a) (In-from_contains (objects h) (object_at h a) (reached_object h set s a r)))
+    (λ a r. Contains-map (λ (o : Object). o.at) (objects h) (object_at h a) (reached_object h set s a r))

@@ -30,6 +30,16 @@ pub Tiles-le : (words : List ℕ) (from : ℕ) (os : List Object) (to : ℕ) →
 Tiles-le words from [] to t = omega arith
 Tiles-le words from (o ∷ os) to t = omega (arith, Tiles-le words (from + o.size) os to t.2)
 
+-- two rows between the same addresses are one
+pub Tiles-one : (words : List ℕ) (from : ℕ) (os qs : List Object) (to : ℕ) → Tiles words from os to → Tiles words from qs to → os ≡ qs
+Tiles-one words from [] [] to t u = refl
+Tiles-one words from [] (q ∷ qs) to t u = absurd (omega (arith, t, u.1.refs_fit, Tiles-le words (from + q.size) qs to u.2))
+Tiles-one words from (o ∷ os) [] to t u = absurd (omega (arith, u, t.1.refs_fit, Tiles-le words (from + o.size) os to t.2))
+Tiles-one words from (o ∷ os) (q ∷ qs) to t u =
+    let e : o ≡ q = same_object words o q t.1 u.1 (t.0 ∙ sym u.0) in
+    let rest : os ≡ qs = Tiles-one words (from + o.size) os qs to t.2 (subst (λ x. Tiles words (from + x.size) qs to) (sym e) u.2) in
+    ap (λ x. x ∷ os) e ∙ ap (λ l. q ∷ l) rest
+
 pub Tiles-append : (words : List ℕ) (from : ℕ) (os : List Object) (mid : ℕ) (qs : List Object) (to : ℕ) →
     Tiles words from os mid → Tiles words mid qs to → Tiles words from (os ++ qs) to
 Tiles-append words from [] mid qs to t u = subst (λ x. Tiles words x qs to) (sym t) u

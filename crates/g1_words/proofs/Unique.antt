@@ -1,11 +1,12 @@
 -- A breadth-first list is the only one of its kind.
-use Rattle.std.proofs.Common.{◌≡◌, ℕ, zero, suc, ◌+◌, ◌<◌, ◌⊎◌, inl, inr, not, List, [], ◌∷◌, ◌++◌, length, filter, flat_map, refl, sym, ◌∙◌, ap, subst, arith, append_assoc, append-nil, length-append}
+use Rattle.std.proofs.Common.{◌≡◌, ℕ, zero, suc, ◌+◌, ◌<◌, ◌⊎◌, inl, inr, not, List, [], ◌∷◌, ◌++◌, length, filter, flat_map, refl, sym, ◌∙◌, ap, subst, arith, append_assoc, append-nil, length-append, Contains}
 use Rattle.std.proofs.lemmas.Grind.{flat_map-append}
+use Rattle.std.proofs.lemmas.List.Elements.{Contains-append_cases, Contains-append_left, Contains-append_right}
 use Rattle.g1_words.specs.Live.{Reached, seed, child}
 use Rattle.g1_words.specs.Survivors.{firsts, IsBreadthFirst}
 use Rattle.g1_words.specs.Lists.{has}
-use Rattle.g1_words.proofs.Members.{In, In-from_contains, Contains-from_in, In-append_left, In-append_right, In-append_cases, In-flat_map, flat_map_cases}
-use Rattle.g1_words.proofs.Firsts.{In-firsts, firsts_member, Distinct, Distinct-firsts, Distinct-apart, firsts-append}
+use Rattle.g1_words.proofs.Members.{Contains-flat_map, flat_map_cases}
+use Rattle.g1_words.proofs.Firsts.{Contains-firsts, firsts_member, Distinct, Distinct-firsts, Distinct-apart, firsts-append}
 
 -- one step of the search: what is found by the children of those that are in the list
 abbrev pub found_from : List ℕ → (ℕ → List ℕ) → List ℕ → List ℕ
@@ -41,21 +42,21 @@ module _ (seeds : List ℕ) (children : ℕ → List ℕ) where
   )
 
   -- what finds no more than itself holds all that is reached
-  pub all_reached : (p t : List ℕ) → p ≡ found_from seeds children p ++ t → (a : ℕ) → Reached seeds children a → In (found_from seeds children p) a
-  all_reached p t e a (seed h) = In-firsts (seeds ++ flat_map children p) a (In-append_left seeds (flat_map children p) a (In-from_contains seeds a h))
+  pub all_reached : (p t : List ℕ) → p ≡ found_from seeds children p ++ t → (a : ℕ) → Reached seeds children a → Contains (found_from seeds children p) a
+  all_reached p t e a (seed h) = Contains-firsts (seeds ++ flat_map children p) a (Contains-append_left seeds (flat_map children p) a h)
   all_reached p t e b (child {a = a} r h) =
-      let k : In (found_from seeds children p) a = all_reached p t e a r in
-      let m : In p a = subst (λ l. In l a) (sym e) (In-append_left (found_from seeds children p) t a k) in
-      In-firsts (seeds ++ flat_map children p) b (In-append_right seeds (flat_map children p) b (In-flat_map children p a b m (In-from_contains (children a) b h)))
+      let k : Contains (found_from seeds children p) a = all_reached p t e a r in
+      let m : Contains p a = subst (λ l. Contains l a) (sym e) (Contains-append_left (found_from seeds children p) t a k) in
+      Contains-firsts (seeds ++ flat_map children p) b (Contains-append_right seeds (flat_map children p) b (Contains-flat_map children p a b m h))
 
   -- a breadth-first list ends where its front finds no more
   pub ends_there : (l p r t : List ℕ) → IsBreadthFirst seeds children l → l ≡ p ++ r → p ≡ found_from seeds children p ++ t → r ≡ []
   ends_there l p [] t b e f = refl
   ends_there l p (x ∷ r) t b e f =
       let d : Distinct (p ++ x ∷ r) = subst Distinct (sym b.in_order ∙ e) (Distinct-firsts (seeds ++ flat_map children l)) in
-      let here : In l x = subst (λ m. In m x) (sym e) (In-append_right p (x ∷ r) x (inl refl)) in
-      let found : In (found_from seeds children p) x = all_reached p t f x ((b.reached x).0 (Contains-from_in l x here)) in
-      let front : In p x = subst (λ m. In m x) (sym f) (In-append_left (found_from seeds children p) t x found) in
+      let here : Contains l x = subst (λ m. Contains m x) (sym e) (Contains-append_right p (x ∷ r) x (zero, omega arith, refl)) in
+      let found : Contains (found_from seeds children p) x = all_reached p t f x ((b.reached x).0 here) in
+      let front : Contains p x = subst (λ m. Contains m x) (sym f) (Contains-append_left (found_from seeds children p) t x found) in
       absurd (Distinct-apart p x r d front)
 
   same_from : (n : ℕ) (l m p r s : List ℕ) → IsBreadthFirst seeds children l → IsBreadthFirst seeds children m → l ≡ p ++ r → m ≡ p ++ s → length r < n → l ≡ m
@@ -77,22 +78,22 @@ module _ (seeds : List ℕ) (children : ℕ → List ℕ) where
   breadth_first_unique l m a b = same_from (suc (length l)) l m [] l m a b refl refl (omega arith)
 
   -- all that a number of steps finds is reached
-  pub found_is_reached : (n a : ℕ) → In (found_in seeds children n) a → Reached seeds children a
-  found_is_reached zero a h = absurd h
+  pub found_is_reached : (n a : ℕ) → Contains (found_in seeds children n) a → Reached seeds children a
+  found_is_reached zero a h = absurd (omega (arith, h.1))
   found_is_reached (suc n) a h =
-      elim (In-append_cases seeds (flat_map children (found_in seeds children n)) a (firsts_member (seeds ++ flat_map children (found_in seeds children n)) a h)) [
-        | inl k ↦ seed (Contains-from_in seeds a k)
+      elim (Contains-append_cases seeds (flat_map children (found_in seeds children n)) a (firsts_member (seeds ++ flat_map children (found_in seeds children n)) a h)) [
+        | inl k ↦ seed k
         | inr k ↦
             let c = flat_map_cases children (found_in seeds children n) a k in
-            child (found_is_reached n c.0 c.1) (Contains-from_in (children c.0) a c.2)
+            child (found_is_reached n c.0 c.1) c.2
       ]
 
   -- where one more step finds no more, the search has found the breadth-first list
   pub search_ends : (n : ℕ) → found_in seeds children n ≡ found_in seeds children (suc n) → IsBreadthFirst seeds children (found_in seeds children n)
   search_ends n e = record {
     reached = λ a. (
-      (λ h. found_is_reached n a (In-from_contains (found_in seeds children n) a h)),
-      (λ r. Contains-from_in (found_in seeds children n) a (subst (λ l. In l a) (sym e) (all_reached (found_in seeds children n) [] (e ∙ sym (append-nil (found_in seeds children (suc n)))) a r))),
+      (λ h. found_is_reached n a h),
+      (λ r. (subst (λ l. Contains l a) (sym e) (all_reached (found_in seeds children n) [] (e ∙ sym (append-nil (found_in seeds children (suc n)))) a r))),
     );
     in_order = e;
   }

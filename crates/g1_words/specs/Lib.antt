@@ -1,6 +1,7 @@
 pub mod Fault
 pub mod Geometry
 pub mod Marks
+pub mod Numbers
 pub mod Lists
 pub mod Kind
 pub mod Header

@@ -14,6 +14,7 @@ mod heap;
 pub mod laws;
 mod limits;
 mod marks;
+pub mod numbers;
 mod object;
 mod region;
 mod words;

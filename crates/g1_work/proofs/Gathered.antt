@@ -1,11 +1,10 @@
 -- What threads gave, gathered: each answer, or a want of memory.
-use Rattle.std.proofs.Common.{◌≡◌, ℕ, inl, inr, List, [], ◌∷◌, map, Contains, sym, subst}
+use Rattle.std.proofs.Common.{◌≡◌, ℕ, List, [], ◌∷◌, map, Contains, sym, subst, zero, suc, arith}
 use Rattle.std.specs.Prelude.{Result, Ok, Err, MatchResult, IfOk, IfErr}
 use Rattle.std.specs.List.{AllZip}
 use Rattle.std.specs.Global.{Vec}
 use Rattle.g1_words.specs.declared.fault.Fault.{Fault}
 use Rattle.g1_words.specs.declared.fault.Fault.TheVariants.{Memory}
-use Rattle.g1_words.proofs.Members.{In, In-from_contains}
 
 module _ {A : Type 0} (R : ℕ → Result A Fault → Type 0) (S : ℕ → A → Type 0) (ok : (j : ℕ) (x : A) → R j (Ok x) → S j x) (err : (j : ℕ) (e : Fault) → R j (Err e) → e ≡ Memory) where
   -- where none wants memory, each answer is there
@@ -16,11 +15,11 @@ module _ {A : Type 0} (R : ℕ → Result A Fault → Type 0) (S : ℕ → A →
   all_there (j ∷ js) (y ∷ ys) z = (ok j y z.0, all_there js ys z.1)
 
   -- the only fault is a want of memory
-  only_memory : (js : List ℕ) (xs : List (Result A Fault)) (e : Fault) → AllZip R js xs → In xs (Err e) → e ≡ Memory
-  only_memory js [] e z k = absurd k
+  only_memory : (js : List ℕ) (xs : List (Result A Fault)) (e : Fault) → AllZip R js xs → Contains xs (Err e) → e ≡ Memory
+  only_memory js [] e z k = absurd (omega (arith, k.1))
   only_memory [] (x ∷ xs) e z k = absurd z
-  only_memory (j ∷ js) (x ∷ xs) e z (inl same) = err j e (subst (R j) same z.0)
-  only_memory (j ∷ js) (x ∷ xs) e z (inr k) = only_memory js xs e z.1 k
+  only_memory (j ∷ js) (x ∷ xs) e z (zero, b, same) = err j e (subst (R j) same z.0)
+  only_memory (j ∷ js) (x ∷ xs) e z (suc i, b, eq) = only_memory js xs e z.1 (i, omega (arith, b), eq)
 
   module _ (js : List ℕ) (xs : List (Result A Fault)) (z : AllZip R js xs) where
     -- the answers, as they were gathered
@@ -33,4 +32,4 @@ module _ {A : Type 0} (R : ℕ → Result A Fault → Type 0) (S : ℕ → A →
     pub gathered_memory : (answer : Result (Vec A) Fault) → MatchResult answer (λ v. (ys : List A) × (xs ≡ map (λ y. Ok y) ys) × (v.items ≡ ys))
         (λ e. Contains xs (Err e)) → IfErr answer (λ e. e ≡ Memory)
     gathered_memory (Ok v) m = tt
-    gathered_memory (Err fault) m = only_memory js xs fault z (In-from_contains xs (Err fault) m)
+    gathered_memory (Err fault) m = only_memory js xs fault z m

@@ -1,16 +1,12 @@
 -- From the words of a call to its request.
-use Rattle.std.proofs.Common.{◌≡◌, ◌⊎◌, inl, inr, ℕ, List, Bool, true, Result, Ok, Err, subst, sym}
+use Rattle.std.proofs.Common.{◌≡◌, inl, inr, ℕ, List, Bool, true, Result, Ok, Err, subst, sym}
 use Rattle.std.specs.Prelude.{IfOk, IfErr, OnOk}
 use Rattle.g1_command.specs.declared.refusal.Refusal.{Refusal}
-use Rattle.g1_command.specs.declared.refusal.Refusal.TheVariants as refusal
 use Rattle.g1_command.specs.Requests.{IsUsageIf}
 use Rattle.g1heap_request.specs.declared.options.Request.{Request}
 use Rattle.g1heap_request.specs.Words.{Asked, IsWrong}
 use Rattle.g1heap_cli.specs.Endings.{IsCalled, IsImageByDefault, IsWrongCall}
-
-usage_so : {P Q : Type 0} → (P → Q) → (r : Refusal) → IsUsageIf P r → IsUsageIf Q r
-usage_so f (refusal.Told status text) h = (h.0, f h.1)
-usage_so f (refusal.Fault fault) h = h
+use Rattle.g1_command.proofs.Reasons.{usage_so}
 
 -- wrong words
 pub wrong_words : (words : List (List ℕ)) (at_terminal : Bool) (r : Refusal) → IsUsageIf (IsWrong words) r → IsUsageIf (IsWrongCall words at_terminal) r

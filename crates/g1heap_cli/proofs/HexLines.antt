@@ -1,5 +1,5 @@
 -- The lines of an image have no spaces in their words, and those of objects have their data words behind their slots.
-use Rattle.std.proofs.Common.{◌≡◌, ℕ, zero, suc, ◌+◌, ◌-◌, ◌/◌, ◌<◌, inl, inr, Bool, true, false, List, [], ◌∷◌, ◌++◌, length, get_or, drop, map, flat_map, refl, sym, ◌∙◌, ap, subst, arith, append-nil, length-drop}
+use Rattle.std.proofs.Common.{◌≡◌, ℕ, zero, suc, ◌+◌, ◌-◌, ◌/◌, ◌<◌, Bool, true, false, List, [], ◌∷◌, ◌++◌, length, get_or, drop, map, flat_map, refl, sym, ◌∙◌, ap, subst, arith, append-nil, length-drop, Contains}
 use Rattle.std.specs.Prelude.{Option, Some, None, codes, decimal, slice_index, sum_by}
 use Rattle.std.specs.List.{AllByRecursion, AllZip, range_with_len}
 use Rattle.std.proofs.lemmas.List.{length-take}
@@ -10,7 +10,6 @@ use Rattle.g1_words.specs.declared.object.Object.{Object}
 use Rattle.g1_words.specs.declared.region.Kind.{Kind}
 use Rattle.g1_words.specs.declared.region.Region.{Region}
 use Rattle.g1_words.specs.declared.region.Kind.TheVariants.{Free, Ordinary, HumongousFirst, Continuation}
-use Rattle.g1_words.proofs.Members.{In, Contains-from_in}
 use Rattle.g1_words.proofs.Bounds.{object_within}
 use Rattle.g1_words.proofs.Computed.{contains_has, in_region_has}
 use Rattle.g1_words.proofs.Objects.{object_stands}
@@ -82,9 +81,9 @@ ranges_alike f g a zero each = tt
 ranges_alike f g a (suc n) each =
     alike_append (f a) (g a) (flat_map f (range_with_len (a + 1) n)) (flat_map g (range_with_len (a + 1) n)) (each a (omega arith)) (ranges_alike f g (a + 1) n (λ r lt. each r (omega (arith, lt))))
 
-members_alike : (f g : Object → List (List ℕ)) (os : List Object) → ((o : Object) → In os o → HasHex (f o) (g o)) → AllZip HasHex (map f os) (map g os)
+members_alike : (f g : Object → List (List ℕ)) (os : List Object) → ((o : Object) → Contains os o → HasHex (f o) (g o)) → AllZip HasHex (map f os) (map g os)
 members_alike f g [] each = tt
-members_alike f g (o ∷ os) each = (each o (inl refl), members_alike f g os (λ p m. each p (inr m)))
+members_alike f g (o ∷ os) each = (each o (zero, omega arith, refl), members_alike f g os (λ p m. each p (suc m.0, omega (arith, m.1), m.2)))
 
 log_alike : (cards : List ℕ) → AllZip HasHex (log_lines cards) (log_lines cards)
 log_alike [] = tt
@@ -219,7 +218,7 @@ module _ (i : Image) (good : IsImage i) where
     alike_append (remembered_lines r (remembered_of i r)) (remembered_lines r (remembered_of i r)) (map (object_line i.heap.words) (objects_in i.heap r)) (map (object_line_in true i.heap.words) (objects_in i.heap r))
         (remembered_alike r (remembered_of i r))
         (members_alike (object_line i.heap.words) (object_line_in true i.heap.words) (objects_in i.heap r)
-        (λ o m. object_alike o (in_region_has i.heap r o good.heap.shaped lt (Contains-from_in (objects_in i.heap r) o m)))),
+        (λ o m. object_alike o (in_region_has i.heap r o good.heap.shaped lt m))),
   )
 
   image_lines_alike : AllZip HasHex (image_lines_in false i) (image_lines_in true i)

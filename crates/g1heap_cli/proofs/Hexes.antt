@@ -5,12 +5,12 @@ use Rattle.std.specs.Borrow.{Bor}
 use Rattle.std.specs.Fmt.{digits, digits_onto, digit_glyph}
 use Rattle.std.specs.List.{AllByRecursion, AllZip}
 use Rattle.std.proofs.lemmas.Fmt.{digits_decimal}
-use Rattle.std.proofs.lemmas.Str.Parse.{IsNumeralModel, numerals_by_value, tells_digits, not_in_digits}
-use Rattle.std.specs.Str.Parse.{AllDigits, digits_value}
+use Rattle.std.proofs.lemmas.Str.Parse.{not_in_digits}
 use Rattle.std.proofs.lemmas.Bool.Decides.{nat_tests}
 use Rattle.std.proofs.lemmas.Str.Pattern.{IsSplitOnceResult, split_after, split_parts}
 use Rattle.g1_text.specs.Lines.{line_text, text_of}
 use Rattle.g1heap_cli.specs.Hexadecimal.{hexadecimal, spaced, IsBare, AreInHex, HasHex, object, other}
+use Rattle.g1_words.proofs.Numerals.{by_value}
 
 -- ---- bytes that a text lacks
 
@@ -39,12 +39,9 @@ bare_lacks_end : (w : List ℕ) → IsBare w → Lacks 10 w
 bare_lacks_end [] p = tt
 bare_lacks_end (b ∷ bs) p = (p.0.1, bare_lacks_end bs p.1)
 
-numeral : IsNumeralModel (AllDigits 10) (digits_value 10)
-numeral = numerals_by_value (AllDigits 10) tells_digits
-
 -- a decimal number has digits alone
 pub decimal_lacks : (c n : ℕ) → n < 2 ^ 64 → c < 48 → Lacks c (decimal n)
-decimal_lacks c n small low = lacks_from c (decimal n) (not_in_digits numeral (decimal n) c (digits_decimal numeral n small) (λ q. let least = q.0 in omega (arith, low, least)))
+decimal_lacks c n small low = lacks_from c (decimal n) (not_in_digits by_value (decimal n) c (digits_decimal by_value n small) (λ q. let least = q.0 in omega (arith, low, least)))
 
 glyph_bare : (d : ℕ) → (digit_glyph false d ≢ 32) × (digit_glyph false d ≢ 10)
 glyph_bare d = (apart (nat_lt d 10) 32 (omega arith), apart (nat_lt d 10) 10 (omega arith))

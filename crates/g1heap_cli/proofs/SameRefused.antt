@@ -1,13 +1,11 @@
 -- Why `same` is refused, from why its parts are.
-use Rattle.std.proofs.Common.{◌≡◌, ◌⊎◌, inl, inr, ℕ, Bool, true, List, Option, Some, None, Result, Ok, Err, refl, ap, subst}
+use Rattle.std.proofs.Common.{◌≡◌, inl, inr, ℕ, Bool, true, List, Option, Some, None, Result, Ok, Err, refl, ap, subst}
 use Rattle.std.proofs.ResultArms.{subst_both}
 use Rattle.std.specs.Prelude.{IfOk, IfErr}
 use Rattle.g1_words.specs.declared.fault.Fault.{Fault}
 use Rattle.g1_words.specs.declared.fault.Fault.TheVariants as fault
-use Rattle.g1_words.specs.declared.fault.Device.TheVariants as device
 use Rattle.g1_command.specs.declared.refusal.Refusal.{Refusal}
 use Rattle.g1_command.specs.declared.refusal.Refusal.TheVariants as refusal
-use Rattle.g1_image.specs.Image.{Image}
 use Rattle.g1_report.specs.declared.sides.Side.{Side}
 use Rattle.g1_report.specs.declared.sides.Strays.{Strays}
 use Rattle.g1_report.specs.Finding.{IsIdle, IsVerdict}
@@ -17,11 +15,10 @@ use Rattle.g1_report.specs.Taken.{StopsLines}
 use Rattle.g1_text.specs.declared.expected.Wrong.{Wrong}
 use Rattle.g1heap_request.specs.declared.options.Same.{Same}
 use Rattle.g1heap_cli.specs.Streams.{LeavesBehind}
-use Rattle.g1heap_cli.specs.Young.{LacksYoung}
 use Rattle.g1heap_cli.specs.SameSuits.{AsksSetOfLines, AsksCardsOfLines, AsksMovesOfOne, Suits}
 use Rattle.g1heap_cli.specs.SameReplies.{AreProgramNames, IsSideOf}
 use Rattle.g1heap_cli.specs.SamePassed.{TakesSaid}
-use Rattle.g1heap_cli.specs.SameReasons.{RefusesWrong, RefusesStrays, RefusesTexts, RefusesAsked, HasProgramNames, RefusesReport, LacksCoverBeside, RefusesCovered, RefusesSides, RefusesAfter, RefusesSame, OrOutput}
+use Rattle.g1heap_cli.specs.SameReasons.{RefusesWrong, RefusesStrays, RefusesTexts, RefusesAsked, HasProgramNames, RefusesReport, LacksCoverBeside, RefusesSides, RefusesAfter, RefusesSame, OrOutput}
 
 -- ---- parts
 -- one reason for another, or the output

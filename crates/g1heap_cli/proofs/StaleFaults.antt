@@ -1,5 +1,5 @@
 -- The fault of bytes that are an image's text but for their stale words.
-use Rattle.std.proofs.Common.{◌≡◌, ◌<◌, ℕ, ◌+◌, ◌*◌, ◌^◌, inl, inr, List, [], ◌∷◌, length, set, slice_index, arith, refl, sym, ap, subst, ◌∙◌}
+use Rattle.std.proofs.Common.{◌≡◌, ◌<◌, ℕ, ◌+◌, ◌*◌, ◌^◌, inl, inr, List, [], ◌∷◌, length, set, slice_index, arith, refl, sym, ap, subst, ◌∙◌, zero}
 use Rattle.std.proofs.Common.{get_or-set_other, get_or-set_same, length-set}
 use Rattle.std.specs.Prelude.{Some, None}
 use Rattle.std.proofs.lemmas.Bool.{cases_lt, cases_eq}
@@ -24,6 +24,7 @@ use Rattle.g1_image.proofs.Slots.{ends_within}
 use Rattle.g1_image.proofs.StaleWords.{Gathers, gathers_of}
 use Rattle.g1heap_cli.specs.Compared.{first_place}
 use Rattle.g1heap_cli.specs.SideReasons.{HasOtherFault}
+use Rattle.g1_words.proofs.Members.{cons_cases, none_contains}
 
 -- ---- what has null at some places keeps its rules with the words that were there
 
@@ -74,7 +75,7 @@ module _ (h : Heap) (roots slots : List (ℕ × ℕ)) where
 
 -- the first of a list has the lowest place
 lowest : (P : ℕ → ℕ → Type 0) (e : ℕ × ℕ) (rest : List (ℕ × ℕ)) → Gathers P (e ∷ rest) → (k x : ℕ) → k < e.0 → P k x → ⊥
-lowest P e rest g k x lt p = elim (g.whole k x p) [
+lowest P e rest g k x lt p = elim (cons_cases e rest (k, x) (g.whole k x p)) [
   | inl here ↦ (let same : e.0 ≡ k = ap (λ (p : ℕ × ℕ). p.0) here in omega (arith, same, lt))
   | inr later ↦ (let above : e.0 < k = g.rising.0 (k, x) later in omega (arith, above, lt))
 ]
@@ -83,7 +84,7 @@ module _ (h : Heap) (shaped : AllShaped h) where
   -- the lowest root is the first that is wrong
   first_root : (e : ℕ × ℕ) (rest : List (ℕ × ℕ)) → Gathers (IsStaleRoot h) (e ∷ rest) → IsFirstBreach (IsGoodRoot h) (length h.roots) e.0
   first_root e rest g =
-      let s = g.sound e.0 e.1 (inl refl) in
+      let s = g.sound e.0 e.1 (zero, omega arith, refl) in
       record {
         within = s.0;
         breach = λ good. s.2 (subst (IsReference h) s.1 good);
@@ -96,7 +97,7 @@ module _ (h : Heap) (shaped : AllShaped h) where
   -- and so is the lowest slot
   first_slot : (e : ℕ × ℕ) (rest : List (ℕ × ℕ)) → Gathers (IsStaleSlot h) (e ∷ rest) → IsFirstBreach (IsGoodSlot h) (h.geometry.n * h.geometry.w) e.0
   first_slot e rest g =
-      let s = g.sound e.0 e.1 (inl refl) in
+      let s = g.sound e.0 e.1 (zero, omega arith, refl) in
       record {
         within = omega (arith, ends_within h shaped s.0.0 s.0.1, (has_header h s.0.0 s.0.1).refs_fit, s.0.2.1);
         breach = λ good. s.2 (subst (IsReference h) s.1 (good s.0.0 s.0.1 s.0.2));
@@ -110,13 +111,13 @@ module _ (h : Heap) (shaped : AllShaped h) where
   good_roots : Gathers (IsStaleRoot h) [] → RootsAreGood h
   good_roots g i lt = elim (decided_reference h shaped (slice_index h.roots i)) [
     | inl good ↦ good
-    | inr bad ↦ absurd (g.whole i (slice_index h.roots i) (lt, refl, bad))
+    | inr bad ↦ absurd (none_contains (i, slice_index h.roots i) (g.whole i (slice_index h.roots i) (lt, refl, bad)))
   ]
 
   good_slot : Gathers (IsStaleSlot h) [] → (p : ℕ) → IsGoodSlot h p
   good_slot g p o has slot = elim (decided_reference h shaped (slice_index h.words p)) [
     | inl good ↦ good
-    | inr bad ↦ absurd (g.whole p (slice_index h.words p) ((o, has, slot), refl, bad))
+    | inr bad ↦ absurd (none_contains (p, slice_index h.words p) (g.whole p (slice_index h.words p) ((o, has, slot), refl, bad)))
   ]
 
 -- ---- bytes with stale words

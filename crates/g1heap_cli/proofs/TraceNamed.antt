@@ -1,8 +1,7 @@
 -- The reply to a trace, by the bytes of what has its name, and refusals before its first line.
-use Rattle.std.proofs.Common.{◌≡◌, ◌≢◌, ◌⊎◌, inl, inr, ℕ, zero, suc, Bool, true, false, List, [], take, Option, Result, Ok, Err, refl, sym, subst}
+use Rattle.std.proofs.Common.{◌≡◌, ◌≢◌, inl, inr, ℕ, zero, suc, Bool, true, false, List, [], Option, Result, Ok, Err, refl, sym, subst}
 use Rattle.std.specs.Prelude.{codes}
 use Rattle.std.proofs.KnownBytes.{Appends-nil, Consumes-nil, Keeps-refl}
-use Rattle.std.specs.Io.KnownBytes.{Appends, Keeps}
 use Rattle.g1_words.specs.declared.fault.Fault.TheVariants as fault
 use Rattle.g1_words.specs.declared.fault.Device.TheVariants as device
 use Rattle.g1_image.specs.Source.{HoldsOfLeft}
@@ -12,7 +11,7 @@ use Rattle.g1heap_request.specs.declared.options.Trace.{Trace}
 use Rattle.g1heap_cli.specs.Leaving.{Reply, Withholds, SendsTrace}
 use Rattle.g1heap_cli.specs.Streams.{HoldsOfNamed}
 use Rattle.g1heap_cli.specs.Refuses.{RefusesTraceBy, RefusesTrace}
-use Rattle.g1heap_cli.specs.Traced.{RepliesToTrace, is_live, sent_command}
+use Rattle.g1heap_cli.specs.Traced.{RepliesToTrace, is_live}
 use Rattle.g1heap_cli.proofs.Left.{begins_so, withholds_so, text_so}
 use Rattle.g1heap_cli.specs.TraceReasons.{IsNamed}
 use Rattle.g1heap_cli.proofs.TraceRefused.{refused_so}

@@ -1,15 +1,13 @@
 -- Where a trace stands between two of its lines, and how it ends there.
-use Rattle.std.proofs.Common.{◌≡◌, ◌≢◌, ◌⊎◌, inl, inr, ℕ, zero, suc, ◌+◌, ◌^◌, ◌<◌, ◌≤◌, Bool, true, false, List, [], ◌∷◌, ◌++◌, Option, Some, None, Result, Ok, Err, IfSome, length, take, get_or, refl, sym, ◌∙◌, ap, subst, arith, append-nil, append_assoc, true≢false, lt-ltb}
+use Rattle.std.proofs.Common.{◌≡◌, ◌⊎◌, inl, inr, ℕ, zero, suc, ◌+◌, ◌^◌, ◌<◌, Bool, true, false, List, [], ◌∷◌, ◌++◌, Option, Some, None, Result, Ok, Err, IfSome, length, take, get_or, refl, sym, ◌∙◌, ap, subst, arith, append-nil, true≢false, lt-ltb}
 use Rattle.std.specs.Prelude.{◌&&◌, ◌==◌, nat_lt}
 use Rattle.std.proofs.Math.Dec.{eqb-suc-zero}
 use Rattle.std.proofs.Math.Seq.{take-append_seam}
 use Rattle.std.proofs.lemmas.Grind.{flat_map-append}
-use Rattle.std.proofs.lemmas.List.Elements.{All-contains}
 use Rattle.std.proofs.KnownBytes.{Appends-nil, Appends-trans, Consumes-nil, Consumes-trans}
-use Rattle.std.specs.Io.KnownBytes.{Appends, Keeps, Consumes}
+use Rattle.std.specs.Io.KnownBytes.{Appends, Consumes}
 use Rattle.std.specs.List.{AllByRecursion}
 use Rattle.std.proofs.lemmas.List.{length_push}
-use Rattle.g1_image.specs.Image.{Image}
 use Rattle.g1_image.specs.Source.{HoldsOfLeft}
 use Rattle.g1_choose.specs.declared.parameters.Cost.{Cost}
 use Rattle.g1_command.specs.declared.refusal.Refusal.{Refusal}
@@ -20,12 +18,12 @@ use Rattle.g1_trace.specs.declared.session.Taken.{Taken}
 use Rattle.g1_trace.specs.Session.{IsDone}
 use Rattle.g1_trace.specs.TraceText.{ended}
 use Rattle.g1heap_request.specs.declared.options.Trace.{Trace}
-use Rattle.g1heap_cli.specs.Leaving.{Reply, Just, Begins, SendsText, SendsTrace}
+use Rattle.g1heap_cli.specs.Leaving.{Just, Begins, SendsText, SendsTrace}
 use Rattle.g1heap_cli.specs.Traced.{RepliesToTrace, is_live, sent_command}
 use Rattle.g1heap_cli.specs.TraceReasons.{AreDone}
 use Rattle.g1heap_cli.specs.Tracing.{IsAtStart, IsMade, TakesLine, kept}
 use Rattle.g1heap_cli.specs.declared.tracing.State.{State}
-use Rattle.g1heap_cli.proofs.LineByLine.{IsOpen, SoFar, line_taken}
+use Rattle.g1heap_cli.proofs.LineByLine.{SoFar, line_taken}
 use Rattle.g1heap_cli.proofs.TraceSent.{begun, ended_there, made_of, nothing_more, sends_first, sends_on, so_far_text}
 
 live_none : (b : Bool) (n : ℕ) → b && (n == 0) ≡ true → n ≡ 0

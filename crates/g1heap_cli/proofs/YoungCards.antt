@@ -1,10 +1,7 @@
 -- The cards of regions, one after the other.
-use Rattle.std.proofs.Common.{◌≡◌, ℕ, zero, suc, ◌+◌, ◌-◌, ◌≤◌, List, [], ◌∷◌, ◌++◌, ◌∙◌, refl, sym, ap, arith, append_assoc, append-nil, take, flat_map}
+use Rattle.std.proofs.Common.{◌≡◌, ℕ, suc, ◌+◌, ◌-◌, ◌≤◌, List, [], ◌∷◌, ◌++◌, ◌∙◌, ap, arith, append_assoc}
 use Rattle.std.specs.List.{range_with_len}
-
-range_push : (a n : ℕ) → range_with_len a n ++ (a + n) ∷ [] ≡ range_with_len a (suc n)
-range_push a zero = let e : a + 0 ≡ a = omega arith in ap (λ m. m ∷ []) e
-range_push a (suc n) = let e : a + suc n ≡ a + 1 + n = omega arith in ap (λ xs. a ∷ xs) (ap (λ m. range_with_len (a + 1) n ++ m ∷ []) e ∙ range_push (a + 1) n)
+use Rattle.g1_words.proofs.Lists.{range_push}
 
 -- one card more
 pub card_more : (old cards : List ℕ) (first card : ℕ) → first ≤ card → cards ≡ old ++ range_with_len first (card - first)

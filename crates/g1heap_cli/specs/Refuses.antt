@@ -1,5 +1,5 @@
 -- Why g1heap refuses a request: by the files that it names, and by their bytes. `left` is what standard input has left.
-use Rattle.std.specs.Prelude.{◌≡◌, ◌⊎◌, ℕ, List, ◌++◌, codes, String, Option, Some, None, Result, Ok, Err}
+use Rattle.std.specs.Prelude.{◌≡◌, ◌⊎◌, ℕ, List, ◌++◌, codes, String, Option, Some, None, Result}
 use Rattle.g1_words.specs.declared.fault.Fault.{Fault}
 use Rattle.g1_words.specs.declared.fault.Fault.TheVariants as fault
 use Rattle.g1_words.specs.declared.fault.Device.TheVariants as device

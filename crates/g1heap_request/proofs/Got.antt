@@ -3,10 +3,9 @@ use Rattle.std.proofs.Common.{◌≡◌, ◌≢◌, ◌∙◌, ◌<◌, ◌+◌,
 use Rattle.std.specs.Prelude.{String, codes, option_map, unwrap_or}
 use Rattle.std.specs.Borrow.{Bor}
 use Rattle.std.specs.List.{All, IsDistinct, join_with_byte, slice_split}
-use Rattle.std.specs.Str.Parse.{AllDigits, digits_value}
 use Rattle.std.proofs.lemmas.List.{map-append, take_more}
 use Rattle.std.proofs.lemmas.List.Splits.{join_with_byte-slice_split, slice_split_at, slice_split_none}
-use Rattle.std.proofs.lemmas.Str.Parse.{IsNumeralModel, not_in_digits, numerals_by_value, tells_digits}
+use Rattle.std.proofs.lemmas.Str.Parse.{not_in_digits}
 use Rattle.std.proofs.lemmas.Str.Pattern.{IsSplitOnceResult, split_parts}
 use Rattle.clap.specs.Words.{Row, Text, first_of, first_value, matched_of, one_text, raw_values, rows_of}
 use Rattle.g1_command.specs.Values.{IfGiven, IsBelow, IsNumber, texts_of}
@@ -18,6 +17,7 @@ use Rattle.g1heap_request.specs.Wrong.{AreNoSizes}
 use Rattle.clap.specs.declared.parser.matches.Found.{Found}
 use Rattle.clap.proofs.WalkLemmas.{first_value-rows, one_text-rows, raw_values-rows}
 use Rattle.g1heap_request.specs.Values.{GoesTo, IsCount, IsFlag, IsNameOf, standard}
+use Rattle.g1_words.proofs.Numerals.{by_value}
 
 -- a flag, as it was got
 pub flag_got : (f : Found) (id : Text) (b : Bool) → (one_text f id ≡ None → b ≡ false) → (one_text f id ≡ Some (codes "true") → b ≡ true)
@@ -94,9 +94,6 @@ no_comma bs lacks k d lt = ne_eqb _ 44 (λ e. lacks k lt (same bs k d lt ∙ e))
 -- the number that a text is, is one number
 pub same_number : (m n : ℕ) (text : Text) → IsNumber m text → IsNumber n text → m ≡ n
 same_number m n text a b = sym a.1 ∙ b.1
-
-by_value : IsNumeralModel (AllDigits 10) (digits_value 10)
-by_value = numerals_by_value (AllDigits 10) tells_digits
 
 cut : (text : Text) (x : Bor Text × Bor Text) → IsSplitOnceResult 44 text (Some x) → slice_split (λ b. eqb b 44) text ≡ x.0.now ∷ slice_split (λ b. eqb b 44) x.1.now
 cut text x h =

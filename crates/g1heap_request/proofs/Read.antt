@@ -10,7 +10,6 @@ use Rattle.clap.specs.declared.parser.matches.ArgMatches.{ArgMatches}
 use Rattle.g1_command.specs.declared.refusal.Refusal.{Refusal}
 use Rattle.g1_command.specs.declared.refusal.Refusal.TheVariants as refusal
 use Rattle.g1_command.specs.declared.values.Misuse.{Misuse}
-use Rattle.g1_command.specs.declared.values.Misuse.TheVariants as misuse
 use Rattle.g1_command.specs.declared.table.Program.{Program}
 use Rattle.g1_command.specs.Values.{Because, IsValue}
 use Rattle.g1_command.specs.Table.{program_by}
@@ -25,10 +24,7 @@ use Rattle.g1heap_request.specs.Tips.{IsRetold}
 use Rattle.g1heap_request.specs.Words.IsWrongOf.{mistaken, without, valued}
 use Rattle.g1heap_request.specs.Wrong.{IsRefused}
 use Rattle.g1heap_request.proofs.Tabled.{is_simple_table}
-
-pub usage_so : {P Q : Type 0} → (P → Q) → (r : Refusal) → IsUsageIf P r → IsUsageIf Q r
-usage_so f (refusal.Told status text) h = (h.0, f h.1)
-usage_so f (refusal.Fault fault) h = h
+use Rattle.g1_command.proofs.Reasons.{usage_so, value_wrong}
 
 pub retold : (P : Type 0) (kind : ErrorKind) (words : List Text) (old new : Refusal) → IsRetold kind words old new → IsUsageIf P old → IsUsageIf P new
 retold P kind words (refusal.Told status text) (refusal.Told s t) h k = (h.0 ∙ k.0, k.1)
@@ -47,10 +43,6 @@ asked words name rows (request.Why why) e a = (name, rows, e, a)
 asked words name rows (request.Trace trace) e a = (name, rows, e, a)
 asked words name rows (request.Ask ask) e a = (name, rows, e, a)
 asked words name rows (request.Rewrite rewrite) e a = (name, rows, e, a)
-
-value_wrong : {P : Type 0} (m : Misuse) → IsValue m → Because P m → P
-value_wrong misuse.Memory v h = absurd v
-value_wrong (misuse.Value message) v h = h
 
 module _ (words : List Text) (program : Program) (is : program_by program ≡ g1heap) where
   module _ (m : ArgMatches) (matches : HasMatchesOf (program_by program) words m) where

@@ -2,9 +2,7 @@
 use Rattle.std.proofs.Common.{◌≡◌, ◌∙◌, ◌⊎◌, inl, inr, ◌<◌, ◌^◌, ℕ, List, [], ◌∷◌, Option, Some, None, refl, subst, arith, codes}
 use Rattle.std.specs.List.{Any}
 use Rattle.clap.specs.Words.{Row, Text, first_of}
-use Rattle.g1_command.specs.declared.values.Misuse.{Misuse}
-use Rattle.g1_command.specs.declared.values.Misuse.TheVariants as misuse
-use Rattle.g1_command.specs.Values.{Because, IfGiven, IsBelow, IsNoNumberOf, IsNumber, cost_options, texts_of}
+use Rattle.g1_command.specs.Values.{IfGiven, IsBelow, IsNoNumberOf, IsNumber, cost_options, texts_of}
 use Rattle.g1_answers.specs.Asked.{HasNoNumberOf, number_options, sharing_options}
 use Rattle.g1_answers.proofs.Gathered.{any_before, wrong_cost, wrong_sharing}
 use Rattle.std.proofs.lemmas.Bool.{true≢false}
@@ -22,11 +20,6 @@ use Rattle.g1heap_request.specs.Wrong.{HasWrongValue}
 use Rattle.g1heap_request.specs.Wrong.HasWrongValue.{no_number, no_count, no_command}
 use Rattle.g1_work.specs.Team.{AreWorkers, IsChunk}
 use Rattle.g1heap_request.proofs.Got.{same_number}
-
--- a reason for every misuse
-pub always : {P : Type 0} → P → (m : Misuse) → Because P m
-always p misuse.Memory = tt
-always p (misuse.Value message) = p
 
 module _ (rows : List Row) where
   pub no_option : HasNoNumberOf number_options rows → HasWrongValue rows

@@ -11,7 +11,7 @@ use Rattle.g1_words.specs.Heap.{Heap, object_at}
 use Rattle.g1_words.specs.References.{root_targets, targets}
 use Rattle.g1_words.specs.Valid.{IsValid}
 use Rattle.g1_words.proofs.Firsts.{Distinct, Distinct-firsts}
-use Rattle.g1_words.proofs.Members.{Contains-from_in, in_from_has}
+use Rattle.g1_words.proofs.Members.{Contains-from_has}
 use Rattle.g1_words.proofs.Ordered.{pairs_from_ordered}
 use Rattle.g1_same.specs.Same.{IsRenaming}
 use Rattle.g1_words.proofs.Sound.{object_in}
@@ -35,7 +35,7 @@ module _ (g h : Heap) (olds news : List ℕ) (valid : IsValid g) (r : IsRenaming
   few : length olds ≤ length g.words
   few = length-le_from_distinct_below olds (length g.words)
       (IsDistinct-from_AllPairs Decides-eqb olds (pairs_from_ordered (λ x y. x ≢ y) olds (Distinct-differ olds distinct)))
-      (λ q e. within q (Contains-from_in olds q (in_from_has olds q e)))
+      (λ q e. within q (Contains-from_has olds q e))
 
   small : (i d : ℕ) → i < length olds → size (get_or olds i d) ≤ most_words
   small i d lt = let o = fit (get_or olds i d) (Contains-get_or olds i d lt) in omega (arith, o.1, valid.word_count, valid.limits.words_most)

@@ -12,7 +12,6 @@ use Rattle.clap.proofs.OnLiterals.{clap_on_literals}
 use Rattle.g1_command.specs.declared.refusal.Refusal.{Refusal}
 use Rattle.g1_command.specs.declared.refusal.Refusal.TheVariants as refusal
 use Rattle.g1_command.specs.declared.values.Misuse.{Misuse}
-use Rattle.g1_command.specs.declared.values.Misuse.TheVariants as misuse
 use Rattle.g1_command.specs.declared.table.Program.{Program}
 use Rattle.g1_command.specs.declared.table.Usage.{Usage}
 use Rattle.g1_command.specs.Values.{Because, IsValue}
@@ -23,6 +22,7 @@ use Rattle.g1pause_cli.specs.declared.options.Request.TheVariants.{Help, Answer,
 use Rattle.g1pause_cli.specs.Options.{g1pause}
 use Rattle.g1pause_cli.specs.Asks.{Asks, Asked, HasWrongValue, IsHinted, IsReadAs, IsWrong, StopsBy}
 use Rattle.g1pause_cli.specs.Asks.IsWrong.{mistaken, without, valued}
+use Rattle.g1_command.proofs.Reasons.{usage_so, value_wrong}
 
 -- clap's definitions give the matches of the table, and the errors
 pub is_simple_table : is_simple g1pause ≡ true
@@ -36,10 +36,6 @@ is_free_table = refl
 pub table_is : (p : Program) (us : List Usage) → p.name.now ≡ codes "g1pause" → p.commands.now ≡ us → fold with_command (no_command (codes "g1pause")) us ≡ g1pause → program_by p ≡ g1pause
 table_is p us name commands is = ap₂ (λ (n : Text) (cs : List Usage). fold with_command (no_command n) cs) name commands ∙ is
 
-pub usage_so : {P Q : Type 0} → (P → Q) → (r : Refusal) → IsUsageIf P r → IsUsageIf Q r
-usage_so f (refusal.Told status text) h = (h.0, f h.1)
-usage_so f (refusal.Fault fault) h = h
-
 pub hinted : (P : Type 0) (old new : Refusal) → IsHinted old new → IsUsageIf P old → IsUsageIf P new
 hinted P (refusal.Told status text) (refusal.Told s t) h k = (h ∙ k.0, k.1)
 hinted P (refusal.Told status text) (refusal.Fault fault) h k = h
@@ -51,10 +47,6 @@ asked words name rows (Help text) e a = absurd a
 asked words name rows (Answer question) e a = (name, rows, e, a)
 asked words name rows (Write wanted) e a = (name, rows, e, a)
 asked words name rows (Run replay) e a = (name, rows, e, a)
-
-value_wrong : {P : Type 0} (m : Misuse) → IsValue m → Because P m → P
-value_wrong misuse.Memory v h = absurd v
-value_wrong (misuse.Value message) v h = h
 
 module _ (words : List Text) (program : Program) (is : program_by program ≡ g1pause) where
   module _ (m : ArgMatches) (matches : HasMatchesOf (program_by program) words m) where

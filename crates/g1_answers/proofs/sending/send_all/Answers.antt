@@ -1,6 +1,6 @@
 use Rattle.std.proofs.Common.{◌<◌, ◌≤◌, ◌-◌, length, drop, arith, length-take-le, length-drop}
-use Rattle.g1_command.proofs.Delivered.{appends_part}
 use Rattle.g1_answers.proofs.sending.send_all.Goals as goal
+use Rattle.g1_words.proofs.Written.{appends_part}
 
 pub loop-at-preserved : goal.loop-at-preserved
 loop-at-preserved g c =

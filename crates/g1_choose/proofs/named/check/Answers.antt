@@ -1,9 +1,10 @@
 use Rattle.std.proofs.Common.{ℕ, ◌+◌, ◌<◌, length, take, subst, inl, inr, refl, sym, ap, arith, ◌∙◌, true, false, IsTrue}
 use Rattle.std.specs.Prelude.{slice_index, slice_index_or}
+use Rattle.std.proofs.lemmas.Bool.{cases_Bool}
 use Rattle.std.proofs.lemmas.List.{length-set}
 use Rattle.g1_choose.specs.Named.{IsBadAt}
 use Rattle.g1_words.specs.Heap.{pinned}
-use Rattle.g1_choose.proofs.Naming.{AreMarked, true_or_false, marked_more, good_more}
+use Rattle.g1_choose.proofs.Naming.{AreMarked, marked_more, good_more}
 use Rattle.g1_choose.proofs.named.check.Goals as goal
 use Rattle.g1_choose.proofs.named.check.Goals.{then-place-len-via-then-place-len, then-place-len-via-else-place-len+then-is_set, then-place-len-via-else-place-len+else-is_set+then-not-may_be_taken}
 
@@ -22,7 +23,7 @@ returns-then-place-len-clause-err c =
           inr (inr (inr ((c.loop-region.invariant.marks r (omega (arith, w.if-place-len.false, c.len.ensures, count))).0 marked)))
       | then-place-len-via-else-place-len+else-is_set+then-not-may_be_taken w ↦
           let refused = w.if-not-may_be_taken.true in
-          elim (true_or_false (pinned h (slice_index list i))) [
+          elim (cases_Bool (pinned h (slice_index list i))) [
             | inl pin ↦ inr (inr (inl pin))
             | inr free ↦ inr (inl (λ e. let t = w.may_be_taken.ensures.1 (ap (λ q. q.kind) w.region.ensures ∙ e, ap (λ q. q.pinned) w.region.ensures ∙ free) in cc))
           ]

@@ -5,8 +5,9 @@ use Rattle.std.proofs.lemmas.Result.{err_from_is_err_and}
 use Rattle.g1_command.specs.declared.lists.Named.{Named}
 use Rattle.g1_command.specs.Lists.{AddsRegions, HasTwice, rising}
 use Rattle.g1_command.proofs.Got.{because_so}
-use Rattle.g1_command.proofs.Listed.{error_because, ends_got, first_wrong, last_wrong, falls, repeats, adds_range}
+use Rattle.g1_command.proofs.Listed.{ends_got, first_wrong, last_wrong, falls, repeats, adds_range}
 use Rattle.g1_command.proofs.lists.push_part.Goals as goal
+use Rattle.g1_command.proofs.Reasons.{error_because}
 
 -- whether regions were added
 were_new : (first last : ℕ) (old new : Named) (b : Bool) → MatchBool b (AddsRegions (rising first last) old new) (HasTwice (old.regions.items ++ rising first last)) → b ≡ true

@@ -1,4 +1,4 @@
-use Rattle.std.proofs.Common.{◌≡◌, ◌∙◌, [], List, String, Global, map, ap, sym, arith}
+use Rattle.std.proofs.Common.{◌∙◌, [], String, Global, map, ap, sym, arith}
 use Rattle.std.proofs.lemmas.List.{get_or-map, length-map}
 use Rattle.clap.specs.Words.{Text}
 use Rattle.g1_command.proofs.Tied.{all_tied, one_more}

@@ -1,7 +1,6 @@
-use Rattle.std.proofs.Common.{[], ◌≡◌, ◌≢◌, List, map, sym, rules, append-nil, true, false}
+use Rattle.std.proofs.Common.{[], ◌≡◌, ◌≢◌, map, sym, rules, append-nil, true, false}
 use Rattle.std.specs.Prelude.{codes}
-use Rattle.clap.specs.Words.{Text}
-use Rattle.g1_command.specs.declared.lists.Follows.TheVariants.{Word, Region, File}
+use Rattle.g1_command.specs.declared.lists.Follows.TheVariants.{Word, File}
 use Rattle.g1_command.specs.Tied.{is_list, set}
 use Rattle.g1_command.proofs.Tied.{dashes, kept, option, other_word}
 use Rattle.g1_command.proofs.lists.tie_other.Goals as goal

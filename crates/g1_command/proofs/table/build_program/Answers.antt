@@ -1,6 +1,5 @@
 use Rattle.std.proofs.Common.{◌∙◌, ap, arith}
 use Rattle.std.specs.List.{fold}
-use Rattle.clap.specs.Simple.{app_of_fields}
 use Rattle.clap.specs.Words.{App, app_of, with_subcommand}
 use Rattle.g1_command.specs.Table.{with_command}
 use Rattle.g1_command.proofs.Tabled.{fold_step, fold_end, begun}

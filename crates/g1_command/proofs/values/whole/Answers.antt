@@ -1,8 +1,9 @@
 use Rattle.std.proofs.Common.{◌∙◌, sym, arith}
 use Rattle.std.proofs.lemmas.Str.Pattern.{starts_char}
 use Rattle.std.proofs.lemmas.Bool.{false≢true}
-use Rattle.g1_command.proofs.Numerals.{unsigned, read_digits}
+use Rattle.g1_command.proofs.Numerals.{read_digits}
 use Rattle.g1_command.proofs.values.whole.Goals as goal
+use Rattle.g1_words.proofs.Numerals.{unsigned}
 
 pub returns-then-starts_with : goal.returns-then-starts_with
 returns-then-starts_with c = λ h.

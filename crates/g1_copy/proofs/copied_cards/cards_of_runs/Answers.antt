@@ -9,7 +9,8 @@ use Rattle.g1_layout.specs.declared.plan.Run.{Run}
 use Rattle.g1_copy.specs.Gathered.{placed_words, to_space_words}
 use Rattle.g1_copy.specs.Links.{cards_by_region, copied_between}
 use Rattle.g1_copy.specs.Plans.{Moving}
-use Rattle.g1_copy.proofs.CopiedWords.{between_none, region_ends, region_words, run_is, runs_count}
+use Rattle.g1_copy.proofs.CopiedWords.{between_none, region_ends, region_words}
+use Rattle.g1_copy.proofs.Plans.{run_is, runs_count}
 use Rattle.g1_copy.proofs.LinkingCards.{linked_none}
 use Rattle.g1_copy.proofs.LinkingParts.{laid_rise}
 use Rattle.g1_copy.proofs.copied_cards.cards_of_runs.Goals as goal

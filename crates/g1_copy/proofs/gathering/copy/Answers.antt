@@ -5,7 +5,8 @@ use Rattle.g1_words.specs.Heap.{object_at, word}
 use Rattle.g1_words.specs.Layout.{forward, moved_to}
 use Rattle.g1_words.specs.Copy.{renamed, renamed_words}
 use Rattle.g1_copy.specs.Plans.{Moving}
-use Rattle.g1_copy.proofs.GatheringCopies.{IsThere, places_of_plan, plan_there, renamed_is_copy}
+use Rattle.g1_copy.proofs.GatheringCopies.{IsThere, plan_there, renamed_is_copy}
+use Rattle.g1_copy.proofs.Plans.{places_of_plan}
 use Rattle.g1_copy.proofs.gathering.copy.Goals as goal
 use Rattle.g1_copy.proofs.gathering.copy.Goals.{After-moving}
 

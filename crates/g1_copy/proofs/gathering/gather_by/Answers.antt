@@ -3,7 +3,7 @@ use Rattle.std.proofs.Math.Nat.{mul-div_left, mul-mod_left}
 use Rattle.std.proofs.lemmas.List.{length-replicate, take_at}
 use Rattle.g1_words.specs.Layout.{need}
 use Rattle.g1_work.specs.Regions.{slice_of}
-use Rattle.g1_copy.proofs.GatheringRuns.{count_runs}
+use Rattle.g1_copy.proofs.Plans.{runs_count}
 use Rattle.g1_copy.proofs.GatheringWhole.{few_words, slice_empty, whole_words}
 use Rattle.g1_copy.proofs.gathering.gather_by.Given.{Over}
 use Rattle.g1_copy.proofs.gathering.gather_by.Goals as goal
@@ -36,7 +36,7 @@ the_count : (g : Over) (c : After-deref_mut g) → length c.deref_mut.result.now
 the_count g c =
     let least = c.geometry-geometry.ensures.valid.limits.w_least in
     let some : 0 < c.args.moving.now.heap.geometry.w = omega (arith, least, ap (λ x. x.w) c.geometry-geometry.ensures.same) in
-    (λ q. the_length g c q / the_width g c q) ∙ mul-div_left (length c.args.moving.now.plan.runs) some ∙ count_runs c.args.moving.now.heap c.args.moving.now.plan c.geometry-geometry.ensures.made
+    (λ q. the_length g c q / the_width g c q) ∙ mul-div_left (length c.args.moving.now.plan.runs) some ∙ runs_count c.args.moving.now.heap c.args.moving.now.plan c.geometry-geometry.ensures.made
 
 pub each_region_mut-requires-clause-whole : goal.each_region_mut-requires-clause-whole
 each_region_mut-requires-clause-whole g c κs within =

@@ -1,7 +1,7 @@
 use Rattle.std.specs.Prelude.{[]}
 use Rattle.g1_words.specs.Heap.{Heap}
-use Rattle.g1_words.proofs.Shapes.{built}
 use Rattle.g1_image.specs.Image.{Image}
+use Rattle.g1_copy.proofs.Ground.{ground}
 use Rattle.g1_copy.proofs.RememberedLinks.{to_space_cards, copied_cards}
 use Rattle.g1_copy.proofs.laws.cards_moved.Goals as goal
 
@@ -10,7 +10,7 @@ abbrev alone : Heap → Image
 alone h = record { heap = h; remembered = []; log = [] }
 
 pub returns-clause-of_to_space : goal.returns-clause-of_to_space
-returns-clause-of_to_space c = λ h set l v a. to_space_cards (alone h) set l (built h v) a.ordinary a.survivors a.room
+returns-clause-of_to_space c = λ h set l v a. to_space_cards (alone h) set l (ground (alone h) set l v a)
 
 pub returns-clause-in_to_space : goal.returns-clause-in_to_space
-returns-clause-in_to_space c = λ h set l v a. copied_cards (alone h) set l (built h v) a.ordinary a.survivors a.room
+returns-clause-in_to_space c = λ h set l v a. copied_cards (alone h) set l (ground (alone h) set l v a)

@@ -1,8 +1,8 @@
 use Rattle.std.proofs.Common.{◌∙◌, [], flat_map, ap, sym, get_or, take, arith}
-use Rattle.std.proofs.lemmas.List.{take_more}
+use Rattle.std.proofs.lemmas.List.{take_all, take_more}
 use Rattle.g1_rem.specs.Slots.{slots_on}
 use Rattle.g1_copy.specs.Patches.{patches_at, patches_by_card}
-use Rattle.g1_copy.proofs.OnCards.{pushed_more, take_whole}
+use Rattle.g1_copy.proofs.OnCards.{pushed_more}
 use Rattle.g1_copy.proofs.patching.patches_alone.Goals as goal
 
 pub loop-card-init : goal.loop-card-init
@@ -19,7 +19,7 @@ loop-card-preserved c =
 pub returns : goal.returns
 returns c =
     c.loop-card.invariant
-    ∙ ap (patches_by_card c.args.moves.now.heap c.args.moves.now.plan.survivors) (take_whole c.args.cards.now c.loop-card.card-index c.loop-card-test.false)
+    ∙ ap (patches_by_card c.args.moves.now.heap c.args.moves.now.plan.survivors) (take_all c.loop-card.card-index c.args.cards.now c.loop-card-test.false)
 
 pub loop-card-smaller : goal.loop-card-smaller
 loop-card-smaller c = omega (arith, c.loop-card-test.true)

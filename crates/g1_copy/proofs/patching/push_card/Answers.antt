@@ -1,10 +1,10 @@
 use Rattle.std.proofs.Common.{◌<◌, ◌∙◌, ◌++◌, ap, sym, subst, append-nil, get_or, take, Contains, arith, length}
-use Rattle.std.proofs.lemmas.List.{take_more, get_or_default}
+use Rattle.std.proofs.lemmas.List.{take_all, take_more, get_or_default}
 use Rattle.g1_rem.proofs.Entering.{slot_good}
 use Rattle.g1_rem.specs.Slots.{slots_on}
 use Rattle.g1_copy.specs.Patches.{patch_at, patches_at}
 use Rattle.g1_copy.specs.Plans.{Moving}
-use Rattle.g1_copy.proofs.OnCards.{pushed_more, take_whole}
+use Rattle.g1_copy.proofs.OnCards.{pushed_more}
 use Rattle.g1_copy.proofs.patching.push_card.Goals as goal
 
 pub push_patch-requires : goal.push_patch-requires
@@ -32,7 +32,7 @@ pub returns : goal.returns
 returns c =
     c.loop-slot.invariant
     ∙ ap (λ ys. c.args.patches.now.items ++ patches_at c.args.moves.now.heap c.args.moves.now.plan.survivors ys)
-    (take_whole c.as_slice-slot-items.result.now c.loop-slot.slot-index c.loop-slot-test.false ∙ c.as_slice-slot-items.ensures ∙ c.slots_on-slots.ensures.items
+    (take_all c.loop-slot.slot-index c.as_slice-slot-items.result.now c.loop-slot-test.false ∙ c.as_slice-slot-items.ensures ∙ c.slots_on-slots.ensures.items
     ∙ ap (λ (m : Moving). slots_on m.heap c.args.card) (c.moving.view_is ∙ c.moves.view_is))
 
 pub loop-slot-smaller : goal.loop-slot-smaller

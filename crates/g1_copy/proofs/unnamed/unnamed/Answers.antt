@@ -11,7 +11,7 @@ use Rattle.g1_rem.specs.Starts.{card_count}
 use Rattle.g1_copy.specs.Plans.{IsPauseOf, Pausing}
 use Rattle.g1_copy.specs.Remembered.{cards_at}
 use Rattle.g1_copy.specs.Unnamed.{is_unnamed}
-use Rattle.g1_copy.proofs.PreparedPause.{has_room}
+use Rattle.g1_copy.proofs.Ground.{room_of}
 use Rattle.g1_copy.proofs.UnnamedFirsts.{cards_there, firsts_are}
 use Rattle.g1_copy.proofs.unnamed.unnamed.Goals as goal
 use Rattle.g1_copy.proofs.unnamed.unnamed.Goals.{After-heap_of-heap}
@@ -26,7 +26,7 @@ room : (c : After-heap_of-heap) → HasRoom c.args.pausing.now.image.heap c.args
 room c =
     let v : Pausing = c.args.pausing.now in
     let pause : IsPauseOf v.image.heap v.set v.plan = subst (λ (v : Pausing). IsPauseOf v.image.heap v.set v.plan) c.pausing.view_is c.pausing.invariant.plan in
-    subst (λ s. HasRoom v.image.heap s v.plan.survivors) (sym pause.same) (has_room v.image v.set v.plan pause)
+    subst (λ s. HasRoom v.image.heap s v.plan.survivors) (sym pause.same) (room_of v.image.heap v.set v.plan pause)
 
 pub unnamed_firsts-requires-clause-one_each : goal.unnamed_firsts-requires-clause-one_each
 unnamed_firsts-requires-clause-one_each c =

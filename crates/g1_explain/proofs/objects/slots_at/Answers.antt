@@ -9,7 +9,7 @@ use Rattle.g1_explain.proofs.objects.slots_at.Goals as goal
 pub returns-else-object-clause-count : goal.returns-else-object-clause-count
 returns-else-object-clause-count c = λ there.
     let h : Heap = c.args.heap.now in
-    let fits = object_laid h c.words.result.now.laid (object_at h c.args.at) c.valid.ensures c.words.ensures.laid there in
+    let fits = object_laid h c.words.result.now.laid (object_at h c.args.at) c.words.ensures.valid c.words.ensures.laid there in
     let same : c.header-object.result ≡ object_at h c.args.at = c.header-object.ensures.value ∙ ap (λ ws. header ws c.args.at) c.words-2.ensures.same in
     let size = ap (λ (o : Object). o.size) same in
     let refs = ap (λ (o : Object). o.refs) same in

@@ -55,12 +55,12 @@ objects-preserved c =
     let spot : ℕ = c.args.first + (c.objects.at - start h c.args.region) in
     let long : 64 * length c.objects.starts.items ≡ n = ap (λ x. 64 * x) c.objects.invariant.same in
     let there : c.args.first + (c.objects.at - c.start-from.result) ≡ spot = ap (λ x. c.args.first + (c.objects.at - x)) (from_read (goal.at.objects-preserved c).In-objects) in
-    let set_there : marks_of n c.mark.new.starts.items ≡ set mid spot true =
-    ap (λ x. marks_of x c.mark.new.starts.items) (sym long) ∙ c.mark.ensures.marked ∙ ap (λ x. set (marks_of x c.objects.starts.items) (c.args.first + (c.objects.at - c.start-from.result)) true) long
+    let set_there : marks_of n c.mark.new.bits.items ≡ set mid spot true =
+    ap (λ x. marks_of x c.mark.new.bits.items) (sym long) ∙ c.mark.ensures.marked ∙ ap (λ x. set (marks_of x c.objects.starts.items) (c.args.first + (c.objects.at - c.start-from.result)) true) long
     ∙ ap (λ p. set mid p true) there in record {
       marked =
           marking_step h c.args.region c.args.first c.objects.at c.objects_end-end.result old mid c.geometry.ensures.valid c.requires.region c.objects.invariant.marked c.objects-test.true
-          (marks_of n c.mark.new.starts.items) c.size_at-at.result c.size_at-at.ensures set_there;
+          (marks_of n c.mark.new.bits.items) c.size_at-at.result c.size_at-at.ensures set_there;
       same = c.mark.ensures.same ∙ c.objects.invariant.same;
     }
 

@@ -2,7 +2,7 @@ use Rattle.std.proofs.Common.{inl, inr, arith, ap, sym, subst, length, ◌∙◌
 use Rattle.g1_frontier.specs.Window.{AreRising, AreWindowPositions}
 use Rattle.g1_frontier.proofs.Numberings.{scope_by_either}
 use Rattle.g1_frontier.proofs.survivors.discover_in.Goals as goal
-use Rattle.g1_frontier.proofs.survivors.discover_in.Goals.{then-takes_rounds+in_ok-new_by, else-takes_rounds}
+use Rattle.g1_frontier.proofs.survivors.discover_in.Goals.{then-takes_rounds+in_ok-number_window, else-takes_rounds}
 
 pub survivors_in-requires-clause-scope : goal.survivors_in-requires-clause-scope
 survivors_in-requires-clause-scope g c κs within =
@@ -15,7 +15,7 @@ survivors_in-requires-clause-scope g c κs within =
           let regions = c.regions.ensures.value ∙ ap (λ g. g.n) c.geometry.ensures.same in
           omega (arith, ap length c.as_slice.ensures.value, c.in_ok-positions.positions.ok, c.in_ok-positions.ensures.count, regions);
     }) (elim c.if-takes_rounds.branch [
-      | then-takes_rounds+in_ok-new_by w ↦ inr (w.in_ok-new_by.field-0, w.numbering-is, w.in_ok-new_by.ensures.starts, w.in_ok-new_by.ensures.few)
+      | then-takes_rounds+in_ok-number_window w ↦ inr (w.in_ok-number_window.field-0, w.numbering-is, w.in_ok-number_window.ensures.starts, w.in_ok-number_window.ensures.few)
       | else-takes_rounds w ↦ inl w.numbering-is
     ])
 

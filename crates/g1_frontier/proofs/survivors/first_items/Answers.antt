@@ -1,9 +1,8 @@
 use Rattle.std.proofs.Common.{◌≡◌, ◌∙◌, ◌++◌, ◌∷◌, [], ℕ, ap, arith, sym, map, take, get_or, append_assoc, append-nil}
-use Rattle.std.proofs.lemmas.List.{map_more}
+use Rattle.std.proofs.lemmas.List.{map_more, take_all}
 use Rattle.g1_frontier.specs.declared.item.Item.TheVariants.{Root, Card}
 use Rattle.g1_frontier.specs.Items.{root_items}
 use Rattle.g1_frontier.proofs.Searching.{roots_more}
-use Rattle.g1_frontier.proofs.Turns.{take_all}
 use Rattle.g1_frontier.proofs.survivors.first_items.Goals as goal
 
 pub loop-index-init : goal.loop-index-init
@@ -27,7 +26,7 @@ loop-card-preserved c =
 
 pub returns : goal.returns
 returns c =
-    c.loop-card.invariant ∙ ap (λ l. root_items c.args.roots ++ map (λ card. Card card c.args.roots) l) (take_all c.args.cards.now c.loop-card.card-index c.loop-card-test.false)
+    c.loop-card.invariant ∙ ap (λ l. root_items c.args.roots ++ map (λ card. Card card c.args.roots) l) (take_all c.loop-card.card-index c.args.cards.now c.loop-card-test.false)
 
 pub loop-card-smaller : goal.loop-card-smaller
 loop-card-smaller c = omega (arith, c.loop-card-test.true)

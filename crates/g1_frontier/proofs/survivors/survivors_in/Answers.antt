@@ -1,6 +1,5 @@
 use Rattle.std.proofs.Common.{arith}
 use Rattle.g1_words.specs.Survivors.{seeds, children}
-use Rattle.g1_words.proofs.Members.{Contains-from_in}
 use Rattle.g1_frontier.proofs.Searching.{found_few}
 use Rattle.g1_frontier.proofs.Turns.{ends}
 use Rattle.g1_frontier.proofs.survivors.survivors_in.Goals as goal
@@ -19,7 +18,7 @@ returns-clause-ok g c =
       survivors =
           ends (seeds c.args.scope.now.heap.now c.args.scope.now.window.now) (children c.args.scope.now.heap.now c.args.scope.now.window.now) s.found.items
           s.from (omega (arith, c.loop-search-test.false, c.len.ensures, s.found.ok)) i.in_order
-          (λ a k. i.reached a (Contains-from_in s.found.items a k));
+          i.reached;
       seen = tt;
     }
 

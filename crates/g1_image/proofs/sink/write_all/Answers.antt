@@ -2,8 +2,8 @@ use Rattle.std.proofs.Common.{subst, ◌<◌, ◌≤◌, ◌-◌, length, drop, 
 use Rattle.std.proofs.lemmas.List.{take_all}
 use Rattle.std.proofs.lemmas.Result.{err_from_is_err_and}
 use Rattle.std.specs.Io.KnownBytes.{Appends}
-use Rattle.g1_image.proofs.Sent.{appends_part}
 use Rattle.g1_image.proofs.sink.write_all.Goals as goal
+use Rattle.g1_words.proofs.Written.{appends_part}
 
 pub loop-at-preserved : goal.loop-at-preserved
 loop-at-preserved g c =

@@ -7,7 +7,8 @@ use Rattle.g1_kept.specs.declared.lost.Lost.{Lost}
 use Rattle.g1_kept.specs.declared.pairs.Pairs.{Pairs}
 use Rattle.g1_kept.specs.Pause.{IsLossIn, IsMetFirstIn}
 use Rattle.g1_kept.specs.Walk.{IsPairWalk, HasMorePairs, ComparesRegion, ComparesOutside, Searches}
-use Rattle.g1_kept.proofs.Growing.{none_then, some_then, grown_same, grown_more, outside_more}
+use Rattle.g1_kept.proofs.Growing.{grown_same, grown_more, outside_more}
+use Rattle.g1_same.proofs.Steps.{none_then, some_then}
 use Rattle.g1_kept.proofs.Outside.{region_skipped}
 use Rattle.g1_same.proofs.Held.{after_valid, before_valid}
 use Rattle.g1_kept.proofs.keeping.compare_outside.Goals as goal

@@ -6,7 +6,8 @@ use Rattle.g1_same.specs.Walk.{AreAlike}
 use Rattle.g1_kept.specs.declared.lost.Lost.{Lost}
 use Rattle.g1_kept.specs.Lost.{IsLoss}
 use Rattle.g1_kept.specs.Walk.{PassesObjects, StopsAtObjects, IsFirstOfObjects, IsCompared, PairsSlots}
-use Rattle.g1_kept.proofs.Growing.{none_then, some_then, ok_none_map, ok_some_map, grown_same}
+use Rattle.g1_kept.proofs.Growing.{ok_none_map, ok_some_map, grown_same}
+use Rattle.g1_same.proofs.Steps.{none_then, some_then}
 use Rattle.g1_kept.proofs.Walking.{passes_contents, stops_later, stops_contents}
 use Rattle.g1_kept.proofs.keeping.compare_pair.Goals as goal
 

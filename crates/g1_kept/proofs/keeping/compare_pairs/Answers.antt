@@ -6,7 +6,8 @@ use Rattle.g1_kept.specs.declared.lost.Lost.{Lost}
 use Rattle.g1_kept.specs.Pause.{IsLossIn}
 use Rattle.g1_kept.specs.Walk.{IsCompared, HasMorePairs, HasTurn, Searches, PassesObjects, StopsAtObjects}
 use Rattle.g1_kept.proofs.Adding.{few_pairs}
-use Rattle.g1_kept.proofs.Growing.{none_then, some_then, grown_same, grown_more, pairs_more}
+use Rattle.g1_kept.proofs.Growing.{grown_same, grown_more, pairs_more}
+use Rattle.g1_same.proofs.Steps.{none_then, some_then}
 use Rattle.g1_kept.proofs.Steps.{as_many_words, pair_read}
 use Rattle.g1_same.proofs.Held.{after_valid, before_valid}
 use Rattle.g1_kept.proofs.keeping.compare_pairs.Goals as goal

@@ -6,7 +6,8 @@ use Rattle.g1_kept.specs.declared.pairs.Pairs.{Pairs}
 use Rattle.g1_kept.specs.Lost.{Match, outside}
 use Rattle.g1_kept.specs.declared.lost.Lost.{Lost}
 use Rattle.g1_kept.specs.Walk.{IsCompared, PassesObjects, StopsAtObjects, Searches}
-use Rattle.g1_kept.proofs.Growing.{none_then, some_then, grown_same, grown_more, first_more}
+use Rattle.g1_kept.proofs.Growing.{grown_same, grown_more, first_more}
+use Rattle.g1_same.proofs.Steps.{none_then, some_then}
 use Rattle.g1_kept.proofs.Outside.{along_start, along_next, along_end, at_start, start_turn}
 use Rattle.g1_kept.proofs.Regions.{start_in, start_outside, start_stands, region_compared}
 use Rattle.g1_kept.proofs.Steps.{as_many_words}

@@ -6,7 +6,8 @@ use Rattle.g1_words.specs.Heap.{Heap}
 use Rattle.g1_kept.specs.declared.pairs.Pairs.{Pairs}
 use Rattle.g1_kept.specs.Keeps.{Keeps}
 use Rattle.g1_kept.specs.Walk.{IsPairWalk, HasMorePairs, Searches, PairsRoots, ComparesOutside, ComparesPairs}
-use Rattle.g1_kept.proofs.Growing.{none_then, ok_none_then, roots_kept, outside_kept, grown_more, some_then}
+use Rattle.g1_kept.proofs.Growing.{ok_none_then, roots_kept, outside_kept, grown_more}
+use Rattle.g1_same.proofs.Steps.{none_then, some_then}
 use Rattle.g1_kept.proofs.Renamed.{keeps}
 use Rattle.g1_same.proofs.Held.{after_valid, before_valid}
 use Rattle.g1_kept.proofs.keeping.compare_words.Goals as goal

@@ -4,7 +4,8 @@ use Rattle.g1_kept.specs.Keeps.{KeepsTable}
 use Rattle.g1_kept.specs.Lost.{IsLoss}
 use Rattle.g1_kept.specs.Order.{IsEarliestLoss, IsMetFirst}
 use Rattle.g1_kept.proofs.First.{later}
-use Rattle.g1_kept.proofs.Growing.{none_then, ok_some_both}
+use Rattle.g1_kept.proofs.Growing.{ok_some_both}
+use Rattle.g1_same.proofs.Steps.{none_then}
 use Rattle.g1_same.proofs.Held.{after_valid, before_valid}
 use Rattle.g1_kept.proofs.keeping.find_loss.Goals as goal
 

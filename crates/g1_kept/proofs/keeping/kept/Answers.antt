@@ -5,7 +5,7 @@ use Rattle.g1_words.specs.Heap.{Heap}
 use Rattle.g1_kept.specs.Keeps.{Keeps}
 use Rattle.g1_kept.specs.Lost.{IsLoss}
 use Rattle.g1_kept.proofs.Excludes.{no_loss}
-use Rattle.g1_kept.proofs.Growing.{some_then}
+use Rattle.g1_same.proofs.Steps.{some_then}
 use Rattle.g1_same.specs.declared.pair.Pair.{Pair}
 use Rattle.g1_same.proofs.Held.{after_valid, before_valid, of_equals}
 use Rattle.g1_kept.proofs.keeping.kept.Goals as goal

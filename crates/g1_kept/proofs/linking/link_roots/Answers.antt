@@ -8,7 +8,8 @@ use Rattle.g1_kept.specs.Pause.{IsLossIn}
 use Rattle.g1_kept.specs.declared.lost.Lost.{Lost}
 use Rattle.g1_kept.specs.declared.lost.Lost.TheVariants as lost
 use Rattle.g1_kept.specs.Walk.{ArePaired, HasWords, PassesWords, StopsAtWords}
-use Rattle.g1_kept.proofs.Growing.{none_then, some_then, roots_more}
+use Rattle.g1_kept.proofs.Growing.{roots_more}
+use Rattle.g1_same.proofs.Steps.{none_then, some_then}
 use Rattle.g1_kept.proofs.Search.{search_none, roots_on}
 use Rattle.g1_same.proofs.Held.{after_valid, before_valid}
 use Rattle.g1_kept.proofs.linking.link_roots.Goals as goal

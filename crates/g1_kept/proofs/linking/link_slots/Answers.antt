@@ -1,14 +1,14 @@
 use Rattle.std.proofs.Common.{arith, ap, refl, subst, sym, suc, ℕ, ◌≡◌, ◌≤◌, ◌+◌, ◌∙◌, slice_index, Contains}
 use Rattle.g1_words.specs.Heap.{Heap, word, object_at, objects}
 use Rattle.g1_words.specs.declared.object.Object.{Object}
-use Rattle.g1_same.proofs.Steps.{slots_read, within_old, within_new, old_word, new_word, old_names, new_names}
+use Rattle.g1_same.proofs.Steps.{none_then, some_then, slots_read, within_old, within_new, old_word, new_word, old_names, new_names}
 use Rattle.g1_kept.specs.declared.pairs.Pairs.{Pairs}
 use Rattle.g1_kept.specs.Lost.{Disagree, slot}
 use Rattle.g1_kept.specs.Pause.{IsLossIn}
 use Rattle.g1_kept.specs.declared.lost.Lost.{Lost}
 use Rattle.g1_kept.specs.declared.lost.Lost.TheVariants as lost
 use Rattle.g1_kept.specs.Walk.{ArePaired, HasTurn, HasWords, PassesWords, StopsAtWords}
-use Rattle.g1_kept.proofs.Growing.{none_then, some_then, grown_same, grown_more, slots_more}
+use Rattle.g1_kept.proofs.Growing.{grown_same, grown_more, slots_more}
 use Rattle.g1_kept.proofs.Search.{slots_on}
 use Rattle.g1_kept.proofs.Walking.{turn_more, words_at}
 use Rattle.g1_kept.proofs.linking.link_slots.Goals as goal

@@ -4,7 +4,8 @@ use Rattle.g1_kept.specs.Lost.{Disagree, changed, null}
 use Rattle.g1_kept.specs.Order.{Clash}
 use Rattle.g1_kept.specs.Order as order
 use Rattle.g1_kept.specs.Walk.{ArePaired}
-use Rattle.g1_kept.proofs.Words.{some, known_here, differ_here, clash_here, new_before, new_after}
+use Rattle.g1_kept.proofs.Words.{known_here, differ_here, clash_here, new_before, new_after}
+use Rattle.g1_same.proofs.Tables.{some}
 use Rattle.g1_same.proofs.Words.{named_below, reading}
 use Rattle.g1_same.proofs.Held.{after_valid, before_valid}
 use Rattle.g1_kept.proofs.linking.meet.Goals as goal

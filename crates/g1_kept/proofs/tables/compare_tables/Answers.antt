@@ -6,7 +6,7 @@ use Rattle.g1_kept.specs.declared.lost.Lost.{Lost}
 use Rattle.g1_kept.specs.Keeps.{KeepsRegion}
 use Rattle.g1_kept.specs.Order.{KeepsBefore}
 use Rattle.g1_kept.specs.Pause.{IsLossIn, IsEarliestIn}
-use Rattle.g1_kept.proofs.Growing.{none_then, some_then}
+use Rattle.g1_same.proofs.Steps.{none_then, some_then}
 use Rattle.g1_kept.proofs.tables.compare_tables.Goals as goal
 
 pub returns-then-not-have_same_sizes-clause-none : goal.returns-then-not-have_same_sizes-clause-none

@@ -1,21 +1,19 @@
-use Rattle.std.proofs.Common.{◌≡◌, ◌≢◌, ℕ, true, inl, inr, not, eqb, eqb-true, eq-eqb, arith, ap, sym, ◌∙◌, false}
-use Rattle.std.proofs.lemmas.Bool.{cases_Bool, false≢true, ltb-true, lt-ltb, not_from_true, ltb-false}
+use Rattle.std.proofs.Common.{◌≡◌, ◌≢◌, ℕ, true, inl, not, eqb, eqb-true, arith, ap, sym, ◌∙◌, false}
+use Rattle.std.proofs.lemmas.Bool.{false≢true, ltb-true, lt-ltb, ltb-false, ne_eqb, not-false}
 use Rattle.g1_words.specs.declared.region.Region.{Region}
 use Rattle.g1_words.specs.declared.region.Kind.TheVariants.{Ordinary}
 use Rattle.g1_words.specs.Heap.{kind, top}
+use Rattle.g1_words.proofs.Logic.{differs}
 use Rattle.g1_kept.proofs.Regions.{filled_above, lower_top, changed_top, other_changed}
 use Rattle.g1_same.proofs.Held.{after_valid, before_valid}
 use Rattle.g1_kept.proofs.tables.has_other_top.Goals as goal
 use Rattle.g1_kept.proofs.tables.has_other_top.Goals.{else-fill-via-then-fill+else-is_ordinary, else-fill-via-else-fill}
 
-differ : (a b : ℕ) → not (eqb a b) ≡ true → a ≢ b
-differ a b e same = false≢true (sym (not_from_true (eqb a b) (eq-eqb a b same)) ∙ e)
-
 equal : (a b : ℕ) → not (eqb a b) ≡ false → a ≡ b
-equal a b e = elim (cases_Bool (eqb a b)) [ inl t ↦ eqb-true a b t | inr f ↦ absurd (false≢true (sym e ∙ ap not f)) ]
+equal a b e = eqb-true a b (not-false (eqb a b) e)
 
-differs : (a b : ℕ) → a ≢ b → not (eqb a b) ≡ true
-differs a b other = elim (cases_Bool (eqb a b)) [ inl t ↦ absurd (other (eqb-true a b t)) | inr f ↦ ap not f ]
+unequal : (a b : ℕ) → a ≢ b → not (eqb a b) ≡ true
+unequal a b other = ap not (ne_eqb a b other)
 
 pub returns-then-is_ordinary-clause-other : goal.returns-then-is_ordinary-clause-other
 returns-then-is_ordinary-clause-other c =
@@ -50,11 +48,11 @@ returns-else-fill-clause-other c =
       | else-fill-via-else-fill w ↦ false≢true (sym w.if-fill.false ∙ may)
     ] in (
       λ e.
-          let other : top h r ≢ top g r = λ same. differ c.region-new.result.top c.region-old.result.top e (sym new ∙ same ∙ old) in
+          let other : top h r ≢ top g r = λ same. differs c.region-new.result.top c.region-old.result.top e (sym new ∙ same ∙ old) in
           changed_top c.args.fill g h r (before_valid c.args.heaps) (after_valid c.args.heaps) c.requires.sizes c.requires.region c.requires.used unfilled other,
       λ o.
           let other = other_changed c.args.fill g h r (before_valid c.args.heaps) (after_valid c.args.heaps) c.requires.sizes c.requires.region o in
-          differs c.region-new.result.top c.region-old.result.top (λ same. other (new ∙ same ∙ sym old)),
+          unequal c.region-new.result.top c.region-old.result.top (λ same. other (new ∙ same ∙ sym old)),
     )
 
 pub returns-then-is_ordinary-clause-filled : goal.returns-then-is_ordinary-clause-filled

@@ -22,8 +22,8 @@ loop-r-preserved c =
           record { counted = omega (arith, n, w.count-is, c.loop-r.invariant.counted); few = omega (arith, w.count-is, c.loop-r.invariant.few) }
     ]
 
-pub returns : goal.returns
-returns c =
+pub returns-clause-count : goal.returns-clause-count
+returns-clause-count c =
     let h = c.args.heap.now in
     let nn : c.regions-regions.result ≡ h.geometry.n = cc in
     let e : c.loop-r.r ≡ h.geometry.n = omega (arith, nn, c.loop-r-test.false, c.loop-r.auto.r-end) in

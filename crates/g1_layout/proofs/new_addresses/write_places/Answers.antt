@@ -1,9 +1,9 @@
 use Rattle.std.proofs.Common.{◌≡◌, ◌+◌, Some, get_or, set, ap, refl, subst, sym, ◌∙◌, arith}
 use Rattle.g1_layout.specs.Words.{ArePlacedTo, index_of}
-use Rattle.g1_layout.specs.Numbers.{number_at}
+use Rattle.g1_words.specs.Numbers.{number_at}
 use Rattle.g1_layout.proofs.Forwarding.{number_below, number_found, number_there, placed_more}
 use Rattle.g1_layout.proofs.new_addresses.write_places.Goals as goal
-use Rattle.g1_layout.proofs.new_addresses.write_places.Goals.{In-Some-number, in-Some+in-Some-number, in-Some+in_default-number, in_default}
+use Rattle.g1_layout.proofs.new_addresses.write_places.Goals.{in-Some+in-Some-number, in-Some+in_default-number, in_default}
 
 pub bounds-by_number-number : goal.bounds-by_number-number
 bounds-by_number-number c =

@@ -1,9 +1,8 @@
 use Rattle.std.proofs.Common.{arith, ℕ, List, [], ◌∷◌, ◌++◌, ◌≡◌, ◌<◌, ◌+◌, ◌*◌, ◌/◌, ◌^◌, ◌∙◌, ap, sym, subst, length, get_or, take, set, Contains}
-use Rattle.std.proofs.lemmas.List.{take_more}
+use Rattle.std.proofs.lemmas.List.{take_more, take_all}
 use Rattle.g1_words.specs.Heap.{word, region_of, object_at, objects}
 use Rattle.g1_words.specs.Lists.{has}
 use Rattle.g1_frontier.proofs.Scopes.{read}
-use Rattle.g1_frontier.proofs.Turns.{take_all}
 use Rattle.g1_mark.proofs.Counting.{AreBytesOf, zeros, bytes_few, bytes_here, region_there, word_there, counted_more, counted_none, counted_all, not_before}
 use Rattle.g1_mark.proofs.bytes.bytes_at.Goals as goal
 
@@ -69,5 +68,5 @@ loop-address-preserved c =
 pub returns : goal.returns
 returns c =
     let h = c.args.heap.now in
-    let all : take c.loop-address.address-index c.args.addresses.now ≡ c.args.addresses.now = take_all c.args.addresses.now c.loop-address.address-index c.loop-address-test.false in
+    let all : take c.loop-address.address-index c.args.addresses.now ≡ c.args.addresses.now = take_all c.loop-address.address-index c.args.addresses.now c.loop-address-test.false in
     counted_all h c.geometry-geometry.ensures.valid c.args.addresses.now c.loop-address.bytes.items (subst (λ l. AreBytesOf h l c.loop-address.bytes.items) all c.loop-address.invariant)

@@ -1,9 +1,8 @@
 use Rattle.std.proofs.Common.{arith, ℕ, List, [], ◌∷◌, ◌++◌, ◌≡◌, ◌<◌, ◌+◌, ◌*◌, ◌/◌, ◌^◌, ◌∙◌, ap, sym, subst, length, get_or, take, set, Contains}
-use Rattle.std.proofs.lemmas.List.{length-map, take_more}
+use Rattle.std.proofs.lemmas.List.{length-map, take_more, take_all}
 use Rattle.g1_words.specs.Heap.{word, region_of, object_at, objects}
 use Rattle.g1_words.specs.Lists.{has}
 use Rattle.g1_frontier.proofs.Scopes.{read}
-use Rattle.g1_frontier.proofs.Turns.{take_all}
 use Rattle.g1_mark.proofs.Counting.{AreBytesOf, size_there, zeros, bytes_few, bytes_here, region_there, counted_more, counted_none, counted_all, not_before}
 use Rattle.g1_mark.proofs.bytes.bytes_of.Goals as goal
 
@@ -65,5 +64,5 @@ loop-index-preserved c =
 pub returns : goal.returns
 returns c =
     let h = c.args.heap.now in
-    let all : take c.loop-index.index c.args.addresses.now ≡ c.args.addresses.now = take_all c.args.addresses.now c.loop-index.index c.loop-index-test.false in
+    let all : take c.loop-index.index c.args.addresses.now ≡ c.args.addresses.now = take_all c.loop-index.index c.args.addresses.now c.loop-index-test.false in
     counted_all h c.geometry-geometry.ensures.valid c.args.addresses.now c.loop-index.bytes.items (subst (λ l. AreBytesOf h l c.loop-index.bytes.items) all c.loop-index.invariant)

@@ -1,7 +1,6 @@
-use Rattle.std.proofs.Common.{◌≡◌, ◌<◌, ◌∙◌, ◌*◌, ◌/◌, ◌∷◌, ℕ, List, [], length, arith, eqb-true, refl, ap, sym, subst}
+use Rattle.std.proofs.Common.{◌≡◌, ◌<◌, ◌∙◌, ◌*◌, ◌/◌, ◌∷◌, ℕ, List, [], length, arith, eqb-true, refl, ap, sym, subst, Contains}
 use Rattle.g1_words.specs.Heap.{Heap}
 use Rattle.g1_words.specs.Lists.{has}
-use Rattle.g1_words.proofs.Members.{In}
 use Rattle.g1_words.specs.Marks.{AreMarked}
 use Rattle.g1_rem.specs.Starts.{card_count}
 use Rattle.g1_rem.proofs.Dirty.{dirty_told, dirty_inside, none_dirty}
@@ -12,7 +11,7 @@ pub returns : goal.returns
 returns c =
     let i = c.args.image.now in
     let log : c.as_slice-log.result.now ≡ c.args.image.now.log = c.as_slice-log.ensures.keys ∙ c.log.ensures in
-    let below : (x : ℕ) → In c.args.image.now.log x → x < c.if-is_empty.cards =
+    let below : (x : ℕ) → Contains c.args.image.now.log x → x < c.if-is_empty.cards =
     elim c.if-is_empty.branch [
       | then-is_empty w ↦ (λ x k. none_dirty c.args.image.now.log x c.if-is_empty.cards (sym log
           ∙ no_items c.as_slice-log.result.now (eqb-true (length c.as_slice-log.result.now) 0 (sym c.is_empty.ensures ∙ w.if-is_empty.true))) k)

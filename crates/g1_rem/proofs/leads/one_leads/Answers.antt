@@ -1,29 +1,18 @@
-use Rattle.std.proofs.Common.{◌≡◌, ◌<◌, ◌++◌, ◌∷◌, [], false, length, slice_index, take, sym, ap, subst, ◌∙◌, eq-eqb, arith}
-use Rattle.std.proofs.lemmas.List.{take_more, take_all, get_or_default}
+use Rattle.std.proofs.Common.{◌≡◌, ◌++◌, ◌∷◌, [], false, slice_index, take, sym, ap, subst, ◌∙◌, eq-eqb, arith}
+use Rattle.std.proofs.lemmas.List.{take_more, take_all}
 use Rattle.std.proofs.lemmas.Bool.{ne_eqb}
-use Rattle.g1_words.proofs.Indices.{get_or-In}
-use Rattle.g1_words.specs.Valid.{IsReference}
+use Rattle.std.proofs.lemmas.List.Elements.{Contains-get_or}
 use Rattle.g1_rem.specs.Entering.{enters}
 use Rattle.g1_rem.specs.Leads.{IsLedInto}
-use Rattle.g1_rem.proofs.Entering.{enters_found, enters_pass, leads_none, leads_some}
+use Rattle.g1_rem.proofs.Entering.{enters_found, enters_pass, leads_none, leads_some, slot_read}
 use Rattle.g1_rem.proofs.leads.one_leads.Goals as goal
-use Rattle.g1_rem.proofs.leads.one_leads.Goals.{In-loop-p, in-Some+else-target-region, in_default}
-
--- the slot at hand can be read
-good : (c : In-loop-p) → (slice_index c.args.slots.now c.loop-p.p-index < length c.args.heap.now.words)
-    × IsReference c.args.heap.now (slice_index c.args.heap.now.words (slice_index c.args.slots.now c.loop-p.p-index))
-good c = c.requires (slice_index c.args.slots.now c.loop-p.p-index) (
-  c.loop-p.p-index,
-  c.loop-p-test.true,
-  get_or_default c.args.slots.now
-      c.loop-p.p-index (slice_index c.args.slots.now c.loop-p.p-index) 0 c.loop-p-test.true,
-)
+use Rattle.g1_rem.proofs.leads.one_leads.Goals.{in-Some+else-target-region, in_default}
 
 pub led_into-requires-clause-slot : goal.led_into-requires-clause-slot
-led_into-requires-clause-slot c = (good (goal.at.led_into-requires-clause-slot c).In-loop-p).0
+led_into-requires-clause-slot c = (slot_read c.args.heap.now c.args.slots.now c.loop-p.p-index c.requires c.loop-p-test.true).0
 
 pub led_into-requires-clause-reference : goal.led_into-requires-clause-reference
-led_into-requires-clause-reference c = (good (goal.at.led_into-requires-clause-reference c).In-loop-p).1
+led_into-requires-clause-reference c = (slot_read c.args.heap.now c.args.slots.now c.loop-p.p-index c.requires c.loop-p-test.true).1
 
 pub loop-p-preserved : goal.loop-p-preserved
 loop-p-preserved c =
@@ -43,7 +32,7 @@ returns-then-target-region c =
     let r = c.args.region in
     let xs = c.args.slots.now in
     let k = c.loop-p.p-index in
-    sym (enters_found h r (slice_index c.args.slots.now c.loop-p.p-index) xs (get_or-In xs k 0 c.loop-p-test.true)
+    sym (enters_found h r (slice_index c.args.slots.now c.loop-p.p-index) xs (Contains-get_or xs k 0 c.loop-p-test.true)
     (leads_some h (slice_index c.args.slots.now c.loop-p.p-index) c.in-Some.target r c.in-Some.ensures ∙ eq-eqb c.in-Some.target r c.if-target-region.true))
 
 pub returns : goal.returns

@@ -1,23 +1,16 @@
 use Rattle.std.proofs.Common.{◌≡◌, ◌<◌, ◌+◌, ◌++◌, ◌∷◌, [], ◌∙◌, length, slice_index, slice_index_or, take, map, arith, ap, sym, subst}
-use Rattle.std.proofs.lemmas.List.{take_more, map-set, get_or_default, get_or-map, length-map}
-use Rattle.g1_words.specs.Valid.{IsReference}
+use Rattle.std.proofs.lemmas.List.{take_more, map-set, get_or-map, length-map}
 use Rattle.g1_rem.specs.Leads.{IsLedInto}
 use Rattle.g1_rem.specs.Entering.{IsGrown, enters}
-use Rattle.g1_rem.proofs.Entering.{grown_pass, grown_push}
+use Rattle.g1_rem.proofs.Entering.{grown_pass, grown_push, slot_read}
 use Rattle.g1_rem.proofs.refining.add_card.Goals as goal
-use Rattle.g1_rem.proofs.refining.add_card.Goals.{In-loop-p, in-Some+in_ok-push_once, in_default}
-
--- the slot at hand can be read
-good : (c : In-loop-p) → (slice_index c.args.slots.now c.loop-p.p-index < length c.args.heap.now.words)
-    × IsReference c.args.heap.now (slice_index c.args.heap.now.words (slice_index c.args.slots.now c.loop-p.p-index))
-good c = c.requires.slots (slice_index c.args.slots.now c.loop-p.p-index)
-    (c.loop-p.p-index, c.loop-p-test.true, get_or_default c.args.slots.now c.loop-p.p-index (slice_index c.args.slots.now c.loop-p.p-index) 0 c.loop-p-test.true)
+use Rattle.g1_rem.proofs.refining.add_card.Goals.{in-Some+in_ok-push_once, in_default}
 
 pub led_into-requires-clause-slot : goal.led_into-requires-clause-slot
-led_into-requires-clause-slot c = (good (goal.at.led_into-requires-clause-slot c).In-loop-p).0
+led_into-requires-clause-slot c = (slot_read c.args.heap.now c.args.slots.now c.loop-p.p-index c.requires.slots c.loop-p-test.true).0
 
 pub led_into-requires-clause-reference : goal.led_into-requires-clause-reference
-led_into-requires-clause-reference c = (good (goal.at.led_into-requires-clause-reference c).In-loop-p).1
+led_into-requires-clause-reference c = (slot_read c.args.heap.now c.args.slots.now c.loop-p.p-index c.requires.slots c.loop-p-test.true).1
 
 pub loop-p-preserved : goal.loop-p-preserved
 loop-p-preserved c =

@@ -6,6 +6,7 @@ use Rattle.g1_report.specs.Wording.{roots_line, place_line}
 use Rattle.g1_report.specs.Answer.{IsDifferenceLine}
 use Rattle.g1_report.specs.Given.{compared}
 use Rattle.g1_report.specs.Taken.{Adds}
+use Rattle.g1_same.proofs.Held.{before_valid, after_valid}
 use Rattle.g1_report.proofs.comparing.push_difference_line.Goals as goal
 
 pub returns-in-Roots : goal.returns-in-Roots
@@ -21,25 +22,25 @@ returns-in-Roots c = λ h.
 
 pub push_how_line-requires-clause-values : goal.push_how_line-requires-clause-values
 push_how_line-requires-clause-values c =
-    let ends = subst (λ d. AreEnds c.args.sides.before.now c.args.sides.after.now d c.ends_of-ends.result) c.in-At.is c.ends_of-ends.ensures in
+    let ends = subst (λ d. AreEnds c.args.sides.heaps.before.now c.args.sides.heaps.after.now d c.ends_of-ends.result) c.in-At.is c.ends_of-ends.ensures in
     ends.1
 
 pub push_how_line-requires-clause-before : goal.push_how_line-requires-clause-before
 push_how_line-requires-clause-before c =
-    let g = c.args.sides.before.now in
-    let ends = subst (λ d. AreEnds g c.args.sides.after.now d c.ends_of-ends.result) c.in-At.is c.ends_of-ends.ensures in
-    end_names g c.valid.ensures (c.in-At.root ∷ c.in-At.slots.items) c.ends_of-ends.result.before ends.0.0
+    let g = c.args.sides.heaps.before.now in
+    let ends = subst (λ d. AreEnds g c.args.sides.heaps.after.now d c.ends_of-ends.result) c.in-At.is c.ends_of-ends.ensures in
+    end_names g (before_valid c.args.sides.heaps) (c.in-At.root ∷ c.in-At.slots.items) c.ends_of-ends.result.before ends.0.0
 
 pub push_how_line-requires-clause-after : goal.push_how_line-requires-clause-after
 push_how_line-requires-clause-after c =
-    let h = c.args.sides.after.now in
-    let ends = subst (λ d. AreEnds c.args.sides.before.now h d c.ends_of-ends.result) c.in-At.is c.ends_of-ends.ensures in
-    end_names h c.valid-in-At.ensures (c.in-At.root ∷ c.in-At.slots.items) c.ends_of-ends.result.after ends.0.1
+    let h = c.args.sides.heaps.after.now in
+    let ends = subst (λ d. AreEnds c.args.sides.heaps.before.now h d c.ends_of-ends.result) c.in-At.is c.ends_of-ends.ensures in
+    end_names h (after_valid c.args.sides.heaps) (c.in-At.root ∷ c.in-At.slots.items) c.ends_of-ends.result.after ends.0.1
 
 pub returns-in-At : goal.returns-in-At
 returns-in-At c = λ h.
     let s = compared c.args.sides in
-    let ends = subst (λ d. AreEnds c.args.sides.before.now c.args.sides.after.now d c.ends_of-ends.result) c.in-At.is c.ends_of-ends.ensures in
+    let ends = subst (λ d. AreEnds c.args.sides.heaps.before.now c.args.sides.heaps.after.now d c.ends_of-ends.result) c.in-At.is c.ends_of-ends.ensures in
     let x = c.ends_of-ends.result.before in
     let y = c.ends_of-ends.result.after in
     let old = string_bytes c.args.text.now in

@@ -6,28 +6,29 @@ use Rattle.g1_same.proofs.Following.{end_names}
 use Rattle.g1_report.specs.Wording.{place_line, stale_line}
 use Rattle.g1_report.specs.Listed.{found_line}
 use Rattle.g1_report.specs.Given.{compared}
+use Rattle.g1_same.proofs.Held.{before_valid, after_valid}
 use Rattle.g1_report.proofs.comparing.push_found_line.Goals as goal
 
 pub push_how_line-requires-clause-values : goal.push_how_line-requires-clause-values
-push_how_line-requires-clause-values c = subst (λ w. AreFoundValues c.args.sides.before.now c.args.sides.after.now w c.ends_at-ends.result) c.in-How.is c.ends_at-ends.ensures.values
+push_how_line-requires-clause-values c = subst (λ w. AreFoundValues c.args.sides.heaps.before.now c.args.sides.heaps.after.now w c.ends_at-ends.result) c.in-How.is c.ends_at-ends.ensures.values
 
 pub push_how_line-requires-clause-before : goal.push_how_line-requires-clause-before
 push_how_line-requires-clause-before c =
-    let g = c.args.sides.before.now in
+    let g = c.args.sides.heaps.before.now in
     subst (IsReference g) (sym c.ends_at-ends.ensures.words.0)
-    (end_names g c.valid.ensures (c.args.path.now.root ∷ c.args.path.now.slots.items) c.args.found.now.place.before c.requires.0.0)
+    (end_names g (before_valid c.args.sides.heaps) (c.args.path.now.root ∷ c.args.path.now.slots.items) c.args.found.now.place.before c.requires.0.0)
 
 pub push_how_line-requires-clause-after : goal.push_how_line-requires-clause-after
 push_how_line-requires-clause-after c =
-    let h = c.args.sides.after.now in
+    let h = c.args.sides.heaps.after.now in
     subst (IsReference h) (sym c.ends_at-ends.ensures.words.1)
-    (end_names h c.valid-2.ensures (c.args.path.now.root ∷ c.args.path.now.slots.items) c.args.found.now.place.after c.requires.0.1)
+    (end_names h (after_valid c.args.sides.heaps) (c.args.path.now.root ∷ c.args.path.now.slots.items) c.args.found.now.place.after c.requires.0.1)
 
 pub push_stale_line-requires : goal.push_stale_line-requires
 push_stale_line-requires c =
-    let g = c.args.sides.before.now in
+    let g = c.args.sides.heaps.before.now in
     subst (IsReference g) (sym c.ends_at-ends.ensures.words.0)
-    (end_names g c.valid.ensures (c.args.path.now.root ∷ c.args.path.now.slots.items) c.args.found.now.place.before c.requires.0.0)
+    (end_names g (before_valid c.args.sides.heaps) (c.args.path.now.root ∷ c.args.path.now.slots.items) c.args.found.now.place.before c.requires.0.0)
 
 pub returns-in-Stale : goal.returns-in-Stale
 returns-in-Stale c = λ h.

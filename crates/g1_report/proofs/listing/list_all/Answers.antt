@@ -48,7 +48,7 @@ differences-preserved g c = record {
       let path = shown now.before.now now.after.now now.walk f said.underway.walk there in
       let is_shown : IsShown s f = (
         path.0,
-        of_heaps (λ x y. ShowsAt x y path.0 f) now.before.now c.args.sides.before.now now.after.now c.args.sides.after.now (said.heaps.0 ∙ c.differences.invariant.before)
+        of_heaps (λ x y. ShowsAt x y path.0 f) now.before.now c.args.sides.heaps.before.now now.after.now c.args.sides.heaps.after.now (said.heaps.0 ∙ c.differences.invariant.before)
             (said.heaps.1 ∙ c.differences.invariant.after) path.1,
       ) in
       let old = c.differences.counts in

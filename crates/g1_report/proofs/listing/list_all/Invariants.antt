@@ -10,8 +10,8 @@ use Rattle.g1_report.proofs.listing.list_all.Given as goal
 abbrev pub invariant-differences : goal.invariant-differences
 invariant-differences g l = record {
   underway : IsUnderway l.walk;
-  before : l.walk.before.now ≡ l.sides.before.now;
-  after : l.walk.after.now ≡ l.sides.after.now;
+  before : l.walk.before.now ≡ l.sides.heaps.before.now;
+  after : l.walk.after.now ≡ l.sides.heaps.after.now;
   lines : AreNamesInOrder (compared l.sides) → TakesLines (compared l.sides) (g.L.Lines.taken l.fn.out) (g.L.Lines.taken l.out) l.first;
   counted : IsCounted (compared l.sides) l.walk.way.from l.walk.way.number l.counts;
   took : TakesFirst (g.L.Lines.taken l.fn.out) (g.L.Lines.taken l.out) l.first;

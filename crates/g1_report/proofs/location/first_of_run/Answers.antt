@@ -18,6 +18,6 @@ returns c = λ on.
       | else-loop-first-test w ↦ omega (arith, pos, w.loop-first-test.false)
     ] in (
       n,
-      c.start.ensures.value ∙ ap (λ (g : Geometry). n * g.w) c.geometry.ensures.same,
-      back_end h c.valid.ensures c.args.region n c.requires on c.loop-first.invariant.back c.loop-first.invariant.low stop,
+      c.start.ensures.value ∙ ap (λ (g : Geometry). n * g.w) c.geometry-geometry.ensures.same,
+      back_end h c.geometry-geometry.ensures.valid c.args.region n c.requires on c.loop-first.invariant.back c.loop-first.invariant.low stop,
     )

@@ -29,4 +29,4 @@ returns-clause-location c =
     let l = c.as_slice-start-items.result.now in
     let all : take c.loop-start.start-index l ≡ starts (objects_in h r) =
     take_all c.loop-start.start-index l c.loop-start-test.false ∙ c.as_slice-start-items.ensures.value ∙ c.in_ok-starts.ensures.ok in
-    in_ordinary h c.valid.ensures a r c.requires.region c.requires.here c.requires.used c.requires.ordinary c.loop-start.last (c.loop-start.invariant ∙ ap (last_to a (start h r)) all)
+    in_ordinary h c.geometry.ensures.valid a r c.requires.region c.requires.here c.requires.used c.requires.ordinary c.loop-start.last (c.loop-start.invariant ∙ ap (last_to a (start h r)) all)

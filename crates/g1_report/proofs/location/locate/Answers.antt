@@ -21,7 +21,7 @@ returns-in-HumongousFirst-clause-location c =
     let top = ap (λ (r : Region). r.top) c.region-kind.ensures in
     let at : c.start-start.result ≡ start h r = c.start-start.ensures.value ∙ ap (λ (g : Geometry). r * g.w) same in
     let used : a < end h r = omega (arith, c.if-address-start.false, c.from.ensures, top, at) in
-    subst (λ x. IsLocation h a (Inside x)) (sym at) (in_first h c.valid.ensures a r lt here used first)
+    subst (λ x. IsLocation h a (Inside x)) (sym at) (in_first h c.geometry-geometry.ensures.valid a r lt here used first)
 
 pub returns-in-Continuation-clause-location : goal.returns-in-Continuation-clause-location
 returns-in-Continuation-clause-location c =
@@ -37,4 +37,4 @@ returns-in-Continuation-clause-location c =
     let at : c.start-start.result ≡ start h r = c.start-start.ensures.value ∙ ap (λ (g : Geometry). r * g.w) same in
     let used : a < end h r = omega (arith, c.if-address-start.false, c.from.ensures, top, at) in
     let run = c.first_of_run.ensures on in
-    subst (λ x. IsLocation h a (Inside x)) (sym run.1) (in_run h c.valid.ensures a r lt here used run.0 run.2)
+    subst (λ x. IsLocation h a (Inside x)) (sym run.1) (in_run h c.geometry-geometry.ensures.valid a r lt here used run.0 run.2)

@@ -4,6 +4,7 @@ use Rattle.g1_report.specs.Wording.{has_moved, is_yes}
 use Rattle.g1_report.specs.Given.{compared}
 use Rattle.g1_report.proofs.Counted.{one_counted}
 use Rattle.g1_report.proofs.Moved.{old_there, new_there}
+use Rattle.g1_same.proofs.Held.{before_valid}
 use Rattle.g1_report.proofs.moving.count_moved.Goals as goal
 
 pub loop-place-preserved : goal.loop-place-preserved
@@ -21,8 +22,8 @@ loop-place-preserved c =
 -- what is asked of are objects
 pub has_moved-requires-clause-before : goal.has_moved-requires-clause-before
 has_moved-requires-clause-before c =
-    old_there c.args.sides.before.now c.args.sides.after.now c.args.before.now c.args.after.now c.requires.renaming c.loop-place.place c.loop-place-test.true c.valid.ensures
+    old_there c.args.sides.heaps.before.now c.args.sides.heaps.after.now c.args.before.now c.args.after.now c.requires.renaming c.loop-place.place c.loop-place-test.true (before_valid c.args.sides.heaps)
 
 pub has_moved-requires-clause-after : goal.has_moved-requires-clause-after
 has_moved-requires-clause-after c =
-    new_there c.args.sides.before.now c.args.sides.after.now c.args.before.now c.args.after.now c.requires.renaming c.loop-place.place c.loop-place-test.true
+    new_there c.args.sides.heaps.before.now c.args.sides.heaps.after.now c.args.before.now c.args.after.now c.requires.renaming c.loop-place.place c.loop-place-test.true

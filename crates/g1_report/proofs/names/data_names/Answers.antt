@@ -1,7 +1,7 @@
-use Rattle.std.proofs.Common.{◌≡◌, ℕ, ◌+◌, List, length, drop, min, sym, ap, ◌∙◌}
+use Rattle.std.proofs.Common.{ℕ, ◌+◌, List, drop, sym, ap, ◌∙◌}
 use Rattle.std.specs.Borrow.{Bor}
 use Rattle.std.proofs.lemmas.List.{drop-map}
-use Rattle.g1_report.specs.Program.{texts, border}
+use Rattle.g1_report.specs.Program.{texts}
 use Rattle.g1_report.proofs.Border.{drop_one}
 use Rattle.g1_report.proofs.names.data_names.Goals as goal
 

@@ -7,7 +7,7 @@ pub returns-else-fits : goal.returns-else-fits
 returns-else-fits c = λ there.
     let h = c.args.heap.now in
     let w = c.words-words.result.now in
-    let fit = object_fits h w.items c.laid-laid.result.now w.laid c.args.at c.header-object.result c.words-words.ensures.same c.header-object.ensures.value c.valid.ensures c.words-words.ensures.laid there in
+    let fit = object_fits h w.items c.laid-laid.result.now w.laid c.args.at c.header-object.result c.words-words.ensures.same c.header-object.ensures.value c.words-words.ensures.valid c.words-words.ensures.laid there in
     absurd (c.fits.ensures.passes c.if-fits.false fit.0 (omega (arith, fit.1, c.laid-laid.ensures.many)))
 
 pub returns-then-fits : goal.returns-then-fits

@@ -11,7 +11,7 @@ returns-in_err-finding-clause-refused g c =
     let a = c.args.asked.now in
     let e = c.in_err-finding.field-0.0 in
     passed_on (λ e. IsRefusal a.before.now.image.heap a.after.now.image.heap a.after.now.stale a.set.now e) c.from_residual.result e c.from_residual.ensures.1
-    (of_heaps (λ x y. IsRefusal x y a.after.now.stale a.set.now e) c.sides_of-sides.result.before.now a.before.now.image.heap c.sides_of-sides.result.after.now a.after.now.image.heap
+    (of_heaps (λ x y. IsRefusal x y a.after.now.stale a.set.now e) c.sides_of-sides.result.heaps.before.now a.before.now.image.heap c.sides_of-sides.result.heaps.after.now a.after.now.image.heap
     c.sides_of-sides.ensures.before c.sides_of-sides.ensures.after (c.in_err-finding.ensures.refused a.set.now))
 
 pub returns-clause-text : goal.returns-clause-text
@@ -27,7 +27,7 @@ returns-clause-text g c = λ order.
     }) in
     record {
       finding = c.in_ok-finding.finding;
-      found = of_heaps (λ x y. IsFinding x y a.after.now.stale c.in_ok-finding.finding) sides.result.before.now a.before.now.image.heap sides.result.after.now a.after.now.image.heap
+      found = of_heaps (λ x y. IsFinding x y a.after.now.stale c.in_ok-finding.finding) sides.result.heaps.before.now a.before.now.image.heap sides.result.heaps.after.now a.after.now.image.heap
           sides.ensures.before sides.ensures.after c.in_ok-finding.ensures.found;
       text = text;
       answer = subst (λ s. IsAnswer s a c.in_ok-finding.finding c.in_ok-verdict.verdict.status text) sides.ensures.compared (c.in_ok-verdict.ensures.text named);
@@ -40,5 +40,5 @@ returns-clause-by_name g c = λ x y asks.
     let sides = c.sides_of-sides in
     let status = c.in_ok-verdict.verdict.status in
     status_by_name a x y status asks
-    (of_heaps (λ h k. IsVerdict h k a.after.now.stale a.set.now a.fill status) sides.result.before.now a.before.now.image.heap sides.result.after.now a.after.now.image.heap
+    (of_heaps (λ h k. IsVerdict h k a.after.now.stale a.set.now a.fill status) sides.result.heaps.before.now a.before.now.image.heap sides.result.heaps.after.now a.after.now.image.heap
     sides.ensures.before sides.ensures.after c.in_ok-verdict.ensures.verdict)

@@ -7,12 +7,13 @@ use Rattle.g1_report.proofs.Answering.{answer_differ, answer_stale}
 use Rattle.g1_report.specs.Finding.{IsFinding}
 use Rattle.g1_same.proofs.Following.{end_names}
 use Rattle.g1_report.proofs.Found.{stale_reached}
+use Rattle.g1_same.proofs.Held.{before_valid}
 use Rattle.g1_report.proofs.verdict.verdict_on.Goals as goal
 
 pub returns-in_ok-push_stale_line-in-Stale-clause-verdict : goal.returns-in_ok-push_stale_line-in-Stale-clause-verdict
 returns-in_ok-push_stale_line-in-Stale-clause-verdict c =
-    let g = c.args.sides.before.now in
-    let h = c.args.sides.after.now in
+    let g = c.args.sides.heaps.before.now in
+    let h = c.args.sides.heaps.after.now in
     let a = c.args.asked.now in
     stale_reached g h a.after.now.stale a.set.now a.fill c.in-Stale.end (subst (λ f. IsFinding g h a.after.now.stale f) c.in-Stale.is c.requires)
 
@@ -38,9 +39,9 @@ returns-in_ok-push_stale_line-in-Stale-clause-text c = λ h.
 -- the word before is a reference, since a path leads to it
 pub push_stale_line-requires : goal.push_stale_line-requires
 push_stale_line-requires c =
-    let g = c.args.sides.before.now in
-    let h = c.args.sides.after.now in
+    let g = c.args.sides.heaps.before.now in
+    let h = c.args.sides.heaps.after.now in
     let a = c.args.asked.now in
     let e = c.in-Stale.end in
     let found = subst (λ f. IsFinding g h a.after.now.stale f) c.in-Stale.is c.requires in
-    end_names g c.valid.ensures (e.root ∷ e.slots.items) e.before found.1.0.0
+    end_names g (before_valid c.args.sides.heaps) (e.root ∷ e.slots.items) e.before found.1.0.0

@@ -11,6 +11,6 @@ returns c =
     let x = c.args.reference in
     let at : x - 1 ≡ r.address = omega (arith, r.is) in
     let refs : c.header-object.result.refs ≡ (object_at h r.address).refs =
-    ap (λ (q : Object). q.refs) c.header-object.ensures.value ∙ ap (λ ws. slice_index ws (x - 1) % 2 ^ 32) c.words.ensures.same ∙ ap (λ n. word h n % 2 ^ 32) at in
+    ap (λ (q : Object). q.refs) c.header-object.ensures.value ∙ ap (λ ws. slice_index ws (x - 1) % 2 ^ 32) c.words-words.ensures.same ∙ ap (λ n. word h n % 2 ^ 32) at in
     let here : x + c.header-object.result.refs + c.args.number ≡ r.address + 1 + (object_at h r.address).refs + c.args.number = omega (arith, refs, r.is) in
-    c.at.ensures ∙ ap (λ ws. slice_index ws (x + c.header-object.result.refs + c.args.number)) c.words-2.ensures.same ∙ ap (λ n. word h n) here ∙ ap (λ y. data_word h y c.args.number) (sym r.is)
+    c.at.ensures ∙ ap (λ ws. slice_index ws (x + c.header-object.result.refs + c.args.number)) c.words-words.ensures.same ∙ ap (λ n. word h n) here ∙ ap (λ y. data_word h y c.args.number) (sym r.is)

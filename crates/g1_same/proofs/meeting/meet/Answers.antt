@@ -1,12 +1,10 @@
-use Rattle.std.proofs.Common.{arith, subst, sym, suc, inl, ℕ, ◌≡◌, ◌≢◌, ◌-◌, ◌∙◌, slice_index}
+use Rattle.std.proofs.Common.{arith, subst, sym, suc, inl, ◌≡◌, ◌-◌, ◌∙◌, slice_index}
 use Rattle.std.proofs.lemmas.List.{get_or_read}
 use Rattle.g1_same.specs.Walk.{IsPaired, IsSeen, IsLeast}
 use Rattle.g1_same.proofs.Words.{named, named_below, reading, known_here, split_here, joined_here, seen_of, new_before, new_after, least_of}
 use Rattle.g1_same.proofs.Held.{before_valid, after_valid}
+use Rattle.g1_same.proofs.Tables.{some}
 use Rattle.g1_same.proofs.meeting.meet.Goals as goal
-
-some : (n : ℕ) → n ≢ 0 → n ≡ suc (n - 1)
-some n h = omega arith
 
 pub index-i-requires : goal.index-i-requires
 index-i-requires c =

@@ -1,12 +1,13 @@
 use Rattle.std.proofs.Common.{arith, subst, ℕ, ◌≡◌, ◌+◌, Option, IfNone, IfSome, length}
 use Rattle.g1_words.specs.Heap.{Heap}
+use Rattle.g1_words.proofs.Logic.{IfNone-weaker}
 use Rattle.g1_same.specs.declared.walk.Walk.{Walk}
 use Rattle.g1_same.specs.declared.walk.Found.{Found}
 use Rattle.g1_same.specs.Walk.{IsBelow, HasGrown}
 use Rattle.g1_same.specs.declared.stale.StaleWords.{StaleWords}
 use Rattle.g1_same.specs.Behind.{FindsAlike, IsNext, IsNextStale, LinksBetween, PassesNoStale, looked_to}
 use Rattle.g1_same.proofs.Adding.{grown_more}
-use Rattle.g1_same.proofs.Steps.{none_then, on_ok, both_ok, some_map, none_map}
+use Rattle.g1_same.proofs.Steps.{none_then, on_ok, both_ok, some_map}
 use Rattle.g1_same.proofs.Between.{between_kept_row, between_trans, alike_more, later_way, row_not_first}
 use Rattle.g1_same.proofs.Passing.{passes_kept_row, passes_trans}
 use Rattle.g1_same.proofs.searching.search.Goals as goal
@@ -38,7 +39,7 @@ returns-clause-linked c =
     let zero : 0 ≡ f = omega (arith, c.if-first-gt0.false) in
     let l = none_then (LinksBetween g h u 0 n 1 0) c.in_ok-found.field-0 c.in_default.not-Some c.in_ok-found.ensures.linked in
     both_ok c.link_pairs-2.result (HasGrown u v) (λ (o : Option Found). IfNone o (LinksBetween g h v 1 0 end 0)) (λ (o : Option Found). IfNone o (LinksBetween g h v f n end 0))
-    (λ o more none. none_map o (LinksBetween g h v 1 0 end 0) (LinksBetween g h v f n end 0)
+    (λ o more none. IfNone-weaker o (LinksBetween g h v 1 0 end 0) (LinksBetween g h v f n end 0)
     (λ rest. subst (λ z. LinksBetween g h v z n end 0) zero (between_trans g h v 0 n 1 0 end 0 (between_kept_row g h u v 0 n 1 more (omega arith) l) rest)) none)
     c.link_pairs-2.ensures.grown c.link_pairs-2.ensures.linked
 
@@ -94,6 +95,6 @@ returns-clause-no_stale_left c =
     let zero : 0 ≡ f = omega (arith, c.if-first-gt0.false) in
     let l = none_then (PassesNoStale g h s u 0 n 1 0) c.in_ok-found.field-0 c.in_default.not-Some c.in_ok-found.ensures.no_stale_left in
     both_ok c.link_pairs-2.result (HasGrown u v) (λ (o : Option Found). IfNone o (PassesNoStale g h s v 1 0 end 0)) (λ (o : Option Found). IfNone o (PassesNoStale g h s v f n end 0))
-    (λ o more none. none_map o (PassesNoStale g h s v 1 0 end 0) (PassesNoStale g h s v f n end 0)
+    (λ o more none. IfNone-weaker o (PassesNoStale g h s v 1 0 end 0) (PassesNoStale g h s v f n end 0)
     (λ rest. subst (λ z. PassesNoStale g h s v z n end 0) zero (passes_trans g h s v 0 n 1 0 end 0 (passes_kept_row g h s u v 0 n 1 more (omega arith) l) rest)) none)
     c.link_pairs-2.ensures.grown c.link_pairs-2.ensures.no_stale_left

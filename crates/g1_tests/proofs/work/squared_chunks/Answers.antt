@@ -1,5 +1,5 @@
 use Rattle.std.proofs.Common.{◌≡◌, ◌+◌, ◌*◌, ℕ}
-use Rattle.g1_tests.proofs.Client.{each_out}
+use Rattle.g1_tables.proofs.Chunks.{each_out}
 use Rattle.g1_tests.proofs.work.squared_chunks.Goals as goal
 
 pub returns-clause-len : goal.returns-clause-len

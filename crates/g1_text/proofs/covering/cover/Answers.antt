@@ -6,10 +6,10 @@ use Rattle.g1_image.specs.Image.{Image, region_of_entry}
 use Rattle.g1_image.specs.Cards.{exact}
 use Rattle.g1_text.specs.Drafts.{content}
 use Rattle.g1_text.proofs.ExactSets.{exact_image}
-use Rattle.g1_text.proofs.Holding.{regions_again}
 use Rattle.g1_text.proofs.Remembering.{all_empty, none_told, none_are, each_start, each_exact}
 use Rattle.g1_text.proofs.Results.{not_both}
 use Rattle.g1_text.proofs.covering.cover.Goals as goal
+use Rattle.g1_image.proofs.FileOf.{regions_again}
 
 pub returns-in_err-check_empty-clause-sets : goal.returns-in_err-check_empty-clause-sets
 returns-in_err-check_empty-clause-sets c = λ i told.

@@ -8,7 +8,7 @@ use Rattle.g1_text.proofs.printing.object_line.Goals.{else-refs-size-via-else-re
 
 pub returns-clause-text : goal.returns-clause-text
 returns-clause-text c = λ there.
-    let fits = object_laid c.args.heap.now c.words-words.result.now.laid c.args.object.now c.valid.ensures c.words-words.ensures.laid there in
+    let fits = object_laid c.args.heap.now c.words-words.result.now.laid c.args.object.now c.words-words.ensures.valid c.words-words.ensures.laid there in
     let same = c.laid.ensures.many in
     elim c.if-refs-size.branch [
       | then-refs-size+then-size-laid+then-at-laid+in_ok-push_object w ↦

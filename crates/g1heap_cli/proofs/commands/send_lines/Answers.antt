@@ -1,4 +1,3 @@
-use Rattle.std.specs.Io.KnownBytes.{Appends}
 use Rattle.g1heap_cli.specs.Written.{taken_of}
 use Rattle.g1heap_cli.proofs.Sent.{takes-kept, grows-kept}
 use Rattle.g1heap_cli.proofs.commands.send_lines.Goals as goal

@@ -1,7 +1,6 @@
 use Rattle.std.proofs.Common.{inl, sym, ap, subst, arith}
 use Rattle.std.proofs.lemmas.Result.{IfOk-weaker}
 use Rattle.g1_command.specs.declared.refusal.Refusal.TheVariants as refusal
-use Rattle.g1_choose.specs.declared.parameters.Cost.{Cost}
 use Rattle.g1_pause.specs.declared.settings.Choice.{Choice}
 use Rattle.g1_pause.specs.Settings.{Settings}
 use Rattle.g1heap_cli.specs.Texts.{AsksFor}

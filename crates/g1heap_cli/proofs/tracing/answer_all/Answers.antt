@@ -1,4 +1,4 @@
-use Rattle.std.proofs.Common.{◌≡◌, inl, inr, ℕ, ◌+◌, ◌^◌, ◌<◌, refl, sym, ◌∙◌, ap, subst, arith}
+use Rattle.std.proofs.Common.{inl, inr, ◌+◌, ◌^◌, ◌<◌, refl, sym, ◌∙◌, subst, arith}
 use Rattle.g1_image.specs.Source.{HoldsOfLeft}
 use Rattle.g1_command.specs.Lines.{left_of}
 use Rattle.g1heap_cli.proofs.TraceReached.{Reached, nothing_left, reached_end, reached_failed, reached_gone, reached_more, reached_refused, reached_start, reached_written}

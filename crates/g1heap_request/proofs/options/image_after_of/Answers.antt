@@ -9,8 +9,9 @@ use Rattle.std.proofs.lemmas.Result.{err_from_is_err_and}
 use Rattle.g1_command.proofs.Got.{because_so}
 use Rattle.g1heap_request.proofs.Got.{image_got, no_image_got, no_texts, not_two, some_texts, two_texts}
 use Rattle.g1heap_request.proofs.Checked.{both_are, one_is, other_file, that_file}
-use Rattle.g1heap_request.proofs.Reasons.{always, no_number_after, zero_after}
+use Rattle.g1heap_request.proofs.Reasons.{no_number_after, zero_after}
 use Rattle.g1heap_request.proofs.options.image_after_of.Goals as goal
+use Rattle.g1_command.proofs.Reasons.{because_of}
 
 pub returns-in_default-clause-image : goal.returns-in_default-clause-image
 returns-in_default-clause-image c =
@@ -85,4 +86,4 @@ returns-in_ok-refuse-in-0-clause-refused c =
     let two = two_texts (texts_of (rows_of found) (codes "image")) words.now past past
     (some_texts found (codes "image") c.get_strs.result c.get_strs.ensures words c.in-Some.is) (omega (arith, c.if-words-ne2.false)) in
     let command = c.in_ok-command in
-    always (zero_after (rows_of found) (get_or words.now 0 past).now (get_or words.now 1 past).now two command.command c.in-0.is command.ensures.number) c.in_ok-refuse-in-0.field-0
+    because_of (zero_after (rows_of found) (get_or words.now 0 past).now (get_or words.now 1 past).now two command.command c.in-0.is command.ensures.number) c.in_ok-refuse-in-0.field-0

@@ -1,4 +1,4 @@
-use Rattle.std.proofs.Common.{◌≡◌, ◌∙◌, true≢false, eq-or-lt_of_le, ⊎_elim, ℕ, true, ap, arith, bytes_eq, codes, map, slice_index_or, sym}
+use Rattle.std.proofs.Common.{◌≡◌, ◌∙◌, true≢false, eq-or-lt_of_le, ⊎_elim, ap, arith, bytes_eq, codes, map, slice_index_or, sym}
 use Rattle.std.proofs.lemmas.List.{get_or-map}
 use Rattle.g1heap_request.proofs.tips.has_empty_set.Goals as goal
 

@@ -1,12 +1,12 @@
 use Rattle.std.proofs.Common.{ℕ, List, ◌<◌, ◌^◌, ◌∙◌, ap, get_or, length, arith, subst}
 use Rattle.std.proofs.lemmas.List.{take_all, get_or-map, length-map}
+use Rattle.std.proofs.lemmas.List.Elements.{Contains-get_or}
 use Rattle.g1_frontier.specs.Items.{item_slots}
 use Rattle.g1_frontier.specs.declared.item.Item.TheVariants.{Root}
 use Rattle.g1_frontier.specs.Offering.{HasTried}
 use Rattle.g1_frontier.specs.Scope.{place_in, pairs_in, all_pairs_in}
 use Rattle.g1_frontier.proofs.Offerings.{tried_none, tried_more}
 use Rattle.g1_frontier.proofs.Scopes.{all_part}
-use Rattle.g1_words.proofs.Indices.{get_or-In}
 use Rattle.g1_frontier.proofs.offering.Offers.offer_batch.Goals as goal
 
 pub loop-index-init : goal.loop-index-init
@@ -16,7 +16,7 @@ pub offer_item-requires-clause-ranks : goal.offer_item-requires-clause-ranks
 offer_item-requires-clause-ranks c =
     let s = c.args.self.now.scope.now in
     let xs = c.args.items.now in
-    all_part (λ q. q.0 < 2 ^ 32) (pairs_in s) xs (get_or xs c.loop-index.index (Root 0)) c.requires.ranks (get_or-In xs c.loop-index.index (Root 0) c.loop-index-test.true)
+    all_part (λ q. q.0 < 2 ^ 32) (pairs_in s) xs (get_or xs c.loop-index.index (Root 0)) c.requires.ranks (Contains-get_or xs c.loop-index.index (Root 0) c.loop-index-test.true)
 
 pub loop-index-preserved : goal.loop-index-preserved
 loop-index-preserved c =

@@ -1,8 +1,8 @@
 use Rattle.std.proofs.Common.{◌<◌, ◌^◌, ◌∙◌, ℕ, List, ap, sym, get_or, arith, subst}
 use Rattle.std.proofs.lemmas.List.{take_all, get_or-map}
+use Rattle.std.proofs.lemmas.List.Elements.{Contains-get_or}
 use Rattle.g1_words.specs.Heap.{object_at}
 use Rattle.g1_words.specs.declared.object.Object.{Object as Header}
-use Rattle.g1_words.proofs.Indices.{get_or-In}
 use Rattle.g1_frontier.specs.declared.item.Item.{Item}
 use Rattle.g1_frontier.specs.declared.item.Item.TheVariants.{Root}
 use Rattle.g1_frontier.specs.Items.{IsItem, AreRanks, items_at}
@@ -47,7 +47,7 @@ offer_object-requires-clause-ranks c =
     let i : ℕ = c.loop-index.index in
     let long = items_length c.args.addresses.now c.args.bases.now c.requires.paired in
     subst (λ x. AreRanks (pairs_in s x)) (items_get c.args.addresses.now c.args.bases.now i 0 c.loop-index-test.true c.requires.paired)
-    (all_part (λ q. q.0 < 2 ^ 32) (pairs_in s) xs (get_or xs i (Root 0)) c.requires.ranks (get_or-In xs i (Root 0) (omega (arith, long, c.loop-index-test.true))))
+    (all_part (λ q. q.0 < 2 ^ 32) (pairs_in s) xs (get_or xs i (Root 0)) c.requires.ranks (Contains-get_or xs i (Root 0) (omega (arith, long, c.loop-index-test.true))))
 
 pub loop-index-preserved : goal.loop-index-preserved
 loop-index-preserved c =

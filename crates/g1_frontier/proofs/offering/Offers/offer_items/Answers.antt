@@ -4,7 +4,7 @@ use Rattle.g1_frontier.specs.Items.{IsItem}
 use Rattle.g1_frontier.specs.Offering.{HasTried}
 use Rattle.g1_frontier.specs.Scope.{place_in, pairs_in, all_pairs_in}
 use Rattle.g1_frontier.proofs.Offerings.{tried_none, tried_next}
-use Rattle.g1_frontier.proofs.Scopes.{In-drop, all_some}
+use Rattle.g1_frontier.proofs.Scopes.{Contains-drop, all_some}
 use Rattle.std.proofs.lemmas.List.{take_all}
 use Rattle.g1_words.proofs.Indices.{taken_in}
 use Rattle.g1_frontier.proofs.offering.Offers.offer_items.Goals as goal
@@ -29,7 +29,7 @@ offer_batch-requires-clause-ranks c =
     let s = c.args.self.now.scope.now in
     let xs = c.args.items.now in
     let n = c.min-to.result - c.loop-from.from in
-    all_some (λ q. q.0 < 2 ^ 32) (pairs_in s) xs (take n (drop c.loop-from.from xs)) (λ x i. In-drop c.loop-from.from xs x (taken_in n (drop c.loop-from.from xs) x i)) c.requires.ranks
+    all_some (λ q. q.0 < 2 ^ 32) (pairs_in s) xs (take n (drop c.loop-from.from xs)) (λ x i. Contains-drop c.loop-from.from xs x (taken_in n (drop c.loop-from.from xs) x i)) c.requires.ranks
 
 pub offer_batch-requires-clause-places : goal.offer_batch-requires-clause-places
 offer_batch-requires-clause-places c = c.requires.places

@@ -1,15 +1,14 @@
-use Rattle.std.proofs.Common.{arith, ℕ, List, [], ◌≡◌, ◌+◌, ◌-◌, ◌<◌, ◌%◌, ◌^◌, ◌∙◌, ap, sym, subst, get_or, flat_map}
+use Rattle.std.proofs.Common.{arith, ℕ, List, [], ◌≡◌, ◌+◌, ◌-◌, ◌<◌, ◌%◌, ◌^◌, ◌∙◌, ap, sym, subst, get_or, flat_map, Contains}
 use Rattle.std.specs.List.{range_with_len}
 use Rattle.std.proofs.lemmas.List.{flat_map_more}
 use Rattle.g1_words.specs.Heap.{word, object_at, slots}
 use Rattle.g1_words.specs.Valid.{IsReference}
-use Rattle.g1_words.proofs.Computed.{In-range}
-use Rattle.g1_words.proofs.Members.{In}
+use Rattle.g1_words.proofs.Computed.{Contains-range}
 use Rattle.g1_words.proofs.Lists.{range_until}
 use Rattle.g1_frontier.specs.Items.{AreRanks}
 use Rattle.g1_frontier.specs.Scope.{place_in, aims_in}
 use Rattle.g1_frontier.specs.Offering.{HasTried}
-use Rattle.g1_frontier.proofs.Names.{object_in_words, object_reference}
+use Rattle.g1_frontier.proofs.Names.{object_in_words, slot_reference}
 use Rattle.g1_frontier.proofs.Offerings.{tried_none, tried_append}
 use Rattle.g1_frontier.proofs.Scopes.{all_part}
 use Rattle.g1_frontier.proofs.offering.Offers.offer_object.Goals as goal
@@ -37,8 +36,10 @@ offer_named-requires-clause-reference c =
     let s = c.args.self.now.scope.now in
     let p : ℕ = c.loop-slot.slot in
     let refs : c.args.refs ≡ word s.heap.now c.args.at % 2 ^ 32 = c.requires.slots in
-    let there : In (slots (object_at s.heap.now c.args.at)) p = In-range (c.args.at + 1) (word s.heap.now c.args.at % 2 ^ 32) p c.loop-slot.auto.slot (omega (arith, refs, c.loop-slot-test.true)) in
-    subst (λ x. IsReference s.heap.now x) (sym (c.at.ensures ∙ ap (λ l. get_or l p 0) c.words-words.ensures.same)) (object_reference s.heap.now c.requires.places.scope.valid c.args.at p c.requires.object there)
+    let there : Contains (slots (object_at s.heap.now c.args.at)) p =
+    Contains-range (c.args.at + 1) (word s.heap.now c.args.at % 2 ^ 32) p c.loop-slot.auto.slot (omega (arith, refs, c.loop-slot-test.true)) in
+    subst (λ x. IsReference s.heap.now x) (sym (c.at.ensures ∙ ap (λ l. get_or l p 0) c.words-words.ensures.same))
+    (slot_reference s.heap.now c.requires.places.scope.valid (object_at s.heap.now c.args.at) p c.requires.object there)
 
 pub offer_named-requires-clause-ranks : goal.offer_named-requires-clause-ranks
 offer_named-requires-clause-ranks c =
@@ -46,7 +47,7 @@ offer_named-requires-clause-ranks c =
     let p : ℕ = c.loop-slot.slot in
     let first : ℕ = c.args.at + 1 in
     let refs : c.args.refs ≡ word s.heap.now c.args.at % 2 ^ 32 = c.requires.slots in
-    let there : In (slots (object_at s.heap.now c.args.at)) p = In-range first (word s.heap.now c.args.at % 2 ^ 32) p c.loop-slot.auto.slot (omega (arith, refs, c.loop-slot-test.true)) in
+    let there : Contains (slots (object_at s.heap.now c.args.at)) p = Contains-range first (word s.heap.now c.args.at % 2 ^ 32) p c.loop-slot.auto.slot (omega (arith, refs, c.loop-slot-test.true)) in
     subst (λ x. AreRanks (aims_in s (c.args.base + (p - first)) x)) (sym (c.at.ensures ∙ ap (λ l. get_or l p 0) c.words-words.ensures.same))
     (all_part (λ q. q.0 < 2 ^ 32) (λ p. aims_in s (c.args.base + (p - first)) (word s.heap.now p)) (slots (object_at s.heap.now c.args.at)) p c.requires.ranks there)
 

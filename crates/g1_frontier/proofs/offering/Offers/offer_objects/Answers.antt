@@ -9,7 +9,7 @@ use Rattle.g1_frontier.specs.Items.{IsItem, AreRanks, items_at}
 use Rattle.g1_frontier.specs.Offering.{HasTried}
 use Rattle.g1_frontier.specs.Scope.{place_in, pairs_in, all_pairs_in}
 use Rattle.g1_frontier.proofs.Offerings.{tried_none, tried_next}
-use Rattle.g1_frontier.proofs.Scopes.{In-drop, all_some}
+use Rattle.g1_frontier.proofs.Scopes.{Contains-drop, all_some}
 use Rattle.g1_frontier.proofs.Soughts.{items_length, items_objects, items_part, paired_part}
 use Rattle.g1_frontier.proofs.offering.Offers.offer_objects.Goals as goal
 
@@ -49,7 +49,7 @@ offer_headers-requires-clause-ranks c =
     let xs : List Item = items_at c.args.addresses.now c.args.bases.now in
     let n : ℕ = c.min-to.result - c.loop-from.from in
     subst (λ l. AreRanks (all_pairs_in s l)) (sym (items_part n c.loop-from.from c.args.addresses.now c.args.bases.now))
-    (all_some (λ q. q.0 < 2 ^ 32) (pairs_in s) xs (take n (drop c.loop-from.from xs)) (λ x i. In-drop c.loop-from.from xs x (taken_in n (drop c.loop-from.from xs) x i)) c.requires.ranks)
+    (all_some (λ q. q.0 < 2 ^ 32) (pairs_in s) xs (take n (drop c.loop-from.from xs)) (λ x i. Contains-drop c.loop-from.from xs x (taken_in n (drop c.loop-from.from xs) x i)) c.requires.ranks)
 
 pub loop-from-preserved : goal.loop-from-preserved
 loop-from-preserved c =

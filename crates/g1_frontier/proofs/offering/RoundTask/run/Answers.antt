@@ -5,7 +5,7 @@ use Rattle.g1_frontier.specs.declared.item.Item.{Item}
 use Rattle.g1_frontier.specs.Items.{IsItem, AreRanks, items_of}
 use Rattle.g1_frontier.specs.Offering.{HasTried}
 use Rattle.g1_frontier.specs.Scope.{place_in, pairs_in, all_pairs_in}
-use Rattle.g1_frontier.proofs.Scopes.{In-drop, all_some}
+use Rattle.g1_frontier.proofs.Scopes.{Contains-drop, all_some}
 use Rattle.g1_words.proofs.Indices.{taken_in}
 use Rattle.g1_frontier.proofs.offering.RoundTask.run.Goals as goal
 
@@ -24,7 +24,7 @@ offer_sought-requires-clause-ranks c =
     let size : ℕ = c.args.self.now.chunk in
     let n : ℕ = c.args.chunk * size in
     subst (λ l. AreRanks (all_pairs_in s l)) (sym c.part-sought.ensures.items)
-    (all_some (λ q. q.0 < 2 ^ 32) (pairs_in s) xs (take size (drop n xs)) (λ x i. In-drop n xs x (taken_in size (drop n xs) x i)) c.requires.4)
+    (all_some (λ q. q.0 < 2 ^ 32) (pairs_in s) xs (take size (drop n xs)) (λ x i. Contains-drop n xs x (taken_in size (drop n xs) x i)) c.requires.4)
 
 pub returns : goal.returns
 returns c =

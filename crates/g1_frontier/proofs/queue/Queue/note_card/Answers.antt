@@ -1,9 +1,8 @@
-use Rattle.std.proofs.Common.{◌∙◌, ◌++◌, ap, sym, subst, ℕ, flat_map, get_or, append-nil}
+use Rattle.std.proofs.Common.{◌∙◌, ◌++◌, ap, sym, subst, ℕ, flat_map, get_or, append-nil, Contains}
 use Rattle.std.proofs.lemmas.List.{take_all}
+use Rattle.std.proofs.lemmas.List.Elements.{Contains-get_or}
 use Rattle.g1_words.specs.Heap.{word}
 use Rattle.g1_words.specs.Valid.{IsReference}
-use Rattle.g1_words.proofs.Members.{In}
-use Rattle.g1_words.proofs.Indices.{get_or-In}
 use Rattle.g1_frontier.specs.Scope.{names_in}
 use Rattle.g1_frontier.specs.Queue.{leads_of, HasNoted}
 use Rattle.g1_frontier.proofs.Names.{card_reference}
@@ -29,7 +28,7 @@ note_slot-requires-clause-reference c =
     let p : ℕ = get_or xs c.loop-slot.slot-index 0 in
     let listed = c.as_slice-slot-items.ensures ∙ c.in_ok-slots.ensures in
     subst (λ x. IsReference s.heap.now x) (sym (c.at.ensures ∙ ap (λ l. get_or l p 0) c.words-words.ensures.same))
-    (card_reference s.heap.now c.requires.scope.valid c.args.card p (subst (λ l. In l p) listed (get_or-In xs c.loop-slot.slot-index 0 c.loop-slot-test.true)))
+    (card_reference s.heap.now c.requires.scope.valid c.args.card p (subst (λ l. Contains l p) listed (Contains-get_or xs c.loop-slot.slot-index 0 c.loop-slot-test.true)))
 
 pub loop-slot-preserved : goal.loop-slot-preserved
 loop-slot-preserved c =

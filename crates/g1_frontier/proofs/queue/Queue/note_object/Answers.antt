@@ -1,10 +1,9 @@
-use Rattle.std.proofs.Common.{arith, ℕ, suc, List, [], ◌≡◌, ◌<◌, ◌+◌, ap, sym, subst, ◌∙◌, flat_map}
+use Rattle.std.proofs.Common.{arith, ℕ, suc, List, [], ◌≡◌, ◌<◌, ◌+◌, ap, sym, subst, ◌∙◌, flat_map, Contains}
 use Rattle.std.specs.List.{range_with_len}
 use Rattle.std.proofs.lemmas.List.{flat_map_more}
-use Rattle.g1_words.specs.Heap.{word, objects, slots}
+use Rattle.g1_words.specs.Heap.{word, slots}
 use Rattle.g1_words.specs.Valid.{IsReference}
-use Rattle.g1_words.proofs.Computed.{In-range}
-use Rattle.g1_words.proofs.Members.{In, In-from_contains}
+use Rattle.g1_words.proofs.Computed.{Contains-range}
 use Rattle.g1_words.proofs.Lists.{range_push}
 use Rattle.g1_frontier.specs.Scope.{names_in}
 use Rattle.g1_frontier.specs.Queue.{HasNoted}
@@ -22,9 +21,9 @@ note-requires-clause-reference c =
     let i : ℕ = c.loop-word.word-index in
     let below : i < o.refs = subst (λ n. i < n) c.slots-word-items.ensures.count c.loop-word-test.true in
     let p : ℕ = o.at + 1 + i in
-    let there : In (slots o) p = In-range (o.at + 1) o.refs p (omega arith) (omega (arith, below)) in
+    let there : Contains (slots o) p = Contains-range (o.at + 1) o.refs p (omega arith) (omega (arith, below)) in
     subst (λ x. IsReference h x) (sym (c.slots-word-items.ensures.each i below))
-    (slot_reference h c.requires.scope.valid o p (In-from_contains (objects h) o c.requires.object) there)
+    (slot_reference h c.requires.scope.valid o p c.requires.object there)
 
 pub loop-word-preserved : goal.loop-word-preserved
 loop-word-preserved c =

@@ -1,7 +1,7 @@
 use Rattle.std.proofs.Common.{◌≡◌, ◌∙◌, ap, sym, Some, arith}
 use Rattle.std.proofs.lemmas.Grind.{get_or_default_zero}
 use Rattle.g1_layout.specs.Words.{index_of}
-use Rattle.g1_layout.specs.Numbers.{number_of}
+use Rattle.g1_words.specs.Numbers.{number_of}
 use Rattle.g1_layout.proofs.Forwarding.{goes_at, number_below}
 use Rattle.g1_layout.proofs.new_addresses.Table.get.Goals as goal
 use Rattle.g1_layout.proofs.new_addresses.Table.get.Goals.{In-Some-number}

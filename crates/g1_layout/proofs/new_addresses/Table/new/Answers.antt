@@ -2,7 +2,7 @@ use Rattle.std.proofs.Common.{◌≡◌, ◌*◌, ◌≤◌, All, length, subst,
 use Rattle.std.proofs.Math.Nat.{mul-le-mul_right}
 use Rattle.std.proofs.lemmas.List.{length-replicate, with_items_is}
 use Rattle.std.specs.Vec.{with_items}
-use Rattle.g1_layout.specs.Numbers.{number_at}
+use Rattle.g1_words.specs.Numbers.{number_at}
 use Rattle.g1_layout.specs.Words.{ArePositions, AreIndices, AreMarkedTo, ArePlacedTo, HasIndex, goes_to}
 use Rattle.g1_layout.proofs.Conditions.{rising_few}
 use Rattle.g1_layout.proofs.Forwarding.{goes_where_moved}

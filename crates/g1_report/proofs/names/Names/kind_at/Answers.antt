@@ -1,6 +1,6 @@
-use Rattle.std.proofs.Common.{◌≡◌, ℕ, List, refl, sym, ap, subst, ◌∙◌}
+use Rattle.std.proofs.Common.{refl, sym, ap, subst, ◌∙◌}
 use Rattle.std.specs.Prelude.{IfSome, option_map, option_and_then}
-use Rattle.g1_report.specs.Program.{program_of, at_name, at_number, kind_said, kind_by_line, text_lines, RiseByNumber}
+use Rattle.g1_report.specs.Program.{program_of, at_name, kind_said, kind_by_line, text_lines, RiseByNumber}
 use Rattle.g1_report.proofs.Named.{value_found}
 use Rattle.g1_report.proofs.names.Names.kind_at.Goals as goal
 

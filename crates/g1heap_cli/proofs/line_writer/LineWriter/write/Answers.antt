@@ -1,4 +1,4 @@
-use Rattle.std.proofs.Common.{ℕ, List, Option, ◌≡◌, false, is_some, sym, ◌∙◌, take}
+use Rattle.std.proofs.Common.{◌≡◌, false, is_some, sym, ◌∙◌, take}
 use Rattle.std.specs.Io.KnownBytes.{Appends}
 use Rattle.g1heap_cli.proofs.Begun.{kept-begun, is_part}
 use Rattle.g1heap_cli.proofs.line_writer.LineWriter.write.Goals as goal

@@ -1,7 +1,0 @@
-use Rattle.std.proofs.Common.{ap, ◌∙◌, length}
-use Rattle.g1_frontier.specs.Numbers.{number_at}
-use Rattle.g1_frontier.proofs.Counts.{number_of_all}
-use Rattle.g1_frontier.proofs.numbers.Numbers.count.Goals as goal
-
-pub returns : goal.returns
-returns c = c.self.invariant.2 ∙ number_of_all c.self.inside.blocks.items c.self.invariant.0 ∙ ap (λ l. number_at l (length l)) c.self.view_is
